@@ -4,6 +4,7 @@ pub mod ByHand
 pub mod Turns
 pub mod Prefixes
 pub mod Looking
+pub mod Peeking
 pub mod Facts
 pub mod Choices
 pub mod Seen

@@ -14,6 +14,11 @@ pub record Does (f : Reading → Reading) (old new : View) : Type 0 where
   pub nodes : (s : Reading) (below : List Marked) → left old ≡ s.rest → Holds old.nodes (marked s.given ∷ below) → Holds new.nodes (marked (f s).given ∷ below)
   pub innermost : (around : ℕ) → IsInnermost around old.nodes → IsInnermost around new.nodes
 
+-- The input stays as it is, and a node that was the innermost is so again.
+pub record Keeps (old new : View) : Type 0 where
+  pub input : new.input ≡ old.input
+  pub innermost : (around : ℕ) → IsInnermost around old.nodes → IsInnermost around new.nodes
+
 -- a node is opened in the innermost one
 pub record Opens (old new : View) : Type 0 where
   pub input : new.input ≡ old.input

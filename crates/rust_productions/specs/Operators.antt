@@ -22,6 +22,12 @@ pub record IsNext (o : Operator) (v : View) : Type 0 where
   pub sees : (c : Bool) (h : ℕ) → 1 ≤ h → h ≤ 12 → Saw c (begins looks (operators_at h)) v (o.height == h)
   pub reads : (c : Bool) (s : Reading) → 1 ≤ o.height → left v ≡ s.rest → read (look_of whole) (meaning whole) c (operators_at o.height) s ≡ leaf (raw_of o.kind) o.width s
 
+-- an operator of one of the layers is next
+pub record IsLayerNext (o : Operator) (v : View) : Type 0 where
+  pub next : IsNext o v
+  pub some : 1 ≤ o.height
+  pub high : o.height ≤ 10
+
 -- the marks of ranges
 abbrev pub spelling_of : RangeMark → Spelling
 spelling_of Exclusive = 'dots'

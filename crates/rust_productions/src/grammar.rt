@@ -12,7 +12,7 @@ ghost use Rattle.parser_input.specs.Kinds as kinds;
 ghost use Rattle.parser_events.specs.Forest.{Expected};
 ghost use Rattle.parser_events.specs.Seen.{message_of};
 ghost use Rattle.parser_events.specs.Stack.{IsInnermost};
-ghost use Rattle.rust_productions.specs.Looks.{tokens, spent};
+ghost use Rattle.rust_productions.specs.Looks.{tokens, spent, Asks, Peeks, Stays};
 ghost use Rattle.rust_grammar.specs.Rule.{Kind, Contextual, Whole, Left, Say, Skip, Any, Want, Opt, there_at, One};
 ghost use Rattle.rust_grammar.specs.Meaning.{wrapped};
 ghost use Rattle.rust_grammar.specs.Words.{one, joined};
@@ -50,9 +50,7 @@ pub fn current(p: &mut Parser<'_>) -> SyntaxKind
     ensures sees { (c : Bool) (kind : ℕ) → Saw c (Kind 0 kind) p.old (raw_of result == kind) }
     ensures end { (c : Bool) → Saw c Left p.old (not (raw_of result == kinds.EOF)) }
     ensures some { raw_of result ≢ kinds.EOF → 1 ≤ tokens p.old }
-    ensures same { Does (λ s. s) p.old p.new }
-    ensures left { tokens p.new ≡ tokens p.old }
-    ensures looks { spent p.new ≤ spent p.old + 1 }
+    ensures peeks { Peeks 1 p.old p.new }
 {
     p.kind_at(0)
 }
@@ -60,9 +58,7 @@ pub fn current(p: &mut Parser<'_>) -> SyntaxKind
 /// Returns the kind of the token `n` tokens ahead.
 pub fn nth(p: &mut Parser<'_>, n: usize) -> SyntaxKind
     ensures sees { (c : Bool) (kind : ℕ) → Saw c (Kind n kind) p.old (raw_of result == kind) }
-    ensures same { Does (λ s. s) p.old p.new }
-    ensures left { tokens p.new ≡ tokens p.old }
-    ensures looks { spent p.new ≤ spent p.old + 1 }
+    ensures peeks { Peeks 1 p.old p.new }
 {
     p.kind_at(n)
 }
@@ -71,9 +67,7 @@ pub fn nth(p: &mut Parser<'_>, n: usize) -> SyntaxKind
 pub fn at(p: &mut Parser<'_>, kind: SyntaxKind) -> bool
     ensures sees { (c : Bool) → Saw c (Kind 0 (raw_of kind)) p.old result }
     ensures some { IsTrue result → raw_of kind ≢ kinds.EOF → 1 ≤ tokens p.old }
-    ensures same { Does (λ s. s) p.old p.new }
-    ensures left { tokens p.new ≡ tokens p.old }
-    ensures looks { spent p.new ≤ spent p.old + 1 }
+    ensures peeks { Peeks 1 p.old p.new }
 {
     current(p).to_raw() == kind.to_raw()
 }
@@ -82,9 +76,7 @@ pub fn at(p: &mut Parser<'_>, kind: SyntaxKind) -> bool
 pub fn at_second(p: &mut Parser<'_>, kind: SyntaxKind) -> bool
     ensures sees { (c : Bool) → Saw c (Kind 1 (raw_of kind)) p.old result }
     ensures some { IsTrue result → raw_of kind ≢ kinds.EOF → 2 ≤ tokens p.old }
-    ensures same { Does (λ s. s) p.old p.new }
-    ensures left { tokens p.new ≡ tokens p.old }
-    ensures looks { spent p.new ≤ spent p.old + 1 }
+    ensures peeks { Peeks 1 p.old p.new }
 {
     p.kind_at(1).to_raw() == kind.to_raw()
 }
@@ -93,9 +85,7 @@ pub fn at_second(p: &mut Parser<'_>, kind: SyntaxKind) -> bool
 pub fn at_third(p: &mut Parser<'_>, kind: SyntaxKind) -> bool
     ensures sees { (c : Bool) → Saw c (Kind 2 (raw_of kind)) p.old result }
     ensures some { IsTrue result → raw_of kind ≢ kinds.EOF → 3 ≤ tokens p.old }
-    ensures same { Does (λ s. s) p.old p.new }
-    ensures left { tokens p.new ≡ tokens p.old }
-    ensures looks { spent p.new ≤ spent p.old + 1 }
+    ensures peeks { Peeks 1 p.old p.new }
 {
     p.kind_at(2).to_raw() == kind.to_raw()
 }
@@ -105,8 +95,7 @@ fn at_contextual(p: &mut Parser<'_>, kind: SyntaxKind) -> bool
     ensures sees { (c : Bool) → Saw c (Contextual 0 (raw_of kind)) p.old result }
     ensures some { IsTrue result → raw_of kind ≢ kinds.EOF → 1 ≤ tokens p.old }
     ensures same { Does (λ s. s) p.old p.new }
-    ensures left { tokens p.new ≡ tokens p.old }
-    ensures looks { spent p.new ≡ spent p.old }
+    ensures stays { Stays p.old p.new }
 {
     p.contextual_at(0).to_raw() == kind.to_raw()
 }
@@ -117,8 +106,7 @@ pub fn at_whole(p: &mut Parser<'_>) -> bool
     ensures sees { (c : Bool) → Saw c (Whole 0) p.old result }
     ensures some { IsTrue result → 1 ≤ tokens p.old }
     ensures same { Does (λ s. s) p.old p.new }
-    ensures left { tokens p.new ≡ tokens p.old }
-    ensures looks { spent p.new ≡ spent p.old }
+    ensures stays { Stays p.old p.new }
 {
     p.whole_at(0)
 }
@@ -127,9 +115,7 @@ pub fn at_whole(p: &mut Parser<'_>) -> bool
 pub fn at_pair(p: &mut Parser<'_>, first: SyntaxKind, second: SyntaxKind) -> bool
     ensures sees { (c : Bool) → Saw c (there_at 0 (raw_of first ∷ raw_of second ∷ [])) p.old result }
     ensures some { IsTrue result → raw_of second ≢ kinds.EOF → 2 ≤ tokens p.old }
-    ensures same { Does (λ s. s) p.old p.new }
-    ensures left { tokens p.new ≡ tokens p.old }
-    ensures looks { spent p.new ≤ spent p.old + 2 }
+    ensures peeks { Peeks 2 p.old p.new }
 {
     if !at(p, first) {
         return false;
@@ -143,9 +129,7 @@ pub fn at_pair(p: &mut Parser<'_>, first: SyntaxKind, second: SyntaxKind) -> boo
 /// Returns `true` if the second and the third token are of these kinds and touch.
 pub fn at_pair_after(p: &mut Parser<'_>, first: SyntaxKind, second: SyntaxKind) -> bool
     ensures sees { (c : Bool) → Saw c (there_at 1 (raw_of first ∷ raw_of second ∷ [])) p.old result }
-    ensures same { Does (λ s. s) p.old p.new }
-    ensures left { tokens p.new ≡ tokens p.old }
-    ensures looks { spent p.new ≤ spent p.old + 2 }
+    ensures peeks { Peeks 2 p.old p.new }
 {
     if !at_second(p, first) {
         return false;
@@ -161,8 +145,7 @@ pub fn at_pair_after(p: &mut Parser<'_>, first: SyntaxKind, second: SyntaxKind) 
 pub fn start(p: &mut Parser<'_>) -> Marker
     ensures opens { Opens p.old p.new }
     ensures marker { IsInnermost result p.new.nodes }
-    ensures left { tokens p.new ≡ tokens p.old }
-    ensures looks { spent p.new ≡ spent p.old }
+    ensures stays { Stays p.old p.new }
 {
     p.start()
 }
@@ -172,8 +155,7 @@ pub fn start(p: &mut Parser<'_>) -> Marker
 pub fn complete(p: &mut Parser<'_>, marker: Marker, kind: SyntaxKind)
     requires { IsInnermost marker p.old.nodes }
     ensures closes { Closes (raw_of kind) p.old p.new }
-    ensures left { tokens p.new ≡ tokens p.old }
-    ensures looks { spent p.new ≡ spent p.old }
+    ensures stays { Stays p.old p.new }
 {
     marker.complete(p, kind);
 }
@@ -183,8 +165,7 @@ pub fn complete(p: &mut Parser<'_>, marker: Marker, kind: SyntaxKind)
 pub fn abandon(p: &mut Parser<'_>, marker: Marker)
     requires { IsInnermost marker p.old.nodes }
     ensures leaves { Leaves p.old p.new }
-    ensures left { tokens p.new ≡ tokens p.old }
-    ensures looks { spent p.new ≡ spent p.old }
+    ensures stays { Stays p.old p.new }
 {
     marker.abandon(p);
 }
@@ -193,8 +174,7 @@ pub fn abandon(p: &mut Parser<'_>, marker: Marker)
 #[inline(never)]
 pub fn error(p: &mut Parser<'_>, message: Message)
     ensures reads { (c : Bool) → Reads c (Say (message_of message)) p.old p.new }
-    ensures left { tokens p.new ≡ tokens p.old }
-    ensures looks { spent p.new ≡ spent p.old }
+    ensures stays { Stays p.old p.new }
 {
     p.error(message);
 }
@@ -239,8 +219,7 @@ pub fn take_any(p: &mut Parser<'_>)
 pub fn eat(p: &mut Parser<'_>, kind: SyntaxKind)
     requires { raw_of kind ≢ kinds.EOF }
     ensures reads { (c : Bool) → Reads c (Opt (One (one (raw_of kind)))) p.old p.new }
-    ensures left { tokens p.new ≤ tokens p.old }
-    ensures looks { spent p.new ≤ spent p.old + 1 }
+    ensures asks { Asks 1 p.old p.new }
 {
     if !at(p, kind) {
         return;
@@ -253,8 +232,7 @@ pub fn eat(p: &mut Parser<'_>, kind: SyntaxKind)
 pub fn expect(p: &mut Parser<'_>, kind: SyntaxKind)
     requires { raw_of kind ≢ kinds.EOF }
     ensures reads { (c : Bool) → Reads c (Want (One (one (raw_of kind))) (Expected (raw_of kind))) p.old p.new }
-    ensures left { tokens p.new ≤ tokens p.old }
-    ensures looks { spent p.new ≤ spent p.old + 1 }
+    ensures asks { Asks 1 p.old p.new }
 {
     if at(p, kind) {
         take(p, kind);
@@ -283,8 +261,7 @@ pub fn wrap(p: &mut Parser<'_>, marker: Marker, kind: SyntaxKind) -> Marker
     requires { IsInnermost marker p.old.nodes }
     ensures wraps { Does (wrapped (raw_of kind)) p.old p.new }
     ensures marker { IsInnermost result p.new.nodes }
-    ensures left { tokens p.new ≡ tokens p.old }
-    ensures looks { spent p.new ≡ spent p.old }
+    ensures stays { Stays p.old p.new }
 {
     let closed = marker.complete(p, kind);
     closed.precede(p)

@@ -1,11 +1,11 @@
 //! Attributes.
 
-ghost use Rattle.std.specs.Prelude.{◌≤◌, ◌+◌, Bool, true, false};
+ghost use Rattle.std.specs.Prelude.{◌≤◌, Bool, true, false};
 ghost use Rattle.rust_grammar.specs.Calls.{Meta};
 ghost use Rattle.rust_grammar.specs.Notation.{⁅◌⁆, ◌! };
 ghost use Rattle.rust_grammar.specs.Rule as rules;
 ghost use Rattle.rust_grammar.specs.Items as rows;
-ghost use Rattle.rust_productions.specs.Looks.{tokens, spent};
+ghost use Rattle.rust_productions.specs.Looks.{tokens, Takes, Asks};
 ghost use Rattle.rust_productions.specs.Reads.{looks, Gives, Reads, Saw};
 
 use crate::grammar::expressions::{Level, expect_expression};
@@ -22,8 +22,7 @@ use rust_productions::grammar::{at, complete, eat, error, expect, start, take};
 pub(crate) fn attribute(p: &mut Parser<'_>)
     requires some { 1 ≤ tokens p.old }
     ensures gives { (c : Bool) → Gives rules.attribute c p.old p.new }
-    ensures left { tokens p.new + 1 ≤ tokens p.old }
-    ensures looks { spent p.new + 4080 ≤ spent p.old }
+    ensures takes { Takes 4080 p.old p.new }
 {
     let attribute = start(p);
     take(p, SyntaxKind::POUND);
@@ -38,8 +37,7 @@ pub(crate) fn attribute(p: &mut Parser<'_>)
 #[cycle(grammar)]
 fn expect_meta(p: &mut Parser<'_>)
     ensures reads { Reads false (Meta !) p.old p.new }
-    ensures left { tokens p.new ≤ tokens p.old }
-    ensures looks { spent p.new ≤ spent p.old + 3 }
+    ensures asks { Asks 3 p.old p.new }
 {
     if at_path(p) {
         meta(p, false);
@@ -55,8 +53,7 @@ pub fn meta(p: &mut Parser<'_>, condition: bool)
     requires begins { (c : Bool) → Saw c (looks rules.path) p.old true }
     requires some { 1 ≤ tokens p.old }
     ensures gives { Gives rules.meta condition p.old p.new }
-    ensures left { tokens p.new + 1 ≤ tokens p.old }
-    ensures looks { spent p.new + 3990 ≤ spent p.old }
+    ensures takes { Takes 3990 p.old p.new }
 {
     let meta = start(p);
     path(p);
@@ -69,8 +66,7 @@ pub fn meta(p: &mut Parser<'_>, condition: bool)
 #[cycle(grammar)]
 fn opt_value(p: &mut Parser<'_>, condition: bool)
     ensures reads { Reads condition ⁅ rows.attr_input ⁆ p.old p.new }
-    ensures left { tokens p.new ≤ tokens p.old }
-    ensures looks { spent p.new ≤ spent p.old + 2 }
+    ensures asks { Asks 2 p.old p.new }
 {
     if at(p, SyntaxKind::EQ) {
         take(p, SyntaxKind::EQ);

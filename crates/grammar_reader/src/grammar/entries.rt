@@ -3,7 +3,7 @@
 ghost use Rattle.std.specs.Prelude.{◌≤◌, ◌+◌, false};
 ghost use Rattle.rust_grammar.specs.Rule as rules;
 ghost use Rattle.rust_productions.specs.Looks.{tokens, spent};
-ghost use Rattle.rust_productions.specs.Reads.{Gives};
+ghost use Rattle.rust_productions.specs.Reads.{Gives, looks};
 
 use crate::grammar::expressions::blocks::statements;
 use crate::grammar::items::items;

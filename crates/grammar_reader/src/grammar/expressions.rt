@@ -1,18 +1,20 @@
 //! Expressions: operations, ranges, operands after `|>`, and assignments.
 
-ghost use Rattle.std.specs.Prelude.{◌≡◌, ◌≤◌, ◌+◌, ℕ, Bool, IsTrue, Some, None, true, false};
+ghost use Rattle.std.specs.Prelude.{◌≤◌, Bool, Some, None, true};
 ghost use Rattle.parser_events.specs.Forest.{ExpectedExpression};
 ghost use Rattle.parser_events.specs.Stack.{IsInnermost};
-ghost use Rattle.rust_grammar.specs.Calls.{Operation};
-ghost use Rattle.rust_grammar.specs.Expressions.{range_to};
-ghost use Rattle.rust_grammar.specs.Notation.{◌▸◌, ◌!, more};
+ghost use Rattle.rust_grammar.specs.Calls.{Expression, Operation};
+ghost use Rattle.rust_grammar.specs.Notation.{◌!, more};
 ghost use Rattle.rust_grammar.specs.Rule as rules;
-ghost use Rattle.rust_grammar.specs.Rule.{Call, One, Want, begins};
+ghost use Rattle.rust_grammar.specs.Rule.{Call, Want, begins};
 ghost use Rattle.rust_grammar.specs.Expressions as rows;
 ghost use Rattle.grammar_reader.specs.Told.{level_of};
-ghost use Rattle.rust_productions.specs.Looks.{tokens, spent};
+ghost use Rattle.rust_productions.specs.Looks.{tokens, Takes, Asks, AsksIn};
 ghost use Rattle.rust_productions.specs.Operators.{IsMark, IsNext, spelling_of};
 ghost use Rattle.rust_productions.specs.Reads.{looks, Gives, Reads, Saw};
+ghost use Rattle.rust_productions.specs.Starts.{StartsIn};
+ghost use Rattle.rust_productions.specs.Moves.{Keeps};
+ghost use Rattle.grammar_reader.specs.Next.{EndsRange};
 
 use crate::grammar::expressions::layers::{climb, expect_layer, layers};
 use crate::grammar::expressions::operand::prefixed;
@@ -48,8 +50,7 @@ pub(crate) enum Level {
 #[cycle(grammar)]
 pub(crate) fn expect_expression(p: &mut Parser<'_>, level: Level, condition: bool)
     ensures reads { Reads condition (Want (Call (level_of level)) ExpectedExpression) p.old p.new }
-    ensures left { tokens p.new ≤ tokens p.old }
-    ensures looks { spent p.new ≤ spent p.old + 20 }
+    ensures asks { Asks 20 p.old p.new }
 {
     match level {
         Level::Comparison => expect_layer(p, 8, condition),
@@ -64,9 +65,8 @@ pub(crate) fn expect_expression(p: &mut Parser<'_>, level: Level, condition: boo
 // a + b
 #[cycle(grammar)]
 fn expect_any(p: &mut Parser<'_>, condition: bool)
-    ensures reads { Reads condition (Want (Call rules.expression) ExpectedExpression) p.old p.new }
-    ensures left { tokens p.new ≤ tokens p.old }
-    ensures looks { spent p.new ≤ spent p.old + 14 }
+    ensures reads { Reads condition (Expression !) p.old p.new }
+    ensures asks { Asks 14 p.old p.new }
 {
     if at_expression(p, condition) {
         expression(p, condition);
@@ -80,8 +80,7 @@ fn expect_any(p: &mut Parser<'_>, condition: bool)
 #[cycle(grammar)]
 fn expect_operation(p: &mut Parser<'_>, condition: bool)
     ensures reads { Reads condition (Operation !) p.old p.new }
-    ensures left { tokens p.new ≤ tokens p.old }
-    ensures looks { spent p.new ≤ spent p.old + 14 }
+    ensures asks { Asks 14 p.old p.new }
 {
     if at_operation(p, condition) {
         operation(p, condition);
@@ -95,8 +94,7 @@ fn expect_operation(p: &mut Parser<'_>, condition: bool)
 #[cycle(grammar)]
 pub(crate) fn expect_condition(p: &mut Parser<'_>)
     ensures reads { (c : Bool) → Reads c (rows.condition !) p.old p.new }
-    ensures left { tokens p.new ≤ tokens p.old }
-    ensures looks { spent p.new ≤ spent p.old + 20 }
+    ensures asks { Asks 20 p.old p.new }
 {
     expect_expression(p, Level::Operation, true);
 }
@@ -108,8 +106,7 @@ pub fn expression(p: &mut Parser<'_>, condition: bool)
     requires begins { Saw condition (looks rules.expression) p.old true }
     requires some { 1 ≤ tokens p.old }
     ensures gives { Gives rules.expression condition p.old p.new }
-    ensures left { tokens p.new + 1 ≤ tokens p.old }
-    ensures looks { spent p.new + 2840 ≤ spent p.old }
+    ensures takes { Takes 2840 p.old p.new }
 {
     operation(p, condition);
 }
@@ -121,8 +118,7 @@ pub(crate) fn operation(p: &mut Parser<'_>, condition: bool)
     requires begins { Saw condition (looks rules.operation) p.old true }
     requires some { 1 ≤ tokens p.old }
     ensures gives { Gives rules.operation condition p.old p.new }
-    ensures left { tokens p.new + 1 ≤ tokens p.old }
-    ensures looks { spent p.new + 2840 ≤ spent p.old }
+    ensures takes { Takes 2840 p.old p.new }
 {
     match range_mark(p) {
         Some(mark) => range(p, mark, condition),
@@ -135,11 +131,9 @@ pub(crate) fn operation(p: &mut Parser<'_>, condition: bool)
 #[cycle(grammar)]
 fn operands(p: &mut Parser<'_>, condition: bool)
     requires unmarked { IsMark None p.old }
-    requires begins { Saw condition (looks rules.prefixed) p.old true }
-    requires some { 1 ≤ tokens p.old }
+    requires begins { StartsIn condition (looks rules.prefixed) p.old }
     ensures gives { Gives rules.operation condition p.old p.new }
-    ensures left { tokens p.new + 1 ≤ tokens p.old }
-    ensures looks { spent p.new + 2843 ≤ spent p.old }
+    ensures takes { Takes 2843 p.old p.new }
 {
     let frame = start(p);
     prefixed(p, condition);
@@ -154,8 +148,7 @@ fn operands(p: &mut Parser<'_>, condition: bool)
 fn range(p: &mut Parser<'_>, mark: RangeMark, condition: bool)
     requires marked { IsMark (Some mark) p.old }
     ensures gives { Gives rules.operation condition p.old p.new }
-    ensures left { tokens p.new + 1 ≤ tokens p.old }
-    ensures looks { spent p.new + 4060 ≤ spent p.old }
+    ensures takes { Takes 4060 p.old p.new }
 {
     let frame = start(p);
     let range = start(p);
@@ -174,13 +167,9 @@ fn range(p: &mut Parser<'_>, mark: RangeMark, condition: bool)
 #[cycle(grammar)]
 fn range_end(p: &mut Parser<'_>, mark: RangeMark, condition: bool) -> bool
     requires marked { IsMark (Some mark) p.old }
-    ensures near { Saw condition (begins looks (range_to (spelling_of mark))) p.old result }
-    ensures to { IsTrue result → Reads condition
-        (One (spelling_of mark) ▸ rows.range_operand) p.old p.new }
-    ensures alone { result ≡ false → Reads condition (One (spelling_of mark)) p.old p.new }
-    ensures innermost { (n : ℕ) → IsInnermost n p.old.nodes → IsInnermost n p.new.nodes }
-    ensures left { tokens p.new + 1 ≤ tokens p.old }
-    ensures looks { spent p.new + 4080 ≤ spent p.old }
+    ensures ends { EndsRange condition (spelling_of mark) result p.old p.new }
+    ensures keeps { Keeps p.old p.new }
+    ensures takes { Takes 4080 p.old p.new }
 {
     take_mark(p, mark);
     if at_range_operand(p, condition) {
@@ -196,9 +185,7 @@ fn range_end(p: &mut Parser<'_>, mark: RangeMark, condition: bool) -> bool
 fn operation_tail(p: &mut Parser<'_>, frame: Marker, condition: bool) -> Marker
     requires innermost { IsInnermost frame p.old.nodes }
     ensures reads { Reads condition (more rules.operation_tail) p.old p.new }
-    ensures marker { IsInnermost result p.new.nodes }
-    ensures left { tokens p.new ≤ tokens p.old }
-    ensures looks { spent p.new ≤ spent p.old + 7 }
+    ensures asks { AsksIn result 7 p.old p.new }
 {
     let mut frame = frame;
     let mut mark = range_mark(p);
@@ -219,9 +206,7 @@ fn operation_tail(p: &mut Parser<'_>, frame: Marker, condition: bool) -> Marker
 fn pipe_tail(p: &mut Parser<'_>, frame: Marker, condition: bool) -> Marker
     requires innermost { IsInnermost frame p.old.nodes }
     ensures reads { Reads condition (more rules.pipe_tail) p.old p.new }
-    ensures marker { IsInnermost result p.new.nodes }
-    ensures left { tokens p.new ≤ tokens p.old }
-    ensures looks { spent p.new ≤ spent p.old + 4 }
+    ensures asks { AsksIn result 4 p.old p.new }
 {
     let mut frame = frame;
     let mut operator = current_op(p);
@@ -241,9 +226,7 @@ fn opt_assignment(p: &mut Parser<'_>, frame: Marker, operator: Operator, conditi
     requires next { IsNext operator p.old }
     requires innermost { IsInnermost frame p.old.nodes }
     ensures reads { Reads condition rows.opt_assignment p.old p.new }
-    ensures marker { IsInnermost result p.new.nodes }
-    ensures left { tokens p.new ≤ tokens p.old }
-    ensures looks { spent p.new ≤ spent p.old }
+    ensures asks { AsksIn result 0 p.old p.new }
 {
     if operator.height != 12 {
         return frame;

@@ -10,7 +10,7 @@ ghost use Rattle.rust_grammar.specs.Shared.{field_name, ident_or_int};
 ghost use Rattle.rust_grammar.specs.Words.{':', 'mut', 'ref'};
 ghost use Rattle.rust_grammar.specs.Expressions as expression_rows;
 ghost use Rattle.rust_grammar.specs.Patterns as pattern_rows;
-ghost use Rattle.rust_productions.specs.Looks.{tokens, spent};
+ghost use Rattle.rust_productions.specs.Looks.{tokens, spent, Takes, Asks};
 ghost use Rattle.rust_productions.specs.Reads.{looks, Gives, Reads, Saw};
 
 use crate::grammar::expressions::{Level, expect_expression, expression};
@@ -31,8 +31,7 @@ pub(crate) fn field_value(p: &mut Parser<'_>, condition: bool)
     requires begins { Saw condition (looks rules.field_value) p.old true }
     requires some { 1 ≤ tokens p.old }
     ensures gives { Gives rules.field_value condition p.old p.new }
-    ensures left { tokens p.new + 1 ≤ tokens p.old }
-    ensures looks { spent p.new + 3300 ≤ spent p.old }
+    ensures takes { Takes 3300 p.old p.new }
 {
     if at_named_field(p) {
         named_value(p, condition);
@@ -79,8 +78,7 @@ fn named_value(p: &mut Parser<'_>, condition: bool)
     requires some { 2 ≤ tokens p.old }
     ensures reads { Reads condition
         (RECORD_EXPR_FIELD ⟨ field_name ▸ One ':' ▸ Expression ! ⟩) p.old p.new }
-    ensures left { tokens p.new + 1 ≤ tokens p.old }
-    ensures looks { spent p.new + 7000 ≤ spent p.old }
+    ensures takes { Takes 7000 p.old p.new }
 {
     let node = start(p);
     name_of_field(p);
@@ -95,8 +93,7 @@ fn named_value(p: &mut Parser<'_>, condition: bool)
 fn other_fields(p: &mut Parser<'_>, condition: bool)
     requires some { 2 ≤ tokens p.old }
     ensures reads { Reads condition expression_rows.struct_base p.old p.new }
-    ensures left { tokens p.new + 1 ≤ tokens p.old }
-    ensures looks { spent p.new + 7000 ≤ spent p.old }
+    ensures takes { Takes 7000 p.old p.new }
 {
     take_pair(p, SyntaxKind::DOT2);
     opt_expression(p, condition);
@@ -107,8 +104,7 @@ fn other_fields(p: &mut Parser<'_>, condition: bool)
 #[cycle(grammar)]
 fn opt_expression(p: &mut Parser<'_>, condition: bool)
     ensures reads { Reads condition ⁅ Expression ⁆ p.old p.new }
-    ensures left { tokens p.new ≤ tokens p.old }
-    ensures looks { spent p.new ≤ spent p.old + 14 }
+    ensures asks { Asks 14 p.old p.new }
 {
     if at_expression(p, condition) {
         expression(p, condition);
@@ -122,8 +118,7 @@ fn path_value(p: &mut Parser<'_>)
     requires begins { (c : Bool) → Saw c (looks rules.path) p.old true }
     requires some { 1 ≤ tokens p.old }
     ensures reads { (c : Bool) → Reads c expression_rows.shorthand p.old p.new }
-    ensures left { tokens p.new + 1 ≤ tokens p.old }
-    ensures looks { spent p.new + 4000 ≤ spent p.old }
+    ensures takes { Takes 4000 p.old p.new }
 {
     let node = start(p);
     let value = start(p);
@@ -139,8 +134,7 @@ pub(crate) fn pattern_field(p: &mut Parser<'_>)
     requires begins { (c : Bool) → Saw c (looks rules.pattern_field) p.old true }
     requires some { 1 ≤ tokens p.old }
     ensures gives { (c : Bool) → Gives rules.pattern_field c p.old p.new }
-    ensures left { tokens p.new + 1 ≤ tokens p.old }
-    ensures looks { spent p.new + 4060 ≤ spent p.old }
+    ensures takes { Takes 4060 p.old p.new }
 {
     if at_pair(p, SyntaxKind::DOT, SyntaxKind::DOT) {
         rest_pat(p);
@@ -160,8 +154,7 @@ fn named_pattern(p: &mut Parser<'_>)
     requires some { 2 ≤ tokens p.old }
     ensures reads { (c : Bool) → Reads c
         (RECORD_PAT_FIELD ⟨ field_name ▸ One ':' ▸ Pattern ! ⟩) p.old p.new }
-    ensures left { tokens p.new + 1 ≤ tokens p.old }
-    ensures looks { spent p.new + 8000 ≤ spent p.old }
+    ensures takes { Takes 8000 p.old p.new }
 {
     let node = start(p);
     name_of_field(p);
@@ -176,8 +169,7 @@ fn shorthand(p: &mut Parser<'_>)
     requires begins { (c : Bool) → Saw c (begins looks pattern_rows.binding) p.old true }
     requires some { 1 ≤ tokens p.old }
     ensures reads { (c : Bool) → Reads c pattern_rows.shorthand p.old p.new }
-    ensures left { tokens p.new + 1 ≤ tokens p.old }
-    ensures looks { spent p.new + 4090 ≤ spent p.old }
+    ensures takes { Takes 4090 p.old p.new }
 {
     let field = start(p);
     let pattern = start(p);
@@ -192,8 +184,7 @@ fn bound_name(p: &mut Parser<'_>)
     requires begins { (c : Bool) → Saw c (begins looks pattern_rows.binding) p.old true }
     requires some { 1 ≤ tokens p.old }
     ensures reads { (c : Bool) → Reads c pattern_rows.binding p.old p.new }
-    ensures left { tokens p.new + 1 ≤ tokens p.old }
-    ensures looks { spent p.new + 4090 ≤ spent p.old }
+    ensures takes { Takes 4090 p.old p.new }
 {
     match current(p) {
         SyntaxKind::REF_KW => name_after_ref(p),
@@ -207,8 +198,7 @@ fn bound_name(p: &mut Parser<'_>)
 fn name_after_ref(p: &mut Parser<'_>)
     requires { 1 ≤ tokens p.old }
     ensures reads { (c : Bool) → Reads c (One 'ref' ▸ ⁅ One 'mut' ⁆ ▸ Name !) p.old p.new }
-    ensures left { tokens p.new + 1 ≤ tokens p.old }
-    ensures looks { spent p.new + 4094 ≤ spent p.old }
+    ensures takes { Takes 4094 p.old p.new }
 {
     take(p, SyntaxKind::REF_KW);
     eat(p, SyntaxKind::MUT_KW);
@@ -220,8 +210,7 @@ fn name_after_ref(p: &mut Parser<'_>)
 fn name_after_mut(p: &mut Parser<'_>)
     requires { 1 ≤ tokens p.old }
     ensures reads { (c : Bool) → Reads c (One 'mut' ▸ Name !) p.old p.new }
-    ensures left { tokens p.new + 1 ≤ tokens p.old }
-    ensures looks { spent p.new + 4095 ≤ spent p.old }
+    ensures takes { Takes 4095 p.old p.new }
 {
     take(p, SyntaxKind::MUT_KW);
     expect_name(p);

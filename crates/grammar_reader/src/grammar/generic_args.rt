@@ -10,7 +10,7 @@ ghost use Rattle.rust_grammar.specs.Rule.{Kind, One};
 ghost use Rattle.rust_grammar.specs.Whole.{rule};
 ghost use Rattle.rust_grammar.specs.Words.{'=', '-', 'ident'};
 ghost use Rattle.rust_grammar.specs.Paths as rows;
-ghost use Rattle.rust_productions.specs.Looks.{tokens, spent};
+ghost use Rattle.rust_productions.specs.Looks.{tokens, spent, Takes};
 ghost use Rattle.rust_productions.specs.Reads.{looks, Gives, Reads, Saw};
 
 use crate::grammar::types::{any_type, expect_type, word_type};
@@ -26,8 +26,7 @@ pub(crate) fn generic_arg(p: &mut Parser<'_>, condition: bool)
     requires begins { Saw condition (looks rules.generic_arg) p.old true }
     requires some { 1 ≤ tokens p.old }
     ensures gives { Gives rules.generic_arg condition p.old p.new }
-    ensures left { tokens p.new + 1 ≤ tokens p.old }
-    ensures looks { spent p.new + 2890 ≤ spent p.old }
+    ensures takes { Takes 2890 p.old p.new }
 {
     match current(p) {
         SyntaxKind::LIFETIME_IDENT => lifetime_arg(p),
@@ -61,8 +60,7 @@ fn lifetime_arg(p: &mut Parser<'_>)
 fn negative_arg(p: &mut Parser<'_>)
     requires { 1 ≤ tokens p.old }
     ensures reads { (c : Bool) → Reads c (CONST_ARG ⟨ One '-' ▸ Literal ! ⟩) p.old p.new }
-    ensures left { tokens p.new + 1 ≤ tokens p.old }
-    ensures looks { spent p.new + 4090 ≤ spent p.old }
+    ensures takes { Takes 4090 p.old p.new }
 {
     let node = start(p);
     take(p, SyntaxKind::MINUS);
@@ -90,8 +88,7 @@ fn word_arg(p: &mut Parser<'_>, condition: bool)
     requires word { Saw condition (Kind 0 kinds.IDENT) p.old true }
     requires some { 1 ≤ tokens p.old }
     ensures reads { Reads condition (rule rules.generic_arg) p.old p.new }
-    ensures left { tokens p.new + 1 ≤ tokens p.old }
-    ensures looks { spent p.new + 2900 ≤ spent p.old }
+    ensures takes { Takes 2900 p.old p.new }
 {
     if at_second(p, SyntaxKind::EQ) {
         assoc_type_arg(p, condition);
@@ -107,8 +104,7 @@ fn assoc_type_arg(p: &mut Parser<'_>, condition: bool)
     requires some { 2 ≤ tokens p.old }
     ensures reads { Reads condition
         (ASSOC_TYPE_ARG ⟨ NAME_REF ⟨ One 'ident' ⟩ ▸ One '=' ▸ AnyType ! ⟩) p.old p.new }
-    ensures left { tokens p.new + 1 ≤ tokens p.old }
-    ensures looks { spent p.new + 8000 ≤ spent p.old }
+    ensures takes { Takes 8000 p.old p.new }
 {
     let node = start(p);
     word_type(p, SyntaxKind::IDENT, SyntaxKind::NAME_REF);
@@ -124,8 +120,7 @@ fn type_arg(p: &mut Parser<'_>, condition: bool)
     requires begins { Saw condition (looks rules.any_type) p.old true }
     requires some { 1 ≤ tokens p.old }
     ensures reads { Reads condition rows.type_arg p.old p.new }
-    ensures left { tokens p.new + 1 ≤ tokens p.old }
-    ensures looks { spent p.new + 2910 ≤ spent p.old }
+    ensures takes { Takes 2910 p.old p.new }
 {
     let node = start(p);
     any_type(p, condition);

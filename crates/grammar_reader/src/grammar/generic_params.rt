@@ -1,6 +1,6 @@
 //! Generic parameters, bounds, and what `where` asks.
 
-ghost use Rattle.std.specs.Prelude.{◌≤◌, ◌+◌, Bool, true};
+ghost use Rattle.std.specs.Prelude.{◌≤◌, Bool, true};
 ghost use Rattle.rust_grammar.specs.Calls.{Bound, WherePred};
 ghost use Rattle.rust_grammar.specs.Notation.{◌▸◌, ⁅◌⁆, ◌*, ◌! };
 ghost use Rattle.rust_grammar.specs.Rule as rules;
@@ -8,7 +8,7 @@ ghost use Rattle.rust_grammar.specs.Rule.{One};
 ghost use Rattle.rust_grammar.specs.Words.{'?'};
 ghost use Rattle.rust_grammar.specs.Paths as rows;
 ghost use Rattle.rust_grammar.specs.Shared as shared;
-ghost use Rattle.rust_productions.specs.Looks.{tokens, spent};
+ghost use Rattle.rust_productions.specs.Looks.{tokens, Takes, Asks};
 ghost use Rattle.rust_productions.specs.Reads.{looks, Gives, Reads, Saw};
 
 use crate::grammar::types::{any_type, opt_type_after, path_type};
@@ -27,8 +27,7 @@ fn bound(p: &mut Parser<'_>)
     requires begins { (c : Bool) → Saw c (looks rules.bound) p.old true }
     requires some { 1 ≤ tokens p.old }
     ensures gives { (c : Bool) → Gives rules.bound c p.old p.new }
-    ensures left { tokens p.new + 1 ≤ tokens p.old }
-    ensures looks { spent p.new + 3990 ≤ spent p.old }
+    ensures takes { Takes 3990 p.old p.new }
 {
     let node = start(p);
     lifetime_or_path(p);
@@ -42,8 +41,7 @@ fn lifetime_or_path(p: &mut Parser<'_>)
     requires begins { (c : Bool) → Saw c (looks rules.bound) p.old true }
     requires some { 1 ≤ tokens p.old }
     ensures reads { (c : Bool) → Reads c rows.lifetime_or_path p.old p.new }
-    ensures left { tokens p.new + 1 ≤ tokens p.old }
-    ensures looks { spent p.new + 3990 ≤ spent p.old }
+    ensures takes { Takes 3990 p.old p.new }
 {
     match current(p) {
         SyntaxKind::LIFETIME_IDENT => lifetime(p),
@@ -58,8 +56,7 @@ fn lifetime_or_path(p: &mut Parser<'_>)
 fn path_after_question(p: &mut Parser<'_>)
     requires some { 1 ≤ tokens p.old }
     ensures reads { (c : Bool) → Reads c (One '?' ▸ shared.path_type !) p.old p.new }
-    ensures left { tokens p.new + 1 ≤ tokens p.old }
-    ensures looks { spent p.new + 4090 ≤ spent p.old }
+    ensures takes { Takes 4090 p.old p.new }
 {
     take(p, SyntaxKind::QUESTION);
     expect_path_type(p);
@@ -70,8 +67,7 @@ fn path_after_question(p: &mut Parser<'_>)
 #[cycle(grammar)]
 fn expect_path_type(p: &mut Parser<'_>)
     ensures reads { (c : Bool) → Reads c (shared.path_type !) p.old p.new }
-    ensures left { tokens p.new ≤ tokens p.old }
-    ensures looks { spent p.new ≤ spent p.old + 3 }
+    ensures asks { Asks 3 p.old p.new }
 {
     if at_path(p) {
         path_type(p);
@@ -85,8 +81,7 @@ fn expect_path_type(p: &mut Parser<'_>)
 #[cycle(grammar)]
 pub(crate) fn bounds(p: &mut Parser<'_>)
     ensures gives { (c : Bool) → Gives rules.bounds c p.old p.new }
-    ensures left { tokens p.new ≤ tokens p.old }
-    ensures looks { spent p.new ≤ spent p.old + 4 }
+    ensures asks { Asks 4 p.old p.new }
 {
     let list = start(p);
     opt_bounds(p);
@@ -98,8 +93,7 @@ pub(crate) fn bounds(p: &mut Parser<'_>)
 #[cycle(grammar)]
 fn opt_bounds(p: &mut Parser<'_>)
     ensures reads { (c : Bool) → Reads c ⁅ rows.bound_list ⁆ p.old p.new }
-    ensures left { tokens p.new ≤ tokens p.old }
-    ensures looks { spent p.new ≤ spent p.old + 4 }
+    ensures asks { Asks 4 p.old p.new }
 {
     if at_bound(p) {
         bound(p);
@@ -112,8 +106,7 @@ fn opt_bounds(p: &mut Parser<'_>)
 #[cycle(grammar)]
 fn further_bounds(p: &mut Parser<'_>)
     ensures reads { (c : Bool) → Reads c (rows.further_bound *) p.old p.new }
-    ensures left { tokens p.new ≤ tokens p.old }
-    ensures looks { spent p.new ≤ spent p.old + 1 }
+    ensures asks { Asks 1 p.old p.new }
 {
     'turns: while at(p, SyntaxKind::PLUS) {
         further_bound(p);
@@ -126,8 +119,7 @@ fn further_bounds(p: &mut Parser<'_>)
 fn further_bound(p: &mut Parser<'_>)
     requires some { 1 ≤ tokens p.old }
     ensures reads { (c : Bool) → Reads c rows.further_bound p.old p.new }
-    ensures left { tokens p.new + 1 ≤ tokens p.old }
-    ensures looks { spent p.new + 4090 ≤ spent p.old }
+    ensures takes { Takes 4090 p.old p.new }
 {
     take(p, SyntaxKind::PLUS);
     opt_bound(p);
@@ -138,8 +130,7 @@ fn further_bound(p: &mut Parser<'_>)
 #[cycle(grammar)]
 fn opt_bound(p: &mut Parser<'_>)
     ensures reads { (c : Bool) → Reads c ⁅ Bound ⁆ p.old p.new }
-    ensures left { tokens p.new ≤ tokens p.old }
-    ensures looks { spent p.new ≤ spent p.old + 4 }
+    ensures asks { Asks 4 p.old p.new }
 {
     if at_bound(p) {
         bound(p);
@@ -151,8 +142,7 @@ fn opt_bound(p: &mut Parser<'_>)
 #[cycle(grammar)]
 pub(crate) fn bounds_after_colon(p: &mut Parser<'_>)
     ensures reads { (c : Bool) → Reads c ⁅ rows.bounds_after_colon ⁆ p.old p.new }
-    ensures left { tokens p.new ≤ tokens p.old }
-    ensures looks { spent p.new ≤ spent p.old + 1 }
+    ensures asks { Asks 1 p.old p.new }
 {
     if at(p, SyntaxKind::COLON) {
         take(p, SyntaxKind::COLON);
@@ -166,8 +156,7 @@ pub(crate) fn bounds_after_colon(p: &mut Parser<'_>)
 fn lifetime_param(p: &mut Parser<'_>)
     requires some { 1 ≤ tokens p.old }
     ensures reads { (c : Bool) → Reads c rows.lifetime_param p.old p.new }
-    ensures left { tokens p.new + 1 ≤ tokens p.old }
-    ensures looks { spent p.new + 4090 ≤ spent p.old }
+    ensures takes { Takes 4090 p.old p.new }
 {
     let node = start(p);
     lifetime(p);
@@ -181,8 +170,7 @@ fn lifetime_param(p: &mut Parser<'_>)
 fn type_param(p: &mut Parser<'_>, condition: bool)
     requires some { 1 ≤ tokens p.old }
     ensures reads { Reads condition rows.type_param p.old p.new }
-    ensures left { tokens p.new + 1 ≤ tokens p.old }
-    ensures looks { spent p.new + 4090 ≤ spent p.old }
+    ensures takes { Takes 4090 p.old p.new }
 {
     let node = start(p);
     name(p);
@@ -197,8 +185,7 @@ fn type_param(p: &mut Parser<'_>, condition: bool)
 pub(crate) fn generic_param(p: &mut Parser<'_>, condition: bool)
     requires some { 1 ≤ tokens p.old }
     ensures gives { Gives rules.generic_param condition p.old p.new }
-    ensures left { tokens p.new + 1 ≤ tokens p.old }
-    ensures looks { spent p.new + 4080 ≤ spent p.old }
+    ensures takes { Takes 4080 p.old p.new }
 {
     if at(p, SyntaxKind::LIFETIME_IDENT) {
         lifetime_param(p);
@@ -214,8 +201,7 @@ fn lifetime_or_type(p: &mut Parser<'_>, condition: bool)
     requires begins { Saw condition (looks rules.where_pred) p.old true }
     requires some { 1 ≤ tokens p.old }
     ensures reads { Reads condition rows.lifetime_or_type p.old p.new }
-    ensures left { tokens p.new + 1 ≤ tokens p.old }
-    ensures looks { spent p.new + 2900 ≤ spent p.old }
+    ensures takes { Takes 2900 p.old p.new }
 {
     if at(p, SyntaxKind::LIFETIME_IDENT) {
         lifetime(p);
@@ -231,8 +217,7 @@ fn where_pred(p: &mut Parser<'_>, condition: bool)
     requires begins { Saw condition (looks rules.where_pred) p.old true }
     requires some { 1 ≤ tokens p.old }
     ensures gives { Gives rules.where_pred condition p.old p.new }
-    ensures left { tokens p.new + 1 ≤ tokens p.old }
-    ensures looks { spent p.new + 2890 ≤ spent p.old }
+    ensures takes { Takes 2890 p.old p.new }
 {
     let node = start(p);
     lifetime_or_type(p, condition);
@@ -247,8 +232,7 @@ fn where_pred(p: &mut Parser<'_>, condition: bool)
 pub(crate) fn where_clause(p: &mut Parser<'_>, condition: bool)
     requires some { 1 ≤ tokens p.old }
     ensures gives { Gives rules.where_clause condition p.old p.new }
-    ensures left { tokens p.new + 1 ≤ tokens p.old }
-    ensures looks { spent p.new + 4080 ≤ spent p.old }
+    ensures takes { Takes 4080 p.old p.new }
 {
     let node = start(p);
     take(p, SyntaxKind::WHERE_KW);
@@ -261,8 +245,7 @@ pub(crate) fn where_clause(p: &mut Parser<'_>, condition: bool)
 #[cycle(grammar)]
 fn opt_preds(p: &mut Parser<'_>, condition: bool)
     ensures reads { Reads condition ⁅ rows.pred_list ⁆ p.old p.new }
-    ensures left { tokens p.new ≤ tokens p.old }
-    ensures looks { spent p.new ≤ spent p.old + 6 }
+    ensures asks { Asks 6 p.old p.new }
 {
     if at_where_pred(p) {
         where_pred(p, condition);
@@ -275,8 +258,7 @@ fn opt_preds(p: &mut Parser<'_>, condition: bool)
 #[cycle(grammar)]
 fn further_preds(p: &mut Parser<'_>, condition: bool)
     ensures reads { Reads condition (rows.further_pred *) p.old p.new }
-    ensures left { tokens p.new ≤ tokens p.old }
-    ensures looks { spent p.new ≤ spent p.old + 1 }
+    ensures asks { Asks 1 p.old p.new }
 {
     'turns: while at(p, SyntaxKind::COMMA) {
         further_pred(p, condition);
@@ -289,8 +271,7 @@ fn further_preds(p: &mut Parser<'_>, condition: bool)
 fn further_pred(p: &mut Parser<'_>, condition: bool)
     requires some { 1 ≤ tokens p.old }
     ensures reads { Reads condition rows.further_pred p.old p.new }
-    ensures left { tokens p.new + 1 ≤ tokens p.old }
-    ensures looks { spent p.new + 4090 ≤ spent p.old }
+    ensures takes { Takes 4090 p.old p.new }
 {
     take(p, SyntaxKind::COMMA);
     opt_pred(p, condition);
@@ -301,8 +282,7 @@ fn further_pred(p: &mut Parser<'_>, condition: bool)
 #[cycle(grammar)]
 fn opt_pred(p: &mut Parser<'_>, condition: bool)
     ensures reads { Reads condition ⁅ WherePred ⁆ p.old p.new }
-    ensures left { tokens p.new ≤ tokens p.old }
-    ensures looks { spent p.new ≤ spent p.old + 6 }
+    ensures asks { Asks 6 p.old p.new }
 {
     if at_where_pred(p) {
         where_pred(p, condition);

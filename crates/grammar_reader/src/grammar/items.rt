@@ -1,6 +1,6 @@
 //! Items.
 
-ghost use Rattle.std.specs.Prelude.{◌≡◌, ◌≤◌, ◌<◌, ◌+◌, Bool, ℕ, IsTrue, true, false};
+ghost use Rattle.std.specs.Prelude.{◌≡◌, ◌≤◌, Bool, IsTrue, true, false};
 ghost use Rattle.parser_input.specs.Kind.{raw_of};
 ghost use Rattle.parser_input.specs.Kinds.{POUND, PUB_KW};
 ghost use Rattle.parser_events.specs.Stack.{IsInnermost};
@@ -12,9 +12,11 @@ ghost use Rattle.rust_grammar.specs.Rule as rules;
 ghost use Rattle.rust_grammar.specs.Rule.{Kind, Unless};
 ghost use Rattle.rust_grammar.specs.Whole.{rule};
 ghost use Rattle.rust_grammar.specs.Items as rows;
-ghost use Rattle.rust_productions.specs.Looks.{tokens, spent};
+ghost use Rattle.rust_productions.specs.Looks.{tokens, Takes, Asks, TakesUnless};
 ghost use Rattle.rust_productions.specs.Reads.{looks, Anew, Completes, CompletesWhere, Gives, Reads, Saw};
-ghost use Rattle.rust_productions.specs.Turns.{TurnsFrom};
+ghost use Rattle.rust_productions.specs.Turns.{TakesTurn};
+ghost use Rattle.rust_productions.specs.Moves.{Keeps};
+ghost use Rattle.grammar_reader.specs.Next.{IsBare};
 
 use crate::grammar::attributes::attribute;
 use crate::grammar::generic_params::where_clause;
@@ -45,8 +47,7 @@ pub(crate) mod traits;
 pub(crate) fn item(p: &mut Parser<'_>, condition: bool)
     requires some { 1 ≤ tokens p.old }
     ensures gives { Gives rules.item condition p.old p.new }
-    ensures left { tokens p.new + 1 ≤ tokens p.old }
-    ensures looks { spent p.new + 2900 ≤ spent p.old }
+    ensures takes { Takes 2900 p.old p.new }
 {
     match current(p) {
         SyntaxKind::POUND => attributed_item(p, condition),
@@ -62,8 +63,7 @@ fn attributed_item(p: &mut Parser<'_>, condition: bool)
     requires begins { (c : Bool) → Saw c (looks rules.attribute) p.old true }
     requires some { 1 ≤ tokens p.old }
     ensures anew { Anew condition (rule rules.item) p.old p.new }
-    ensures left { tokens p.new + 1 ≤ tokens p.old }
-    ensures looks { spent p.new + 4000 ≤ spent p.old }
+    ensures takes { Takes 4000 p.old p.new }
 {
     let item = start(p);
     attributes_and_visibility(p);
@@ -77,8 +77,7 @@ fn visible_item(p: &mut Parser<'_>, condition: bool)
     requires begins { (c : Bool) → Saw c (Kind 0 PUB_KW) p.old true }
     requires some { 1 ≤ tokens p.old }
     ensures anew { Anew condition (rule rules.item) p.old p.new }
-    ensures left { tokens p.new + 1 ≤ tokens p.old }
-    ensures looks { spent p.new + 4000 ≤ spent p.old }
+    ensures takes { Takes 4000 p.old p.new }
 {
     let item = start(p);
     visibility(p);
@@ -89,12 +88,9 @@ fn visible_item(p: &mut Parser<'_>, condition: bool)
 // fn f() {}
 #[cycle(grammar)]
 fn bare_item(p: &mut Parser<'_>, condition: bool)
-    requires plain { (c : Bool) → Saw c (Kind 0 POUND) p.old false }
-    requires hidden { (c : Bool) → Saw c (Kind 0 PUB_KW) p.old false }
-    requires some { 1 ≤ tokens p.old }
+    requires bare { IsBare p.old }
     ensures anew { Anew condition (rule rules.item) p.old p.new }
-    ensures left { tokens p.new + 1 ≤ tokens p.old }
-    ensures looks { spent p.new + 2910 ≤ spent p.old }
+    ensures takes { Takes 2910 p.old p.new }
 {
     let item = start(p);
     body(p, item, false, condition);
@@ -105,8 +101,7 @@ fn bare_item(p: &mut Parser<'_>, condition: bool)
 #[cycle(grammar)]
 fn attributes(p: &mut Parser<'_>)
     ensures reads { (c : Bool) → Reads c (Attribute *) p.old p.new }
-    ensures left { tokens p.new ≤ tokens p.old }
-    ensures looks { spent p.new ≤ spent p.old + 1 }
+    ensures asks { Asks 1 p.old p.new }
 {
     'turns: while at(p, SyntaxKind::POUND) {
         attribute(p);
@@ -120,8 +115,7 @@ pub(crate) fn attributes_and_visibility(p: &mut Parser<'_>)
     requires begins { (c : Bool) → Saw c (looks rules.attribute) p.old true }
     requires some { 1 ≤ tokens p.old }
     ensures reads { (c : Bool) → Reads c (Attribute * ▸ ⁅ Visibility ⁆) p.old p.new }
-    ensures left { tokens p.new + 1 ≤ tokens p.old }
-    ensures looks { spent p.new + 4070 ≤ spent p.old }
+    ensures takes { Takes 4070 p.old p.new }
 {
     attribute(p);
     attributes(p);
@@ -136,10 +130,7 @@ fn body(p: &mut Parser<'_>, item: Marker, given: bool, condition: bool)
     requires some { given ≡ false → 1 ≤ tokens p.old }
     requires innermost { IsInnermost item p.old.nodes }
     ensures completes { CompletesWhere given condition (rule rules.body) p.old p.new }
-    ensures left { tokens p.new ≤ tokens p.old }
-    ensures takes { given ≡ false → tokens p.new + 1 ≤ tokens p.old }
-    ensures pays { given ≡ false → spent p.new + 2910 ≤ spent p.old }
-    ensures looks { spent p.new ≤ spent p.old + 16 }
+    ensures takes { TakesUnless given 2910 16 p.old p.new }
 {
     match current(p) {
         SyntaxKind::MOD_KW => module(p, item),
@@ -181,8 +172,7 @@ fn module(p: &mut Parser<'_>, item: Marker)
     requires some { 1 ≤ tokens p.old }
     requires innermost { IsInnermost item p.old.nodes }
     ensures completes { (c : Bool) → Completes c rows.module_item p.old p.new }
-    ensures left { tokens p.new + 1 ≤ tokens p.old }
-    ensures looks { spent p.new + 4090 ≤ spent p.old }
+    ensures takes { Takes 4090 p.old p.new }
 {
     take(p, SyntaxKind::MOD_KW);
     expect_name(p);
@@ -195,8 +185,7 @@ fn module(p: &mut Parser<'_>, item: Marker)
 #[cycle(grammar)]
 fn module_items(p: &mut Parser<'_>)
     ensures reads { (c : Bool) → Reads c rows.module_items p.old p.new }
-    ensures left { tokens p.new ≤ tokens p.old }
-    ensures looks { spent p.new ≤ spent p.old + 2 }
+    ensures asks { Asks 2 p.old p.new }
 {
     if at(p, SyntaxKind::L_CURLY) {
         item_list(p, SyntaxKind::ITEM_LIST);
@@ -211,8 +200,7 @@ fn module_items(p: &mut Parser<'_>)
 fn item_list(p: &mut Parser<'_>, kind: SyntaxKind)
     requires some { 1 ≤ tokens p.old }
     ensures reads { (c : Bool) → Reads c (raw_of kind ⟨ items_in_braces ⟩) p.old p.new }
-    ensures left { tokens p.new + 1 ≤ tokens p.old }
-    ensures looks { spent p.new + 4080 ≤ spent p.old }
+    ensures takes { Takes 4080 p.old p.new }
 {
     let list = start(p);
     take(p, SyntaxKind::L_CURLY);
@@ -225,13 +213,10 @@ fn item_list(p: &mut Parser<'_>, kind: SyntaxKind)
 // fn f() {}
 #[cycle(grammar)]
 fn item_turn(p: &mut Parser<'_>, end: ListEnd) -> bool
-    ensures goes { IsTrue result → TurnsFrom false (Unless (ends_of end) item_or_attribute) p.old p.new }
+    ensures goes { IsTrue result → TakesTurn false (Unless (ends_of end) item_or_attribute) p.old p.new }
     ensures ends { result ≡ false → Reads false (items_until (ends_of end)) p.old p.new }
-    ensures innermost { (n : ℕ) → IsInnermost n p.old.nodes → IsInnermost n p.new.nodes }
-    ensures fewer { IsTrue result → tokens p.new < tokens p.old }
-    ensures left { tokens p.new ≤ tokens p.old }
-    ensures pays { IsTrue result → spent p.new ≤ spent p.old }
-    ensures looks { spent p.new ≤ spent p.old + 2 }
+    ensures keeps { Keeps p.old p.new }
+    ensures asks { Asks 2 p.old p.new }
 {
     if at_end_of(p, end) {
         return false;
@@ -249,8 +234,7 @@ fn item_turn(p: &mut Parser<'_>, end: ListEnd) -> bool
 #[cycle(grammar)]
 pub(crate) fn items(p: &mut Parser<'_>, end: ListEnd)
     ensures reads { Reads false (items_until (ends_of end)) p.old p.new }
-    ensures left { tokens p.new ≤ tokens p.old }
-    ensures looks { spent p.new ≤ spent p.old + 2 }
+    ensures asks { Asks 2 p.old p.new }
 {
     'turns: while item_turn(p, end) {}
 }
@@ -261,8 +245,7 @@ pub(crate) fn items(p: &mut Parser<'_>, end: ListEnd)
 pub(crate) fn assoc_items(p: &mut Parser<'_>)
     requires some { 1 ≤ tokens p.old }
     ensures gives { (c : Bool) → Gives rules.assoc_items c p.old p.new }
-    ensures left { tokens p.new + 1 ≤ tokens p.old }
-    ensures looks { spent p.new + 4080 ≤ spent p.old }
+    ensures takes { Takes 4080 p.old p.new }
 {
     item_list(p, SyntaxKind::ASSOC_ITEM_LIST);
 }
@@ -272,8 +255,7 @@ pub(crate) fn assoc_items(p: &mut Parser<'_>)
 #[cycle(grammar)]
 pub(crate) fn opt_generic_params(p: &mut Parser<'_>)
     ensures reads { (c : Bool) → Reads c ⁅ GenericParams ⁆ p.old p.new }
-    ensures left { tokens p.new ≤ tokens p.old }
-    ensures looks { spent p.new ≤ spent p.old + 1 }
+    ensures asks { Asks 1 p.old p.new }
 {
     if at(p, SyntaxKind::L_ANGLE) {
         generic_params(p);
@@ -285,8 +267,7 @@ pub(crate) fn opt_generic_params(p: &mut Parser<'_>)
 #[cycle(grammar)]
 pub(crate) fn opt_where_clause(p: &mut Parser<'_>, condition: bool)
     ensures reads { Reads condition ⁅ WhereClause ⁆ p.old p.new }
-    ensures left { tokens p.new ≤ tokens p.old }
-    ensures looks { spent p.new ≤ spent p.old + 1 }
+    ensures asks { Asks 1 p.old p.new }
 {
     if at(p, SyntaxKind::WHERE_KW) {
         where_clause(p, condition);

@@ -1,6 +1,6 @@
 //! Lists of elements with commas between them.
 
-ghost use Rattle.std.specs.Prelude.{◌≡◌, ◌≢◌, ◌≤◌, ◌<◌, ◌+◌, Bool, IsTrue, ℕ, true, false};
+ghost use Rattle.std.specs.Prelude.{◌≡◌, ◌≢◌, ◌≤◌, ◌<◌, ◌+◌, Bool, IsTrue, true, false};
 ghost use Rattle.parser_input.specs.Kind.{raw_of};
 ghost use Rattle.parser_input.specs.Kinds as kinds;
 ghost use Rattle.parser_events.specs.Stack.{IsInnermost};
@@ -10,9 +10,10 @@ ghost use Rattle.rust_grammar.specs.Rule.{begins};
 ghost use Rattle.rust_grammar.specs.Words.{one};
 ghost use Rattle.rust_grammar.specs.Notation as rows;
 ghost use Rattle.grammar_reader.specs.Told.{element_of, list_turn, looks_before, looks_in};
-ghost use Rattle.rust_productions.specs.Looks.{tokens, spent};
-ghost use Rattle.rust_productions.specs.Reads.{looks, Does, Gives, Reads, Saw};
-ghost use Rattle.rust_productions.specs.Turns.{TurnsFrom};
+ghost use Rattle.rust_productions.specs.Looks.{tokens, spent, Takes, Asks, Peeks, AsksIn};
+ghost use Rattle.rust_productions.specs.Reads.{looks, Gives, Reads, Saw};
+ghost use Rattle.rust_productions.specs.Turns.{TakesTurn};
+ghost use Rattle.rust_productions.specs.Moves.{Keeps};
 
 use crate::grammar::expressions::closures::closure_param;
 use crate::grammar::expressions::expression;
@@ -58,9 +59,7 @@ pub(crate) enum Element {
 /// Returns `true` if an element starts here.
 fn at_element(p: &mut Parser<'_>, element: Element) -> bool
     ensures sees { Saw false (begins looks (element_of element)) p.old result }
-    ensures same { Does (λ s. s) p.old p.new }
-    ensures left { tokens p.new ≡ tokens p.old }
-    ensures looks { spent p.new ≤ spent p.old + looks_before element }
+    ensures peeks { Peeks (looks_before element) p.old p.new }
 {
     match element {
         Element::ClosureParam => at_single_pattern(p),
@@ -83,9 +82,8 @@ fn at_element(p: &mut Parser<'_>, element: Element) -> bool
 fn read_element(p: &mut Parser<'_>, element: Element)
     requires begins { Saw false (begins looks (element_of element)) p.old true }
     ensures reads { Reads false (element_of element) p.old p.new }
-    ensures left { tokens p.new ≤ tokens p.old }
+    ensures asks { Asks (looks_in element) p.old p.new }
     ensures pays { tokens p.new < tokens p.old → spent p.new + 1000 ≤ spent p.old }
-    ensures looks { spent p.new ≤ spent p.old + looks_in element }
 {
     match element {
         Element::ClosureParam => closure_param(p),
@@ -108,15 +106,12 @@ fn read_element(p: &mut Parser<'_>, element: Element)
 // a,
 #[cycle(grammar)]
 fn turn(p: &mut Parser<'_>, list: SyntaxKind, element: Element, closing: SyntaxKind) -> bool
-    ensures goes { IsTrue result → TurnsFrom false
+    ensures goes { IsTrue result → TakesTurn false
         (list_turn (raw_of list) (element_of element) (raw_of closing)) p.old p.new }
     ensures ends { result ≡ false → Reads false
         ((list_turn (raw_of list) (element_of element) (raw_of closing)) *) p.old p.new }
-    ensures innermost { (n : ℕ) → IsInnermost n p.old.nodes → IsInnermost n p.new.nodes }
-    ensures fewer { IsTrue result → tokens p.new < tokens p.old }
-    ensures left { tokens p.new ≤ tokens p.old }
-    ensures pays { IsTrue result → spent p.new ≤ spent p.old }
-    ensures looks { spent p.new ≤ spent p.old + looks_before element + looks_in element + 10 }
+    ensures keeps { Keeps p.old p.new }
+    ensures asks { Asks (looks_before element + looks_in element + 10) p.old p.new }
 {
     if at_list_end(p, closing) {
         return false;
@@ -140,8 +135,7 @@ fn turn(p: &mut Parser<'_>, list: SyntaxKind, element: Element, closing: SyntaxK
 fn elements(p: &mut Parser<'_>, list: SyntaxKind, element: Element, closing: SyntaxKind)
     ensures reads { Reads false
         ((list_turn (raw_of list) (element_of element) (raw_of closing)) *) p.old p.new }
-    ensures left { tokens p.new ≤ tokens p.old }
-    ensures looks { spent p.new ≤ spent p.old + looks_before element + looks_in element + 10 }
+    ensures asks { Asks (looks_before element + looks_in element + 10) p.old p.new }
 {
     'turns: while turn(p, list, element, closing) {}
 }
@@ -158,8 +152,7 @@ pub(crate) fn rest_of_list(
     requires closing { raw_of closing ≢ kinds.EOF }
     ensures reads { (c : Bool) → Reads c (rest_listed (raw_of list) (element_of element)
         (one (raw_of closing))) p.old p.new }
-    ensures left { tokens p.new ≤ tokens p.old }
-    ensures looks { spent p.new ≤ spent p.old + looks_before element + looks_in element + 11 }
+    ensures asks { Asks (looks_before element + looks_in element + 11) p.old p.new }
 {
     elements(p, list, element, closing);
     expect(p, closing);
@@ -179,9 +172,7 @@ pub(crate) fn tuple_tail(
     requires innermost { IsInnermost frame p.old.nodes }
     ensures reads { (c : Bool) → Reads c
         (rows.tuple_tail (raw_of tuple) (raw_of paren) (element_of element)) p.old p.new }
-    ensures marker { IsInnermost result p.new.nodes }
-    ensures left { tokens p.new ≤ tokens p.old }
-    ensures looks { spent p.new ≤ spent p.old + 2 }
+    ensures asks { AsksIn result 2 p.old p.new }
 {
     if at(p, SyntaxKind::COMMA) {
         take(p, SyntaxKind::COMMA);
@@ -198,8 +189,7 @@ pub(crate) fn tuple_tail(
 pub(crate) fn arguments(p: &mut Parser<'_>)
     requires some { 1 ≤ tokens p.old }
     ensures gives { (c : Bool) → Gives rules.arguments c p.old p.new }
-    ensures left { tokens p.new + 1 ≤ tokens p.old }
-    ensures looks { spent p.new + 3300 ≤ spent p.old }
+    ensures takes { Takes 3300 p.old p.new }
 {
     let list = start(p);
     take(p, SyntaxKind::L_PAREN);
@@ -218,8 +208,7 @@ pub(crate) fn arguments(p: &mut Parser<'_>)
 pub(crate) fn field_values(p: &mut Parser<'_>)
     requires some { 1 ≤ tokens p.old }
     ensures gives { (c : Bool) → Gives rules.field_values c p.old p.new }
-    ensures left { tokens p.new + 1 ≤ tokens p.old }
-    ensures looks { spent p.new + 3300 ≤ spent p.old }
+    ensures takes { Takes 3300 p.old p.new }
 {
     let list = start(p);
     take(p, SyntaxKind::L_CURLY);
@@ -238,8 +227,7 @@ pub(crate) fn field_values(p: &mut Parser<'_>)
 pub(crate) fn pattern_fields(p: &mut Parser<'_>)
     requires some { 1 ≤ tokens p.old }
     ensures gives { (c : Bool) → Gives rules.pattern_fields c p.old p.new }
-    ensures left { tokens p.new + 1 ≤ tokens p.old }
-    ensures looks { spent p.new + 3300 ≤ spent p.old }
+    ensures takes { Takes 3300 p.old p.new }
 {
     let list = start(p);
     take(p, SyntaxKind::L_CURLY);
@@ -258,8 +246,7 @@ pub(crate) fn pattern_fields(p: &mut Parser<'_>)
 pub(crate) fn params(p: &mut Parser<'_>)
     requires some { 1 ≤ tokens p.old }
     ensures gives { (c : Bool) → Gives rules.params c p.old p.new }
-    ensures left { tokens p.new + 1 ≤ tokens p.old }
-    ensures looks { spent p.new + 3300 ≤ spent p.old }
+    ensures takes { Takes 3300 p.old p.new }
 {
     let list = start(p);
     take(p, SyntaxKind::L_PAREN);
@@ -278,8 +265,7 @@ pub(crate) fn params(p: &mut Parser<'_>)
 pub(crate) fn generic_params(p: &mut Parser<'_>)
     requires some { 1 ≤ tokens p.old }
     ensures gives { (c : Bool) → Gives rules.generic_params c p.old p.new }
-    ensures left { tokens p.new + 1 ≤ tokens p.old }
-    ensures looks { spent p.new + 3300 ≤ spent p.old }
+    ensures takes { Takes 3300 p.old p.new }
 {
     let list = start(p);
     take(p, SyntaxKind::L_ANGLE);
@@ -298,8 +284,7 @@ pub(crate) fn generic_params(p: &mut Parser<'_>)
 pub(crate) fn variants(p: &mut Parser<'_>)
     requires some { 1 ≤ tokens p.old }
     ensures gives { (c : Bool) → Gives rules.variants c p.old p.new }
-    ensures left { tokens p.new + 1 ≤ tokens p.old }
-    ensures looks { spent p.new + 3300 ≤ spent p.old }
+    ensures takes { Takes 3300 p.old p.new }
 {
     let list = start(p);
     take(p, SyntaxKind::L_CURLY);
@@ -318,8 +303,7 @@ pub(crate) fn variants(p: &mut Parser<'_>)
 pub(crate) fn record_fields(p: &mut Parser<'_>)
     requires some { 1 ≤ tokens p.old }
     ensures gives { (c : Bool) → Gives rules.record_fields c p.old p.new }
-    ensures left { tokens p.new + 1 ≤ tokens p.old }
-    ensures looks { spent p.new + 3300 ≤ spent p.old }
+    ensures takes { Takes 3300 p.old p.new }
 {
     let list = start(p);
     take(p, SyntaxKind::L_CURLY);
@@ -338,8 +322,7 @@ pub(crate) fn record_fields(p: &mut Parser<'_>)
 pub(crate) fn tuple_fields(p: &mut Parser<'_>)
     requires some { 1 ≤ tokens p.old }
     ensures gives { (c : Bool) → Gives rules.tuple_fields c p.old p.new }
-    ensures left { tokens p.new + 1 ≤ tokens p.old }
-    ensures looks { spent p.new + 3300 ≤ spent p.old }
+    ensures takes { Takes 3300 p.old p.new }
 {
     let list = start(p);
     take(p, SyntaxKind::L_PAREN);

@@ -1,14 +1,15 @@
 //! Patterns with `|` between them.
 
-ghost use Rattle.std.specs.Prelude.{◌≤◌, ◌+◌, Bool, true};
+ghost use Rattle.std.specs.Prelude.{◌≤◌, Bool, true};
 ghost use Rattle.parser_events.specs.Stack.{IsInnermost};
 ghost use Rattle.rust_grammar.specs.Calls.{Pattern};
 ghost use Rattle.rust_grammar.specs.Notation.{⁅◌⁆, ◌*, ◌! };
 ghost use Rattle.rust_grammar.specs.Rule as rules;
 ghost use Rattle.rust_grammar.specs.Whole.{rule};
 ghost use Rattle.rust_grammar.specs.Patterns as rows;
-ghost use Rattle.rust_productions.specs.Looks.{tokens, spent};
+ghost use Rattle.rust_productions.specs.Looks.{tokens, Takes, Asks, TakesIn, AsksIn};
 ghost use Rattle.rust_productions.specs.Reads.{looks, Gives, Reads, Saw};
+ghost use Rattle.rust_productions.specs.Starts.{Starts};
 
 use crate::grammar::patterns::{expect_single, single_pattern};
 use parser_events::message::Message;
@@ -22,8 +23,7 @@ use rust_productions::grammar::{abandon, at, error, start, take, wrap};
 #[cycle(grammar)]
 pub(crate) fn expect_pattern(p: &mut Parser<'_>)
     ensures reads { (c : Bool) → Reads c (Pattern !) p.old p.new }
-    ensures left { tokens p.new ≤ tokens p.old }
-    ensures looks { spent p.new ≤ spent p.old + 9 }
+    ensures asks { Asks 9 p.old p.new }
 {
     if at_pattern(p) {
         pattern(p);
@@ -39,8 +39,7 @@ pub fn pattern(p: &mut Parser<'_>)
     requires begins { (c : Bool) → Saw c (looks rules.pattern) p.old true }
     requires some { 1 ≤ tokens p.old }
     ensures gives { (c : Bool) → Gives rules.pattern c p.old p.new }
-    ensures left { tokens p.new + 1 ≤ tokens p.old }
-    ensures looks { spent p.new + 2900 ≤ spent p.old }
+    ensures takes { Takes 2900 p.old p.new }
 {
     let frame = start(p);
     let frame = alternatives(p, frame);
@@ -51,13 +50,10 @@ pub fn pattern(p: &mut Parser<'_>)
 // A | B
 #[cycle(grammar)]
 fn alternatives(p: &mut Parser<'_>, frame: Marker) -> Marker
-    requires begins { (c : Bool) → Saw c (looks rules.pattern) p.old true }
-    requires some { 1 ≤ tokens p.old }
+    requires begins { Starts (looks rules.pattern) p.old }
     requires innermost { IsInnermost frame p.old.nodes }
     ensures reads { (c : Bool) → Reads c (rule rules.pattern) p.old p.new }
-    ensures marker { IsInnermost result p.new.nodes }
-    ensures left { tokens p.new + 1 ≤ tokens p.old }
-    ensures looks { spent p.new + 2900 ≤ spent p.old }
+    ensures takes { TakesIn result 2900 p.old p.new }
 {
     if at(p, SyntaxKind::PIPE) {
         take(p, SyntaxKind::PIPE);
@@ -75,8 +71,7 @@ fn alternatives(p: &mut Parser<'_>, frame: Marker) -> Marker
 fn one_further(p: &mut Parser<'_>)
     requires some { 1 ≤ tokens p.old }
     ensures reads { (c : Bool) → Reads c rows.further_alternative p.old p.new }
-    ensures left { tokens p.new + 1 ≤ tokens p.old }
-    ensures looks { spent p.new + 4080 ≤ spent p.old }
+    ensures takes { Takes 4080 p.old p.new }
 {
     take(p, SyntaxKind::PIPE);
     expect_single(p);
@@ -87,8 +82,7 @@ fn one_further(p: &mut Parser<'_>)
 #[cycle(grammar)]
 fn further(p: &mut Parser<'_>)
     ensures reads { (c : Bool) → Reads c (rows.further_alternative *) p.old p.new }
-    ensures left { tokens p.new ≤ tokens p.old }
-    ensures looks { spent p.new ≤ spent p.old + 1 }
+    ensures asks { Asks 1 p.old p.new }
 {
     'turns: while at(p, SyntaxKind::PIPE) {
         one_further(p);
@@ -101,9 +95,7 @@ fn further(p: &mut Parser<'_>)
 fn opt_further(p: &mut Parser<'_>, frame: Marker) -> Marker
     requires innermost { IsInnermost frame p.old.nodes }
     ensures reads { (c : Bool) → Reads c ⁅ rows.or_pattern ⁆ p.old p.new }
-    ensures marker { IsInnermost result p.new.nodes }
-    ensures left { tokens p.new ≤ tokens p.old }
-    ensures looks { spent p.new ≤ spent p.old + 1 }
+    ensures asks { AsksIn result 1 p.old p.new }
 {
     if at(p, SyntaxKind::PIPE) {
         one_further(p);

@@ -1,6 +1,6 @@
 //! Parameters of functions.
 
-ghost use Rattle.std.specs.Prelude.{◌≡◌, ◌≤◌, ◌+◌, Bool, true, false};
+ghost use Rattle.std.specs.Prelude.{◌≤◌, Bool, true};
 ghost use Rattle.parser_input.specs.Kinds as kinds;
 ghost use Rattle.parser_input.specs.Kinds.{NAME, SELF_PARAM};
 ghost use Rattle.rust_grammar.specs.Calls.{Lifetime};
@@ -11,8 +11,8 @@ ghost use Rattle.rust_grammar.specs.Rule.{Kind, One};
 ghost use Rattle.rust_grammar.specs.Words.{'&', 'mut', 'self'};
 ghost use Rattle.rust_grammar.specs.Items as rows;
 ghost use Rattle.rust_grammar.specs.Shared.{type_annotation};
-ghost use Rattle.rust_productions.specs.Looks.{tokens, spent};
-ghost use Rattle.rust_productions.specs.Reads.{looks, Does, Gives, Reads, Saw};
+ghost use Rattle.rust_productions.specs.Looks.{tokens, Takes, Asks, Peeks};
+ghost use Rattle.rust_productions.specs.Reads.{looks, Gives, Reads, Saw};
 
 use crate::grammar::expressions::closures::opt_type;
 use crate::grammar::or_patterns::pattern;
@@ -28,9 +28,7 @@ use rust_productions::grammar::{
 fn at_self_after_ref(p: &mut Parser<'_>) -> bool
     requires { (c : Bool) → Saw c (Kind 0 kinds.AMP) p.old true }
     ensures sees { (c : Bool) → Saw c self_begins p.old result }
-    ensures same { Does (λ s. s) p.old p.new }
-    ensures left { tokens p.new ≡ tokens p.old }
-    ensures looks { spent p.new ≤ spent p.old + 2 }
+    ensures peeks { Peeks 2 p.old p.new }
 {
     match nth(p, 1) {
         SyntaxKind::SELF_KW | SyntaxKind::LIFETIME_IDENT => true,
@@ -42,9 +40,7 @@ fn at_self_after_ref(p: &mut Parser<'_>) -> bool
 /// Returns `true` if a `self` parameter is next.
 fn at_self(p: &mut Parser<'_>) -> bool
     ensures sees { (c : Bool) → Saw c self_begins p.old result }
-    ensures same { Does (λ s. s) p.old p.new }
-    ensures left { tokens p.new ≡ tokens p.old }
-    ensures looks { spent p.new ≤ spent p.old + 3 }
+    ensures peeks { Peeks 3 p.old p.new }
 {
     match current(p) {
         SyntaxKind::SELF_KW => true,
@@ -61,8 +57,7 @@ pub(crate) fn param(p: &mut Parser<'_>, condition: bool)
     requires begins { (c : Bool) → Saw c (looks rules.param) p.old true }
     requires some { 1 ≤ tokens p.old }
     ensures gives { Gives rules.param condition p.old p.new }
-    ensures left { tokens p.new + 1 ≤ tokens p.old }
-    ensures looks { spent p.new + 2880 ≤ spent p.old }
+    ensures takes { Takes 2880 p.old p.new }
 {
     if at_self(p) {
         self_param(p, condition);
@@ -78,8 +73,7 @@ fn pattern_param(p: &mut Parser<'_>, condition: bool)
     requires begins { (c : Bool) → Saw c (looks rules.pattern) p.old true }
     requires some { 1 ≤ tokens p.old }
     ensures reads { Reads condition rows.pattern_param p.old p.new }
-    ensures left { tokens p.new + 1 ≤ tokens p.old }
-    ensures looks { spent p.new + 2890 ≤ spent p.old }
+    ensures takes { Takes 2890 p.old p.new }
 {
     let node = start(p);
     pattern(p);
@@ -95,8 +89,7 @@ fn self_param(p: &mut Parser<'_>, condition: bool)
     requires begins { (c : Bool) → Saw c self_begins p.old true }
     requires some { 1 ≤ tokens p.old }
     ensures gives { Gives rules.param condition p.old p.new }
-    ensures left { tokens p.new + 1 ≤ tokens p.old }
-    ensures looks { spent p.new + 4080 ≤ spent p.old }
+    ensures takes { Takes 4080 p.old p.new }
 {
     match current(p) {
         SyntaxKind::AMP => self_after_ref(p, condition),
@@ -109,8 +102,7 @@ fn self_param(p: &mut Parser<'_>, condition: bool)
 // self
 fn expect_self(p: &mut Parser<'_>)
     ensures reads { (c : Bool) → Reads c rows.self_name p.old p.new }
-    ensures left { tokens p.new ≤ tokens p.old }
-    ensures looks { spent p.new ≤ spent p.old + 1 }
+    ensures asks { Asks 1 p.old p.new }
 {
     let name = start(p);
     expect(p, SyntaxKind::SELF_KW);
@@ -124,8 +116,7 @@ fn self_after_ref(p: &mut Parser<'_>, condition: bool)
     requires some { 1 ≤ tokens p.old }
     ensures reads { Reads condition (SELF_PARAM ⟨ One '&' ▸ ⁅ Lifetime ⁆ ▸ ⁅ One 'mut' ⁆
         ▸ rows.self_name ▸ ⁅ type_annotation ⁆ ⟩) p.old p.new }
-    ensures left { tokens p.new + 1 ≤ tokens p.old }
-    ensures looks { spent p.new + 4090 ≤ spent p.old }
+    ensures takes { Takes 4090 p.old p.new }
 {
     let node = start(p);
     take(p, SyntaxKind::AMP);
@@ -143,8 +134,7 @@ fn self_after_mut(p: &mut Parser<'_>, condition: bool)
     requires some { 1 ≤ tokens p.old }
     ensures reads { Reads condition (SELF_PARAM ⟨ One 'mut'
         ▸ rows.self_name ▸ ⁅ type_annotation ⁆ ⟩) p.old p.new }
-    ensures left { tokens p.new + 1 ≤ tokens p.old }
-    ensures looks { spent p.new + 4090 ≤ spent p.old }
+    ensures takes { Takes 4090 p.old p.new }
 {
     let node = start(p);
     take(p, SyntaxKind::MUT_KW);
@@ -160,8 +150,7 @@ fn self_alone(p: &mut Parser<'_>, condition: bool)
     requires some { 1 ≤ tokens p.old }
     ensures reads { Reads condition (SELF_PARAM
         ⟨ NAME ⟨ One 'self' ⟩ ▸ ⁅ type_annotation ⁆ ⟩) p.old p.new }
-    ensures left { tokens p.new + 1 ≤ tokens p.old }
-    ensures looks { spent p.new + 4090 ≤ spent p.old }
+    ensures takes { Takes 4090 p.old p.new }
 {
     let node = start(p);
     word_type(p, SyntaxKind::SELF_KW, SyntaxKind::NAME);

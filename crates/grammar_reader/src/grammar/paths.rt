@@ -1,6 +1,6 @@
 //! Paths with arguments.
 
-ghost use Rattle.std.specs.Prelude.{◌≡◌, ◌≤◌, ◌+◌, Bool, true, IsTrue};
+ghost use Rattle.std.specs.Prelude.{◌≤◌, Bool, true, IsTrue};
 ghost use Rattle.parser_events.specs.Stack.{IsInnermost};
 ghost use Rattle.rust_grammar.specs.Notation.{⁅◌⁆, ◌!, ◌before◌};
 ghost use Rattle.rust_grammar.specs.Words.{'::', '<'};
@@ -9,8 +9,9 @@ ghost use Rattle.rust_grammar.specs.Rule as rules;
 ghost use Rattle.rust_grammar.specs.Rule.{One};
 ghost use Rattle.rust_grammar.specs.Paths as rows;
 ghost use Rattle.grammar_reader.specs.Told.{angle, args_look, args_of, path_of};
-ghost use Rattle.rust_productions.specs.Looks.{tokens, spent};
-ghost use Rattle.rust_productions.specs.Reads.{looks, Does, Gives, Reads, Saw};
+ghost use Rattle.rust_productions.specs.Looks.{tokens, Takes, Asks, Peeks, TakesTwoIn, AsksIn};
+ghost use Rattle.rust_productions.specs.Reads.{looks, Gives, Reads, Saw};
+ghost use Rattle.rust_productions.specs.Starts.{Starts};
 
 use crate::grammar::lists::{Element, rest_of_list};
 use parser_events::message::Message;
@@ -33,9 +34,7 @@ pub(crate) enum Mode {
 fn at_colons_before_args(p: &mut Parser<'_>) -> bool
     ensures sees { (c : Bool) → Saw c ('::' before '<') p.old result }
     ensures some { IsTrue result → 3 ≤ tokens p.old }
-    ensures same { Does (λ s. s) p.old p.new }
-    ensures left { tokens p.new ≡ tokens p.old }
-    ensures looks { spent p.new ≤ spent p.old + 3 }
+    ensures peeks { Peeks 3 p.old p.new }
 {
     if !at_colons(p) {
         return false;
@@ -47,9 +46,7 @@ fn at_colons_before_args(p: &mut Parser<'_>) -> bool
 fn at_angle(p: &mut Parser<'_>) -> bool
     ensures sees { (c : Bool) → Saw c angle p.old result }
     ensures some { IsTrue result → 1 ≤ tokens p.old }
-    ensures same { Does (λ s. s) p.old p.new }
-    ensures left { tokens p.new ≡ tokens p.old }
-    ensures looks { spent p.new ≤ spent p.old + 2 }
+    ensures peeks { Peeks 2 p.old p.new }
 {
     if !at(p, SyntaxKind::L_ANGLE) {
         return false;
@@ -61,9 +58,7 @@ fn at_angle(p: &mut Parser<'_>) -> bool
 fn at_args(p: &mut Parser<'_>, mode: Mode) -> bool
     ensures sees { (c : Bool) → Saw c (args_look mode) p.old result }
     ensures some { IsTrue result → 1 ≤ tokens p.old }
-    ensures same { Does (λ s. s) p.old p.new }
-    ensures left { tokens p.new ≡ tokens p.old }
-    ensures looks { spent p.new ≤ spent p.old + 5 }
+    ensures peeks { Peeks 5 p.old p.new }
 {
     if at_colons_before_args(p) {
         return true;
@@ -77,12 +72,10 @@ fn at_args(p: &mut Parser<'_>, mode: Mode) -> bool
 /// Parses the optional `::` of generic arguments.
 // ::
 fn opt_colons(p: &mut Parser<'_>)
-    requires begins { (c : Bool) → Saw c (looks rules.generic_args) p.old true }
-    requires some { 1 ≤ tokens p.old }
+    requires begins { Starts (looks rules.generic_args) p.old }
     ensures reads { (c : Bool) → Reads c ⁅ One '::' ⁆ p.old p.new }
     ensures some { 1 ≤ tokens p.new }
-    ensures left { tokens p.new ≤ tokens p.old }
-    ensures looks { spent p.new ≤ spent p.old + 3 }
+    ensures asks { Asks 3 p.old p.new }
 {
     if at_colons_before_args(p) {
         take_pair(p, SyntaxKind::COLON2);
@@ -96,8 +89,7 @@ pub(crate) fn generic_args(p: &mut Parser<'_>)
     requires begins { (c : Bool) → Saw c (looks rules.generic_args) p.old true }
     requires some { 1 ≤ tokens p.old }
     ensures gives { (c : Bool) → Gives rules.generic_args c p.old p.new }
-    ensures left { tokens p.new + 1 ≤ tokens p.old }
-    ensures looks { spent p.new + 3300 ≤ spent p.old }
+    ensures takes { Takes 3300 p.old p.new }
 {
     let list = start(p);
     opt_colons(p);
@@ -115,9 +107,7 @@ pub(crate) fn generic_args(p: &mut Parser<'_>)
 fn at_generic_args(p: &mut Parser<'_>) -> bool
     ensures sees { (c : Bool) → Saw c (looks rules.generic_args) p.old result }
     ensures some { IsTrue result → 1 ≤ tokens p.old }
-    ensures same { Does (λ s. s) p.old p.new }
-    ensures left { tokens p.new ≡ tokens p.old }
-    ensures looks { spent p.new ≤ spent p.old + 4 }
+    ensures peeks { Peeks 4 p.old p.new }
 {
     if at_colons_before_args(p) {
         return true;
@@ -130,8 +120,7 @@ fn at_generic_args(p: &mut Parser<'_>) -> bool
 #[cycle(grammar)]
 pub(crate) fn opt_generic_args(p: &mut Parser<'_>)
     ensures reads { (c : Bool) → Reads c ⁅ GenericArgs ⁆ p.old p.new }
-    ensures left { tokens p.new ≤ tokens p.old }
-    ensures looks { spent p.new ≤ spent p.old + 4 }
+    ensures asks { Asks 4 p.old p.new }
 {
     if at_generic_args(p) {
         generic_args(p);
@@ -143,8 +132,7 @@ pub(crate) fn opt_generic_args(p: &mut Parser<'_>)
 #[cycle(grammar)]
 fn opt_args(p: &mut Parser<'_>, mode: Mode)
     ensures reads { (c : Bool) → Reads c (args_of mode) p.old p.new }
-    ensures left { tokens p.new ≤ tokens p.old }
-    ensures looks { spent p.new ≤ spent p.old + 5 }
+    ensures asks { Asks 5 p.old p.new }
 {
     if at_args(p, mode) {
         generic_args(p);
@@ -158,8 +146,7 @@ fn first_segment(p: &mut Parser<'_>, mode: Mode)
     requires begins { (c : Bool) → Saw c (looks rules.path) p.old true }
     requires some { 1 ≤ tokens p.old }
     ensures reads { (c : Bool) → Reads c (rows.first_segment (args_of mode)) p.old p.new }
-    ensures left { tokens p.new + 1 ≤ tokens p.old }
-    ensures looks { spent p.new + 4080 ≤ spent p.old }
+    ensures takes { Takes 4080 p.old p.new }
 {
     let path = start(p);
     let segment = start(p);
@@ -174,8 +161,7 @@ fn first_segment(p: &mut Parser<'_>, mode: Mode)
 #[cycle(grammar)]
 fn expect_segment(p: &mut Parser<'_>, mode: Mode)
     ensures reads { (c : Bool) → Reads c (rows.segment (args_of mode) !) p.old p.new }
-    ensures left { tokens p.new ≤ tokens p.old }
-    ensures looks { spent p.new ≤ spent p.old + 1 }
+    ensures asks { Asks 1 p.old p.new }
 {
     if at_name_ref(p) {
         let segment = start(p);
@@ -194,9 +180,7 @@ fn next_segment(p: &mut Parser<'_>, path: Marker, mode: Mode) -> Marker
     requires innermost { IsInnermost path p.old.nodes }
     requires some { 2 ≤ tokens p.old }
     ensures reads { (c : Bool) → Reads c (rows.next_segment (args_of mode)) p.old p.new }
-    ensures marker { IsInnermost result p.new.nodes }
-    ensures left { tokens p.new + 2 ≤ tokens p.old }
-    ensures looks { spent p.new + 8000 ≤ spent p.old }
+    ensures takes { TakesTwoIn result 8000 p.old p.new }
 {
     take_pair(p, SyntaxKind::COLON2);
     expect_segment(p, mode);
@@ -209,9 +193,7 @@ fn next_segment(p: &mut Parser<'_>, path: Marker, mode: Mode) -> Marker
 fn next_segments(p: &mut Parser<'_>, path: Marker, mode: Mode) -> Marker
     requires innermost { IsInnermost path p.old.nodes }
     ensures reads { (c : Bool) → Reads c (rows.next_segments (args_of mode)) p.old p.new }
-    ensures marker { IsInnermost result p.new.nodes }
-    ensures left { tokens p.new ≤ tokens p.old }
-    ensures looks { spent p.new ≤ spent p.old + 3 }
+    ensures asks { AsksIn result 3 p.old p.new }
 {
     let mut path = path;
     'turns: while at_next_segment(p) {
@@ -227,8 +209,7 @@ pub(crate) fn path_with_args(p: &mut Parser<'_>, mode: Mode)
     requires begins { (c : Bool) → Saw c (looks rules.path) p.old true }
     requires some { 1 ≤ tokens p.old }
     ensures gives { (c : Bool) → Gives (path_of mode) c p.old p.new }
-    ensures left { tokens p.new + 1 ≤ tokens p.old }
-    ensures looks { spent p.new + 4000 ≤ spent p.old }
+    ensures takes { Takes 4000 p.old p.new }
 {
     let frame = start(p);
     first_segment(p, mode);

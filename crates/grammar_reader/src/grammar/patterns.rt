@@ -1,6 +1,6 @@
 //! Patterns.
 
-ghost use Rattle.std.specs.Prelude.{◌≡◌, ◌≤◌, ◌+◌, Bool, true, false, IsTrue};
+ghost use Rattle.std.specs.Prelude.{◌≡◌, ◌≤◌, ◌+◌, Bool, true, IsTrue};
 ghost use Rattle.parser_input.specs.Kinds.{IDENT_PAT, LITERAL_PAT};
 ghost use Rattle.parser_events.specs.Stack.{IsInnermost};
 ghost use Rattle.rust_grammar.specs.Calls.{Literal, Name, SinglePattern};
@@ -10,8 +10,9 @@ ghost use Rattle.rust_grammar.specs.Rule.{One};
 ghost use Rattle.rust_grammar.specs.Whole.{rule};
 ghost use Rattle.rust_grammar.specs.Words.{'dots', 'l_paren', '-', 'mut', 'ref'};
 ghost use Rattle.rust_grammar.specs.Patterns as rows;
-ghost use Rattle.rust_productions.specs.Looks.{tokens, spent};
-ghost use Rattle.rust_productions.specs.Reads.{looks, Does, Gives, Reads, Saw};
+ghost use Rattle.rust_productions.specs.Looks.{tokens, spent, Takes, Asks, Peeks, TakesIn, AsksIn};
+ghost use Rattle.rust_productions.specs.Reads.{looks, Gives, Reads, Saw};
+ghost use Rattle.rust_productions.specs.Starts.{Starts};
 
 use crate::grammar::lists::{Element, pattern_fields, rest_of_list, tuple_tail};
 use crate::grammar::or_patterns::expect_pattern;
@@ -32,9 +33,7 @@ use rust_productions::grammar::{
 fn at_ident_pat(p: &mut Parser<'_>) -> bool
     ensures sees { (c : Bool) → Saw c rows.name_alone p.old result }
     ensures some { IsTrue result → 1 ≤ tokens p.old }
-    ensures same { Does (λ s. s) p.old p.new }
-    ensures left { tokens p.new ≡ tokens p.old }
-    ensures looks { spent p.new ≤ spent p.old + 4 }
+    ensures peeks { Peeks 4 p.old p.new }
 {
     if !at(p, SyntaxKind::IDENT) {
         return false;
@@ -52,9 +51,7 @@ fn at_ident_pat(p: &mut Parser<'_>) -> bool
 fn at_paren_before_dots(p: &mut Parser<'_>) -> bool
     ensures sees { (c : Bool) → Saw c ('l_paren' before 'dots') p.old result }
     ensures some { IsTrue result → 1 ≤ tokens p.old }
-    ensures same { Does (λ s. s) p.old p.new }
-    ensures left { tokens p.new ≡ tokens p.old }
-    ensures looks { spent p.new ≤ spent p.old + 3 }
+    ensures peeks { Peeks 3 p.old p.new }
 {
     if !at(p, SyntaxKind::L_PAREN) {
         return false;
@@ -69,8 +66,7 @@ pub(crate) fn single_pattern(p: &mut Parser<'_>)
     requires begins { (c : Bool) → Saw c (looks rules.single_pattern) p.old true }
     requires some { 1 ≤ tokens p.old }
     ensures gives { (c : Bool) → Gives rules.single_pattern c p.old p.new }
-    ensures left { tokens p.new + 1 ≤ tokens p.old }
-    ensures looks { spent p.new + 2910 ≤ spent p.old }
+    ensures takes { Takes 2910 p.old p.new }
 {
     let frame = start(p);
     let frame = inside(p, frame);
@@ -81,13 +77,10 @@ pub(crate) fn single_pattern(p: &mut Parser<'_>)
 // (a, ..)
 #[cycle(grammar)]
 fn inside(p: &mut Parser<'_>, frame: Marker) -> Marker
-    requires begins { (c : Bool) → Saw c (looks rules.single_pattern) p.old true }
-    requires some { 1 ≤ tokens p.old }
+    requires begins { Starts (looks rules.single_pattern) p.old }
     requires innermost { IsInnermost frame p.old.nodes }
     ensures reads { (c : Bool) → Reads c (rule rules.single_pattern) p.old p.new }
-    ensures marker { IsInnermost result p.new.nodes }
-    ensures left { tokens p.new + 1 ≤ tokens p.old }
-    ensures looks { spent p.new + 2910 ≤ spent p.old }
+    ensures takes { TakesIn result 2910 p.old p.new }
 {
     match current(p) {
         SyntaxKind::MINUS => {
@@ -144,8 +137,7 @@ fn inside(p: &mut Parser<'_>, frame: Marker) -> Marker
 fn negative(p: &mut Parser<'_>)
     requires { 1 ≤ tokens p.old }
     ensures reads { (c : Bool) → Reads c (LITERAL_PAT ⟨ One '-' ▸ Literal ! ⟩) p.old p.new }
-    ensures left { tokens p.new + 1 ≤ tokens p.old }
-    ensures looks { spent p.new + 4090 ≤ spent p.old }
+    ensures takes { Takes 4090 p.old p.new }
 {
     let node = start(p);
     take(p, SyntaxKind::MINUS);
@@ -184,8 +176,7 @@ pub(crate) fn rest_pat(p: &mut Parser<'_>)
 #[cycle(grammar)]
 pub(crate) fn expect_single(p: &mut Parser<'_>)
     ensures reads { (c : Bool) → Reads c (SinglePattern !) p.old p.new }
-    ensures left { tokens p.new ≤ tokens p.old }
-    ensures looks { spent p.new ≤ spent p.old + 8 }
+    ensures asks { Asks 8 p.old p.new }
 {
     if at_single_pattern(p) {
         single_pattern(p);
@@ -200,8 +191,7 @@ pub(crate) fn expect_single(p: &mut Parser<'_>)
 fn ref_pat(p: &mut Parser<'_>)
     requires some { 1 ≤ tokens p.old }
     ensures reads { (c : Bool) → Reads c rows.ref_pat p.old p.new }
-    ensures left { tokens p.new + 1 ≤ tokens p.old }
-    ensures looks { spent p.new + 4080 ≤ spent p.old }
+    ensures takes { Takes 4080 p.old p.new }
 {
     let node = start(p);
     take(p, SyntaxKind::AMP);
@@ -216,8 +206,7 @@ fn ref_pat(p: &mut Parser<'_>)
 fn slice_pat(p: &mut Parser<'_>)
     requires some { 1 ≤ tokens p.old }
     ensures reads { (c : Bool) → Reads c rows.slice_pat p.old p.new }
-    ensures left { tokens p.new + 1 ≤ tokens p.old }
-    ensures looks { spent p.new + 3300 ≤ spent p.old }
+    ensures takes { Takes 3300 p.old p.new }
 {
     let node = start(p);
     take(p, SyntaxKind::L_BRACK);
@@ -236,8 +225,7 @@ fn slice_pat(p: &mut Parser<'_>)
 fn tuple_pat(p: &mut Parser<'_>)
     requires some { 1 ≤ tokens p.old }
     ensures reads { (c : Bool) → Reads c rows.tuple_pat p.old p.new }
-    ensures left { tokens p.new + 1 ≤ tokens p.old }
-    ensures looks { spent p.new + 3300 ≤ spent p.old }
+    ensures takes { Takes 3300 p.old p.new }
 {
     let node = start(p);
     take(p, SyntaxKind::L_PAREN);
@@ -255,8 +243,7 @@ fn tuple_pat(p: &mut Parser<'_>)
 #[cycle(grammar)]
 fn opt_at(p: &mut Parser<'_>)
     ensures reads { (c : Bool) → Reads c ⁅ rows.at_pattern ⁆ p.old p.new }
-    ensures left { tokens p.new ≤ tokens p.old }
-    ensures looks { spent p.new ≤ spent p.old + 1 }
+    ensures asks { Asks 1 p.old p.new }
 {
     if at(p, SyntaxKind::AT) {
         take(p, SyntaxKind::AT);
@@ -270,8 +257,7 @@ fn opt_at(p: &mut Parser<'_>)
 fn ident_pat(p: &mut Parser<'_>)
     requires some { 1 ≤ tokens p.old }
     ensures reads { (c : Bool) → Reads c (IDENT_PAT ⟨ Name ▸ ⁅ rows.at_pattern ⁆ ⟩) p.old p.new }
-    ensures left { tokens p.new + 1 ≤ tokens p.old }
-    ensures looks { spent p.new + 4090 ≤ spent p.old }
+    ensures takes { Takes 4090 p.old p.new }
 {
     let node = start(p);
     name(p);
@@ -286,8 +272,7 @@ fn ident_after_mut(p: &mut Parser<'_>)
     requires some { 1 ≤ tokens p.old }
     ensures reads { (c : Bool) → Reads c
         (IDENT_PAT ⟨ One 'mut' ▸ Name ! ▸ ⁅ rows.at_pattern ⁆ ⟩) p.old p.new }
-    ensures left { tokens p.new + 1 ≤ tokens p.old }
-    ensures looks { spent p.new + 4090 ≤ spent p.old }
+    ensures takes { Takes 4090 p.old p.new }
 {
     let node = start(p);
     take(p, SyntaxKind::MUT_KW);
@@ -303,8 +288,7 @@ fn ident_after_ref(p: &mut Parser<'_>)
     requires some { 1 ≤ tokens p.old }
     ensures reads { (c : Bool) → Reads c (IDENT_PAT ⟨ One 'ref' ▸ ⁅ One 'mut' ⁆ ▸ Name !
         ▸ ⁅ rows.at_pattern ⁆ ⟩) p.old p.new }
-    ensures left { tokens p.new + 1 ≤ tokens p.old }
-    ensures looks { spent p.new + 4090 ≤ spent p.old }
+    ensures takes { Takes 4090 p.old p.new }
 {
     let node = start(p);
     take(p, SyntaxKind::REF_KW);
@@ -321,9 +305,7 @@ fn paren_pat(p: &mut Parser<'_>, frame: Marker) -> Marker
     requires some { 1 ≤ tokens p.old }
     requires innermost { IsInnermost frame p.old.nodes }
     ensures reads { (c : Bool) → Reads c rows.tuple_or_paren p.old p.new }
-    ensures marker { IsInnermost result p.new.nodes }
-    ensures left { tokens p.new + 1 ≤ tokens p.old }
-    ensures looks { spent p.new + 3000 ≤ spent p.old }
+    ensures takes { TakesIn result 3000 p.old p.new }
 {
     take(p, SyntaxKind::L_PAREN);
     after_paren(p, frame)
@@ -335,9 +317,7 @@ fn paren_pat(p: &mut Parser<'_>, frame: Marker) -> Marker
 fn after_paren(p: &mut Parser<'_>, frame: Marker) -> Marker
     requires innermost { IsInnermost frame p.old.nodes }
     ensures reads { (c : Bool) → Reads c rows.after_l_paren p.old p.new }
-    ensures marker { IsInnermost result p.new.nodes }
-    ensures left { tokens p.new ≤ tokens p.old }
-    ensures looks { spent p.new ≤ spent p.old + 20 }
+    ensures asks { AsksIn result 20 p.old p.new }
 {
     if at(p, SyntaxKind::R_PAREN) {
         take(p, SyntaxKind::R_PAREN);
@@ -357,13 +337,10 @@ fn after_paren(p: &mut Parser<'_>, frame: Marker) -> Marker
 // Some(a)
 #[cycle(grammar)]
 fn path_pat(p: &mut Parser<'_>, frame: Marker) -> Marker
-    requires begins { (c : Bool) → Saw c (looks rules.path) p.old true }
-    requires some { 1 ≤ tokens p.old }
+    requires begins { Starts (looks rules.path) p.old }
     requires innermost { IsInnermost frame p.old.nodes }
     ensures reads { (c : Bool) → Reads c rows.path_pat p.old p.new }
-    ensures marker { IsInnermost result p.new.nodes }
-    ensures left { tokens p.new + 1 ≤ tokens p.old }
-    ensures looks { spent p.new + 3990 ≤ spent p.old }
+    ensures takes { TakesIn result 3990 p.old p.new }
 {
     path_with_args(p, Mode::Expr);
     after_path(p, frame)
@@ -375,9 +352,7 @@ fn path_pat(p: &mut Parser<'_>, frame: Marker) -> Marker
 fn after_path(p: &mut Parser<'_>, frame: Marker) -> Marker
     requires innermost { IsInnermost frame p.old.nodes }
     ensures reads { (c : Bool) → Reads c rows.after_path p.old p.new }
-    ensures marker { IsInnermost result p.new.nodes }
-    ensures left { tokens p.new ≤ tokens p.old }
-    ensures looks { spent p.new ≤ spent p.old + 2 }
+    ensures asks { AsksIn result 2 p.old p.new }
 {
     if at(p, SyntaxKind::L_PAREN) {
         take(p, SyntaxKind::L_PAREN);

@@ -1,6 +1,6 @@
 //! Statements.
 
-ghost use Rattle.std.specs.Prelude.{◌≡◌, ◌≤◌, ◌<◌, ◌+◌, Bool, IsTrue, true, false, [], ◌∷◌};
+ghost use Rattle.std.specs.Prelude.{◌≤◌, ◌<◌, ◌+◌, Bool, IsTrue, true, false, [], ◌∷◌};
 ghost use Rattle.parser_events.specs.Stack.{IsInnermost};
 ghost use Rattle.rust_grammar.specs.Calls.{BlockLike};
 ghost use Rattle.rust_grammar.specs.Notation.{◌▸◌, ⁅◌⁆, ◌before◌, more, one_of};
@@ -9,8 +9,9 @@ ghost use Rattle.rust_grammar.specs.Statements.{goes_on, item_begins};
 ghost use Rattle.rust_grammar.specs.Words.{'#', '!', 'fn', 'impl', 'trait'};
 ghost use Rattle.rust_grammar.specs.Statements as rows;
 ghost use Rattle.grammar_reader.specs.Told.{after_block_of, listing_of};
-ghost use Rattle.rust_productions.specs.Looks.{tokens, spent};
-ghost use Rattle.rust_productions.specs.Reads.{looks, Anew, Does, Gives, Reads, Saw};
+ghost use Rattle.rust_productions.specs.Looks.{tokens, spent, Takes, Asks, Peeks, AsksIn};
+ghost use Rattle.rust_productions.specs.Reads.{looks, Anew, Gives, Reads, Saw};
+ghost use Rattle.rust_productions.specs.Starts.{StartsIn};
 
 use crate::grammar::attributes::attribute;
 use crate::grammar::expressions::closures::opt_type;
@@ -35,9 +36,8 @@ use rust_productions::grammar::{
 pub(crate) fn statement(p: &mut Parser<'_>, end: ListEnd)
     requires some { 1 ≤ tokens p.old }
     ensures gives { Gives (listing_of end).one false p.old p.new }
-    ensures left { tokens p.new ≤ tokens p.old }
+    ensures asks { Asks 900 p.old p.new }
     ensures pays { tokens p.new < tokens p.old → spent p.new + 1500 ≤ spent p.old }
-    ensures looks { spent p.new ≤ spent p.old + 900 }
 {
     match current(p) {
         SyntaxKind::SEMICOLON => take(p, SyntaxKind::SEMICOLON),
@@ -61,9 +61,7 @@ pub(crate) fn statement(p: &mut Parser<'_>, end: ListEnd)
 pub(crate) fn at_inner_attribute(p: &mut Parser<'_>) -> bool
     ensures sees { (c : Bool) → Saw c ('#' before '!') p.old result }
     ensures some { IsTrue result → 1 ≤ tokens p.old }
-    ensures same { Does (λ s. s) p.old p.new }
-    ensures left { tokens p.new ≡ tokens p.old }
-    ensures looks { spent p.new ≤ spent p.old + 2 }
+    ensures peeks { Peeks 2 p.old p.new }
 {
     if !at(p, SyntaxKind::POUND) {
         return false;
@@ -75,9 +73,7 @@ pub(crate) fn at_inner_attribute(p: &mut Parser<'_>) -> bool
 fn at_item(p: &mut Parser<'_>) -> bool
     ensures sees { (c : Bool) → Saw c item_begins p.old result }
     ensures some { IsTrue result → 1 ≤ tokens p.old }
-    ensures same { Does (λ s. s) p.old p.new }
-    ensures left { tokens p.new ≡ tokens p.old }
-    ensures looks { spent p.new ≤ spent p.old + 2 }
+    ensures peeks { Peeks 2 p.old p.new }
 {
     match current(p) {
         SyntaxKind::POUND
@@ -100,9 +96,7 @@ fn at_item(p: &mut Parser<'_>) -> bool
 /// Returns `true` if the token after the next one is `fn`, `impl` or `trait`.
 fn at_item_after_unsafe(p: &mut Parser<'_>) -> bool
     ensures sees { (c : Bool) → Saw c (one_of 1 ('fn' ∷ 'impl' ∷ 'trait' ∷ [])) p.old result }
-    ensures same { Does (λ s. s) p.old p.new }
-    ensures left { tokens p.new ≡ tokens p.old }
-    ensures looks { spent p.new ≤ spent p.old + 1 }
+    ensures peeks { Peeks 1 p.old p.new }
 {
     match nth(p, 1) {
         SyntaxKind::FN_KW | SyntaxKind::IMPL_KW | SyntaxKind::TRAIT_KW => true,
@@ -116,8 +110,7 @@ fn at_item_after_unsafe(p: &mut Parser<'_>) -> bool
 fn defer_stmt(p: &mut Parser<'_>)
     requires some { 1 ≤ tokens p.old }
     ensures reads { (c : Bool) → Reads c rows.defer_stmt p.old p.new }
-    ensures left { tokens p.new + 1 ≤ tokens p.old }
-    ensures looks { spent p.new + 4090 ≤ spent p.old }
+    ensures takes { Takes 4090 p.old p.new }
 {
     let node = start(p);
     take(p, SyntaxKind::DEFER_KW);
@@ -131,8 +124,7 @@ fn defer_stmt(p: &mut Parser<'_>)
 fn let_stmt(p: &mut Parser<'_>)
     requires some { 1 ≤ tokens p.old }
     ensures reads { Reads false rows.let_stmt p.old p.new }
-    ensures left { tokens p.new + 1 ≤ tokens p.old }
-    ensures looks { spent p.new + 4000 ≤ spent p.old }
+    ensures takes { Takes 4000 p.old p.new }
 {
     let node = start(p);
     take(p, SyntaxKind::LET_KW);
@@ -149,8 +141,7 @@ fn let_stmt(p: &mut Parser<'_>)
 #[cycle(grammar)]
 fn opt_else(p: &mut Parser<'_>)
     ensures reads { (c : Bool) → Reads c ⁅ rows.let_else ⁆ p.old p.new }
-    ensures left { tokens p.new ≤ tokens p.old }
-    ensures looks { spent p.new ≤ spent p.old + 1 }
+    ensures asks { Asks 1 p.old p.new }
 {
     if at(p, SyntaxKind::ELSE_KW) {
         let_else(p);
@@ -163,8 +154,7 @@ fn opt_else(p: &mut Parser<'_>)
 fn let_else(p: &mut Parser<'_>)
     requires some { 1 ≤ tokens p.old }
     ensures reads { (c : Bool) → Reads c rows.let_else p.old p.new }
-    ensures left { tokens p.new + 1 ≤ tokens p.old }
-    ensures looks { spent p.new + 4090 ≤ spent p.old }
+    ensures takes { Takes 4090 p.old p.new }
 {
     let node = start(p);
     take(p, SyntaxKind::ELSE_KW);
@@ -179,9 +169,8 @@ fn let_else(p: &mut Parser<'_>)
 fn expression_statement(p: &mut Parser<'_>, end: ListEnd)
     requires some { 1 ≤ tokens p.old }
     ensures anew { Anew false (rows.expression_statement (listing_of end)) p.old p.new }
-    ensures left { tokens p.new ≤ tokens p.old }
+    ensures asks { Asks 800 p.old p.new }
     ensures pays { tokens p.new < tokens p.old → spent p.new + 1550 ≤ spent p.old }
-    ensures looks { spent p.new ≤ spent p.old + 800 }
 {
     if at_block_like(p) {
         block_statement(p, end);
@@ -201,8 +190,7 @@ fn block_statement(p: &mut Parser<'_>, end: ListEnd)
     requires begins { (c : Bool) → Saw c (looks rules.block_like) p.old true }
     requires some { 1 ≤ tokens p.old }
     ensures anew { (c : Bool) → Anew c (BlockLike ▸ after_block_of end) p.old p.new }
-    ensures left { tokens p.new + 1 ≤ tokens p.old }
-    ensures looks { spent p.new + 2880 ≤ spent p.old }
+    ensures takes { Takes 2880 p.old p.new }
 {
     let frame = start(p);
     block_like(p);
@@ -215,9 +203,7 @@ fn block_statement(p: &mut Parser<'_>, end: ListEnd)
 fn at_more(p: &mut Parser<'_>) -> bool
     ensures sees { (c : Bool) → Saw c goes_on p.old result }
     ensures some { IsTrue result → 1 ≤ tokens p.old }
-    ensures same { Does (λ s. s) p.old p.new }
-    ensures left { tokens p.new ≡ tokens p.old }
-    ensures looks { spent p.new ≤ spent p.old + 3 }
+    ensures peeks { Peeks 3 p.old p.new }
 {
     match current(p) {
         SyntaxKind::QUESTION => true,
@@ -237,9 +223,7 @@ fn at_more(p: &mut Parser<'_>) -> bool
 fn after_block(p: &mut Parser<'_>, frame: Marker, end: ListEnd) -> Marker
     requires innermost { IsInnermost frame p.old.nodes }
     ensures reads { (c : Bool) → Reads c (after_block_of end) p.old p.new }
-    ensures marker { IsInnermost result p.new.nodes }
-    ensures left { tokens p.new ≤ tokens p.old }
-    ensures looks { spent p.new ≤ spent p.old + 6 }
+    ensures asks { AsksIn result 6 p.old p.new }
 {
     if at_more(p) {
         let frame = postfix(p, frame);
@@ -260,12 +244,10 @@ fn after_block(p: &mut Parser<'_>, frame: Marker, end: ListEnd) -> Marker
 // f();
 #[cycle(grammar)]
 fn ended_expression(p: &mut Parser<'_>, end: ListEnd)
-    requires begins { Saw false (looks rules.expression) p.old true }
-    requires some { 1 ≤ tokens p.old }
+    requires begins { StartsIn false (looks rules.expression) p.old }
     ensures anew { Anew false (rows.ended_expression (listing_of end)) p.old p.new }
-    ensures left { tokens p.new ≤ tokens p.old }
+    ensures asks { Asks 604 p.old p.new }
     ensures pays { tokens p.new < tokens p.old → spent p.new + 1790 ≤ spent p.old }
-    ensures looks { spent p.new ≤ spent p.old + 604 }
 {
     let frame = start(p);
     expression(p, false);
@@ -278,10 +260,8 @@ fn ended_expression(p: &mut Parser<'_>, end: ListEnd)
 fn statement_end(p: &mut Parser<'_>, frame: Marker, end: ListEnd) -> Marker
     requires { IsInnermost frame p.old.nodes }
     ensures reads { (c : Bool) → Reads c (more (listing_of end).end) p.old p.new }
-    ensures marker { IsInnermost result p.new.nodes }
-    ensures left { tokens p.new ≤ tokens p.old }
+    ensures asks { AsksIn result 3 p.old p.new }
     ensures pays { tokens p.new < tokens p.old → spent p.new + 4000 ≤ spent p.old }
-    ensures looks { spent p.new ≤ spent p.old + 3 }
 {
     if at(p, SyntaxKind::SEMICOLON) {
         take(p, SyntaxKind::SEMICOLON);

@@ -12,8 +12,9 @@ ghost use Rattle.rust_grammar.specs.Whole.{rule};
 ghost use Rattle.rust_grammar.specs.Words.{one};
 ghost use Rattle.rust_grammar.specs.Shared as shared;
 ghost use Rattle.rust_grammar.specs.Types as rows;
-ghost use Rattle.rust_productions.specs.Looks.{tokens, spent};
+ghost use Rattle.rust_productions.specs.Looks.{tokens, spent, Takes, Asks, TakesIn, AsksIn};
 ghost use Rattle.rust_productions.specs.Reads.{looks, Gives, Reads, Saw};
+ghost use Rattle.rust_productions.specs.Starts.{StartsIn};
 
 use crate::grammar::expressions::{Level, expect_expression};
 use crate::grammar::generic_params::bounds;
@@ -35,8 +36,7 @@ pub fn any_type(p: &mut Parser<'_>, condition: bool)
     requires begins { Saw condition (looks rules.any_type) p.old true }
     requires some { 1 ≤ tokens p.old }
     ensures gives { Gives rules.any_type condition p.old p.new }
-    ensures left { tokens p.new + 1 ≤ tokens p.old }
-    ensures looks { spent p.new + 2910 ≤ spent p.old }
+    ensures takes { Takes 2910 p.old p.new }
 {
     let frame = start(p);
     let frame = inside(p, frame, condition);
@@ -47,13 +47,10 @@ pub fn any_type(p: &mut Parser<'_>, condition: bool)
 // [u8]
 #[cycle(grammar)]
 fn inside(p: &mut Parser<'_>, frame: Marker, condition: bool) -> Marker
-    requires begins { Saw condition (looks rules.any_type) p.old true }
-    requires some { 1 ≤ tokens p.old }
+    requires begins { StartsIn condition (looks rules.any_type) p.old }
     requires innermost { IsInnermost frame p.old.nodes }
     ensures reads { Reads condition (rule rules.any_type) p.old p.new }
-    ensures marker { IsInnermost result p.new.nodes }
-    ensures left { tokens p.new + 1 ≤ tokens p.old }
-    ensures looks { spent p.new + 2910 ≤ spent p.old }
+    ensures takes { TakesIn result 2910 p.old p.new }
 {
     match current(p) {
         SyntaxKind::L_PAREN => paren_type(p, frame, condition),
@@ -113,8 +110,7 @@ fn bounded_type(p: &mut Parser<'_>, token: SyntaxKind, kind: SyntaxKind)
     requires some { 1 ≤ tokens p.old }
     ensures reads { (c : Bool) → Reads c
         (raw_of kind ⟨ One (one (raw_of token)) ▸ Bounds ⟩) p.old p.new }
-    ensures left { tokens p.new + 1 ≤ tokens p.old }
-    ensures looks { spent p.new + 4090 ≤ spent p.old }
+    ensures takes { Takes 4090 p.old p.new }
 {
     let node = start(p);
     take(p, token);
@@ -129,8 +125,7 @@ pub(crate) fn path_type(p: &mut Parser<'_>)
     requires begins { (c : Bool) → Saw c (looks rules.path) p.old true }
     requires some { 1 ≤ tokens p.old }
     ensures reads { (c : Bool) → Reads c shared.path_type p.old p.new }
-    ensures left { tokens p.new + 1 ≤ tokens p.old }
-    ensures looks { spent p.new + 4000 ≤ spent p.old }
+    ensures takes { Takes 4000 p.old p.new }
 {
     let node = start(p);
     path_with_args(p, Mode::Type);
@@ -142,8 +137,7 @@ pub(crate) fn path_type(p: &mut Parser<'_>)
 #[cycle(grammar)]
 pub(crate) fn expect_type(p: &mut Parser<'_>, condition: bool)
     ensures reads { Reads condition (AnyType !) p.old p.new }
-    ensures left { tokens p.new ≤ tokens p.old }
-    ensures looks { spent p.new ≤ spent p.old + 5 }
+    ensures asks { Asks 5 p.old p.new }
 {
     if at_type(p) {
         any_type(p, condition);
@@ -158,8 +152,7 @@ pub(crate) fn expect_type(p: &mut Parser<'_>, condition: bool)
 fn ptr_type(p: &mut Parser<'_>, condition: bool)
     requires some { 1 ≤ tokens p.old }
     ensures reads { Reads condition rows.ptr_type p.old p.new }
-    ensures left { tokens p.new + 1 ≤ tokens p.old }
-    ensures looks { spent p.new + 4080 ≤ spent p.old }
+    ensures takes { Takes 4080 p.old p.new }
 {
     let node = start(p);
     take(p, SyntaxKind::STAR);
@@ -172,8 +165,7 @@ fn ptr_type(p: &mut Parser<'_>, condition: bool)
 // mut
 fn const_or_mut(p: &mut Parser<'_>)
     ensures reads { (c : Bool) → Reads c rows.const_or_mut p.old p.new }
-    ensures left { tokens p.new ≤ tokens p.old }
-    ensures looks { spent p.new ≤ spent p.old + 2 }
+    ensures asks { Asks 2 p.old p.new }
 {
     if at(p, SyntaxKind::CONST_KW) {
         take(p, SyntaxKind::CONST_KW);
@@ -188,8 +180,7 @@ fn const_or_mut(p: &mut Parser<'_>)
 fn ref_type(p: &mut Parser<'_>, condition: bool)
     requires some { 1 ≤ tokens p.old }
     ensures reads { Reads condition rows.ref_type p.old p.new }
-    ensures left { tokens p.new + 1 ≤ tokens p.old }
-    ensures looks { spent p.new + 4080 ≤ spent p.old }
+    ensures takes { Takes 4080 p.old p.new }
 {
     let node = start(p);
     take(p, SyntaxKind::AMP);
@@ -206,9 +197,7 @@ fn paren_type(p: &mut Parser<'_>, frame: Marker, condition: bool) -> Marker
     requires some { 1 ≤ tokens p.old }
     requires innermost { IsInnermost frame p.old.nodes }
     ensures reads { Reads condition rows.tuple_or_paren p.old p.new }
-    ensures marker { IsInnermost result p.new.nodes }
-    ensures left { tokens p.new + 1 ≤ tokens p.old }
-    ensures looks { spent p.new + 3200 ≤ spent p.old }
+    ensures takes { TakesIn result 3200 p.old p.new }
 {
     take(p, SyntaxKind::L_PAREN);
     after_paren(p, frame, condition)
@@ -220,9 +209,7 @@ fn paren_type(p: &mut Parser<'_>, frame: Marker, condition: bool) -> Marker
 fn after_paren(p: &mut Parser<'_>, frame: Marker, condition: bool) -> Marker
     requires innermost { IsInnermost frame p.old.nodes }
     ensures reads { Reads condition rows.after_l_paren p.old p.new }
-    ensures marker { IsInnermost result p.new.nodes }
-    ensures left { tokens p.new ≤ tokens p.old }
-    ensures looks { spent p.new ≤ spent p.old + 8 }
+    ensures asks { AsksIn result 8 p.old p.new }
 {
     if at(p, SyntaxKind::R_PAREN) {
         take(p, SyntaxKind::R_PAREN);
@@ -245,9 +232,7 @@ fn bracket_type(p: &mut Parser<'_>, frame: Marker, condition: bool) -> Marker
     requires some { 1 ≤ tokens p.old }
     requires innermost { IsInnermost frame p.old.nodes }
     ensures reads { Reads condition rows.array_or_slice p.old p.new }
-    ensures marker { IsInnermost result p.new.nodes }
-    ensures left { tokens p.new + 1 ≤ tokens p.old }
-    ensures looks { spent p.new + 3200 ≤ spent p.old }
+    ensures takes { TakesIn result 3200 p.old p.new }
 {
     take(p, SyntaxKind::L_BRACK);
     expect_type(p, condition);
@@ -260,9 +245,7 @@ fn bracket_type(p: &mut Parser<'_>, frame: Marker, condition: bool) -> Marker
 fn after_element(p: &mut Parser<'_>, frame: Marker) -> Marker
     requires innermost { IsInnermost frame p.old.nodes }
     ensures reads { (c : Bool) → Reads c rows.after_element p.old p.new }
-    ensures marker { IsInnermost result p.new.nodes }
-    ensures left { tokens p.new ≤ tokens p.old }
-    ensures looks { spent p.new ≤ spent p.old + 2 }
+    ensures asks { AsksIn result 2 p.old p.new }
 {
     if at(p, SyntaxKind::SEMICOLON) {
         take(p, SyntaxKind::SEMICOLON);
@@ -279,8 +262,7 @@ fn after_element(p: &mut Parser<'_>, frame: Marker) -> Marker
 #[cycle(grammar)]
 fn array_length(p: &mut Parser<'_>)
     ensures reads { (c : Bool) → Reads c rows.array_length p.old p.new }
-    ensures left { tokens p.new ≤ tokens p.old }
-    ensures looks { spent p.new ≤ spent p.old + 770 }
+    ensures asks { Asks 770 p.old p.new }
 {
     let node = start(p);
     expect_expression(p, Level::Expression, false);
@@ -293,8 +275,7 @@ fn array_length(p: &mut Parser<'_>)
 pub(crate) fn ret_type(p: &mut Parser<'_>, condition: bool)
     requires some { 2 ≤ tokens p.old }
     ensures gives { Gives rules.ret_type condition p.old p.new }
-    ensures left { tokens p.new + 1 ≤ tokens p.old }
-    ensures looks { spent p.new + 4090 ≤ spent p.old }
+    ensures takes { Takes 4090 p.old p.new }
 {
     let node = start(p);
     take_pair(p, SyntaxKind::THIN_ARROW);
@@ -308,8 +289,7 @@ pub(crate) fn ret_type(p: &mut Parser<'_>, condition: bool)
 pub(crate) fn opt_type_after(p: &mut Parser<'_>, word: SyntaxKind, condition: bool)
     requires inside { raw_of word ≢ kinds.EOF }
     ensures reads { Reads condition ⁅ One (one (raw_of word)) ▸ AnyType ! ⁆ p.old p.new }
-    ensures left { tokens p.new ≤ tokens p.old }
-    ensures looks { spent p.new ≤ spent p.old + 1 }
+    ensures asks { Asks 1 p.old p.new }
 {
     if at(p, word) {
         take(p, word);

@@ -1,13 +1,13 @@
 //! Expressions.
 
-ghost use Rattle.std.specs.Prelude.{◌≡◌, ◌+◌, ◌*◌, ◌≤◌, Bool, IsTrue, true};
+ghost use Rattle.std.specs.Prelude.{◌≤◌, Bool, IsTrue, true};
 ghost use Rattle.parser_input.specs.Kinds as kinds;
-ghost use Rattle.rust_productions.specs.Looks.{tokens, spent};
+ghost use Rattle.rust_productions.specs.Looks.{tokens, Peeks};
 ghost use Rattle.rust_grammar.specs.Rule as rules;
 ghost use Rattle.rust_grammar.specs.Expressions.{body_begins};
 ghost use Rattle.rust_grammar.specs.Rule.{begins};
 ghost use Rattle.rust_grammar.specs.Expressions as rows;
-ghost use Rattle.rust_productions.specs.Reads.{looks, Does, Saw};
+ghost use Rattle.rust_productions.specs.Reads.{looks, Saw};
 
 use crate::grammar::names::at_literal;
 use crate::grammar::operators::range_mark;
@@ -20,9 +20,7 @@ use parser_input::syntax_kind::SyntaxKind;
 pub(crate) fn at_macro_block(p: &mut Parser<'_>) -> bool
     ensures sees { (c : Bool) → Saw c rows.macro_block_begins p.old result }
     ensures some { IsTrue result → 1 ≤ tokens p.old }
-    ensures same { Does (λ s. s) p.old p.new }
-    ensures left { tokens p.new ≡ tokens p.old }
-    ensures looks { spent p.new ≤ spent p.old + 3 }
+    ensures peeks { Peeks 3 p.old p.new }
 {
     if !at(p, SyntaxKind::IDENT) {
         return false;
@@ -40,9 +38,7 @@ pub(crate) fn at_macro_block(p: &mut Parser<'_>) -> bool
 fn at_let(p: &mut Parser<'_>, condition: bool) -> bool
     ensures sees { Saw condition rows.let_begins p.old result }
     ensures some { IsTrue result → 1 ≤ tokens p.old }
-    ensures same { Does (λ s. s) p.old p.new }
-    ensures left { tokens p.new ≡ tokens p.old }
-    ensures looks { spent p.new ≤ spent p.old + 1 }
+    ensures peeks { Peeks 1 p.old p.new }
 {
     if !condition {
         return false;
@@ -57,9 +53,7 @@ fn at_let(p: &mut Parser<'_>, condition: bool) -> bool
 pub fn at_block_like(p: &mut Parser<'_>) -> bool
     ensures sees { (c : Bool) → Saw c (looks rules.block_like) p.old result }
     ensures some { IsTrue result → 1 ≤ tokens p.old }
-    ensures same { Does (λ s. s) p.old p.new }
-    ensures left { tokens p.new ≡ tokens p.old }
-    ensures looks { spent p.new ≤ spent p.old + 4 }
+    ensures peeks { Peeks 4 p.old p.new }
 {
     if at_macro_block(p) {
         return true;
@@ -80,9 +74,7 @@ pub fn at_block_like(p: &mut Parser<'_>) -> bool
 pub(crate) fn at_atom(p: &mut Parser<'_>, condition: bool) -> bool
     ensures sees { Saw condition (looks rules.atom) p.old result }
     ensures some { IsTrue result → 1 ≤ tokens p.old }
-    ensures same { Does (λ s. s) p.old p.new }
-    ensures left { tokens p.new ≡ tokens p.old }
-    ensures looks { spent p.new ≤ spent p.old + 10 }
+    ensures peeks { Peeks 10 p.old p.new }
 {
     if at_path(p) {
         return true;
@@ -112,9 +104,7 @@ pub(crate) fn at_atom(p: &mut Parser<'_>, condition: bool) -> bool
 pub fn at_operand(p: &mut Parser<'_>, condition: bool) -> bool
     ensures sees { Saw condition (looks rules.prefixed) p.old result }
     ensures some { IsTrue result → 1 ≤ tokens p.old }
-    ensures same { Does (λ s. s) p.old p.new }
-    ensures left { tokens p.new ≡ tokens p.old }
-    ensures looks { spent p.new ≤ spent p.old + 11 }
+    ensures peeks { Peeks 11 p.old p.new }
 {
     if at_atom(p, condition) {
         return true;
@@ -129,9 +119,7 @@ pub fn at_operand(p: &mut Parser<'_>, condition: bool) -> bool
 pub fn at_operation(p: &mut Parser<'_>, condition: bool) -> bool
     ensures sees { Saw condition (looks rules.operation) p.old result }
     ensures some { IsTrue result → 1 ≤ tokens p.old }
-    ensures same { Does (λ s. s) p.old p.new }
-    ensures left { tokens p.new ≡ tokens p.old }
-    ensures looks { spent p.new ≤ spent p.old + 14 }
+    ensures peeks { Peeks 14 p.old p.new }
 {
     match range_mark(p) {
         Some(_) => true,
@@ -143,9 +131,7 @@ pub fn at_operation(p: &mut Parser<'_>, condition: bool) -> bool
 pub fn at_expression(p: &mut Parser<'_>, condition: bool) -> bool
     ensures sees { Saw condition (looks rules.expression) p.old result }
     ensures some { IsTrue result → 1 ≤ tokens p.old }
-    ensures same { Does (λ s. s) p.old p.new }
-    ensures left { tokens p.new ≡ tokens p.old }
-    ensures looks { spent p.new ≤ spent p.old + 14 }
+    ensures peeks { Peeks 14 p.old p.new }
 {
     at_operation(p, condition)
 }
@@ -153,9 +139,7 @@ pub fn at_expression(p: &mut Parser<'_>, condition: bool) -> bool
 /// Returns `true` if a `{` is next that ends a condition.
 pub fn at_body(p: &mut Parser<'_>, condition: bool) -> bool
     ensures sees { Saw condition body_begins p.old result }
-    ensures same { Does (λ s. s) p.old p.new }
-    ensures left { tokens p.new ≡ tokens p.old }
-    ensures looks { spent p.new ≤ spent p.old + 1 }
+    ensures peeks { Peeks 1 p.old p.new }
 {
     if !condition {
         return false;
@@ -168,9 +152,7 @@ pub fn at_range_operand(p: &mut Parser<'_>, condition: bool) -> bool
     ensures sees { Saw condition (begins looks rows.range_operand) p.old result }
     ensures operand { IsTrue result → Saw condition (looks rules.prefixed) p.old true }
     ensures some { IsTrue result → 1 ≤ tokens p.old }
-    ensures same { Does (λ s. s) p.old p.new }
-    ensures left { tokens p.new ≡ tokens p.old }
-    ensures looks { spent p.new ≤ spent p.old + 12 }
+    ensures peeks { Peeks 12 p.old p.new }
 {
     if at_body(p, condition) {
         return false;

@@ -1,9 +1,9 @@
 //! Fields of records.
 
-ghost use Rattle.std.specs.Prelude.{◌≡◌, ◌+◌, ◌≤◌, Bool, IsTrue};
-ghost use Rattle.rust_productions.specs.Looks.{tokens, spent};
+ghost use Rattle.std.specs.Prelude.{◌≤◌, Bool, IsTrue};
+ghost use Rattle.rust_productions.specs.Looks.{tokens, Peeks};
 ghost use Rattle.rust_grammar.specs.Rule as rules;
-ghost use Rattle.rust_productions.specs.Reads.{looks, Does, Saw};
+ghost use Rattle.rust_productions.specs.Reads.{looks, Saw};
 
 use crate::grammar::at_pair;
 use crate::grammar::paths::at_path;
@@ -15,9 +15,7 @@ use parser_input::syntax_kind::SyntaxKind;
 pub fn at_field_value(p: &mut Parser<'_>) -> bool
     ensures sees { (c : Bool) → Saw c (looks rules.field_value) p.old result }
     ensures some { IsTrue result → 1 ≤ tokens p.old }
-    ensures same { Does (λ s. s) p.old p.new }
-    ensures left { tokens p.new ≡ tokens p.old }
-    ensures looks { spent p.new ≤ spent p.old + 7 }
+    ensures peeks { Peeks 7 p.old p.new }
 {
     if at_path(p) {
         return true;

@@ -1,9 +1,9 @@
 //! Generic arguments.
 
-ghost use Rattle.std.specs.Prelude.{◌≡◌, ◌+◌, ◌≤◌, Bool, IsTrue};
-ghost use Rattle.rust_productions.specs.Looks.{tokens, spent};
+ghost use Rattle.std.specs.Prelude.{◌≤◌, Bool, IsTrue};
+ghost use Rattle.rust_productions.specs.Looks.{tokens, Peeks};
 ghost use Rattle.rust_grammar.specs.Rule as rules;
-ghost use Rattle.rust_productions.specs.Reads.{looks, Does, Saw};
+ghost use Rattle.rust_productions.specs.Reads.{looks, Saw};
 
 use crate::grammar::names::at_literal;
 use crate::grammar::types::at_type;
@@ -15,9 +15,7 @@ use parser_input::syntax_kind::SyntaxKind;
 pub fn at_generic_arg(p: &mut Parser<'_>) -> bool
     ensures sees { (c : Bool) → Saw c (looks rules.generic_arg) p.old result }
     ensures some { IsTrue result → 1 ≤ tokens p.old }
-    ensures same { Does (λ s. s) p.old p.new }
-    ensures left { tokens p.new ≡ tokens p.old }
-    ensures looks { spent p.new ≤ spent p.old + 8 }
+    ensures peeks { Peeks 8 p.old p.new }
 {
     if at(p, SyntaxKind::IDENT) {
         return true;

@@ -1,9 +1,9 @@
 //! Generic parameters, bounds, and what `where` asks.
 
-ghost use Rattle.std.specs.Prelude.{◌≡◌, ◌+◌, ◌≤◌, Bool, IsTrue};
-ghost use Rattle.rust_productions.specs.Looks.{tokens, spent};
+ghost use Rattle.std.specs.Prelude.{◌≤◌, Bool, IsTrue};
+ghost use Rattle.rust_productions.specs.Looks.{tokens, Peeks};
 ghost use Rattle.rust_grammar.specs.Rule as rules;
-ghost use Rattle.rust_productions.specs.Reads.{looks, Does, Saw};
+ghost use Rattle.rust_productions.specs.Reads.{looks, Saw};
 
 use crate::grammar::paths::at_path;
 use crate::grammar::types::at_type;
@@ -15,9 +15,7 @@ use parser_input::syntax_kind::SyntaxKind;
 pub fn at_generic_param(p: &mut Parser<'_>) -> bool
     ensures sees { (c : Bool) → Saw c (looks rules.generic_param) p.old result }
     ensures some { IsTrue result → 1 ≤ tokens p.old }
-    ensures same { Does (λ s. s) p.old p.new }
-    ensures left { tokens p.new ≡ tokens p.old }
-    ensures looks { spent p.new ≤ spent p.old + 1 }
+    ensures peeks { Peeks 1 p.old p.new }
 {
     match current(p) {
         SyntaxKind::LIFETIME_IDENT | SyntaxKind::IDENT => true,
@@ -29,9 +27,7 @@ pub fn at_generic_param(p: &mut Parser<'_>) -> bool
 pub fn at_bound(p: &mut Parser<'_>) -> bool
     ensures sees { (c : Bool) → Saw c (looks rules.bound) p.old result }
     ensures some { IsTrue result → 1 ≤ tokens p.old }
-    ensures same { Does (λ s. s) p.old p.new }
-    ensures left { tokens p.new ≡ tokens p.old }
-    ensures looks { spent p.new ≤ spent p.old + 4 }
+    ensures peeks { Peeks 4 p.old p.new }
 {
     if at_path(p) {
         return true;
@@ -46,9 +42,7 @@ pub fn at_bound(p: &mut Parser<'_>) -> bool
 pub fn at_where_pred(p: &mut Parser<'_>) -> bool
     ensures sees { (c : Bool) → Saw c (looks rules.where_pred) p.old result }
     ensures some { IsTrue result → 1 ≤ tokens p.old }
-    ensures same { Does (λ s. s) p.old p.new }
-    ensures left { tokens p.new ≡ tokens p.old }
-    ensures looks { spent p.new ≤ spent p.old + 6 }
+    ensures peeks { Peeks 6 p.old p.new }
 {
     if at(p, SyntaxKind::LIFETIME_IDENT) {
         return true;

@@ -1,6 +1,6 @@
 //! What items begin with, and the items that hold no others.
 
-ghost use Rattle.std.specs.Prelude.{◌≡◌, ◌≢◌, ◌≤◌, ◌+◌, Bool, IsTrue, true, false};
+ghost use Rattle.std.specs.Prelude.{◌≡◌, ◌≢◌, ◌≤◌, Bool, IsTrue, true, false};
 ghost use Rattle.parser_input.specs.Kind.{raw_of};
 ghost use Rattle.parser_input.specs.Kinds as kinds;
 ghost use Rattle.parser_events.specs.Stack.{IsInnermost};
@@ -10,8 +10,9 @@ ghost use Rattle.rust_grammar.specs.Rule as rules;
 ghost use Rattle.rust_grammar.specs.Rule.{Either, One};
 ghost use Rattle.rust_grammar.specs.Words.{one, 'const', 'fn', 'unsafe'};
 ghost use Rattle.rust_grammar.specs.Items as rows;
-ghost use Rattle.rust_productions.specs.Looks.{tokens, spent};
-ghost use Rattle.rust_productions.specs.Reads.{looks, Completes, CompletesWhere, Does, Reads, Saw};
+ghost use Rattle.rust_productions.specs.Looks.{tokens, Takes, Asks, Peeks, TakesUnless};
+ghost use Rattle.rust_productions.specs.Reads.{looks, Completes, CompletesWhere, Reads, Saw};
+ghost use Rattle.rust_productions.specs.Starts.{Starts, FollowsUnsafe};
 
 use crate::grammar::paths::path;
 use crate::grammar::token_trees::{expect_token_tree, token_tree};
@@ -27,9 +28,7 @@ use parser_input::syntax_kind::SyntaxKind;
 pub fn at_fn(p: &mut Parser<'_>) -> bool
     ensures sees { (c : Bool) → Saw c fn_begins p.old result }
     ensures some { IsTrue result → 1 ≤ tokens p.old }
-    ensures same { Does (λ s. s) p.old p.new }
-    ensures left { tokens p.new ≡ tokens p.old }
-    ensures looks { spent p.new ≤ spent p.old + 2 }
+    ensures peeks { Peeks 2 p.old p.new }
 {
     match current(p) {
         SyntaxKind::FN_KW => true,
@@ -43,9 +42,7 @@ pub fn at_fn(p: &mut Parser<'_>) -> bool
 fn at_fn_after_const(p: &mut Parser<'_>) -> bool
     requires { (c : Bool) → Saw c (next 'const') p.old true }
     ensures sees { (c : Bool) → Saw c fn_begins p.old result }
-    ensures same { Does (λ s. s) p.old p.new }
-    ensures left { tokens p.new ≡ tokens p.old }
-    ensures looks { spent p.new ≤ spent p.old + 1 }
+    ensures peeks { Peeks 1 p.old p.new }
 {
     match nth(p, 1) {
         SyntaxKind::FN_KW | SyntaxKind::UNSAFE_KW => true,
@@ -57,9 +54,7 @@ fn at_fn_after_const(p: &mut Parser<'_>) -> bool
 fn at_fn_after_unsafe(p: &mut Parser<'_>) -> bool
     requires { (c : Bool) → Saw c (next 'unsafe') p.old true }
     ensures sees { (c : Bool) → Saw c fn_begins p.old result }
-    ensures same { Does (λ s. s) p.old p.new }
-    ensures left { tokens p.new ≡ tokens p.old }
-    ensures looks { spent p.new ≤ spent p.old + 1 }
+    ensures peeks { Peeks 1 p.old p.new }
 {
     match nth(p, 1) {
         SyntaxKind::FN_KW => true,
@@ -73,8 +68,7 @@ pub fn fn_words(p: &mut Parser<'_>)
     requires begins { (c : Bool) → Saw c fn_begins p.old true }
     requires some { 1 ≤ tokens p.old }
     ensures reads { (c : Bool) → Reads c (⁅ One 'const' ⁆ ▸ ⁅ One 'unsafe' ⁆ ▸ One 'fn' !) p.old p.new }
-    ensures left { tokens p.new + 1 ≤ tokens p.old }
-    ensures looks { spent p.new + 4090 ≤ spent p.old }
+    ensures takes { Takes 4090 p.old p.new }
 {
     match current(p) {
         SyntaxKind::CONST_KW => {
@@ -95,9 +89,7 @@ pub fn at_unsafe(p: &mut Parser<'_>, word: SyntaxKind) -> bool
     ensures sees { (c : Bool) → Saw c
         (Either (next (one (raw_of word))) ('unsafe' before one (raw_of word))) p.old result }
     ensures some { IsTrue result → raw_of word ≢ kinds.EOF → 1 ≤ tokens p.old }
-    ensures same { Does (λ s. s) p.old p.new }
-    ensures left { tokens p.new ≡ tokens p.old }
-    ensures looks { spent p.new ≤ spent p.old + 3 }
+    ensures peeks { Peeks 3 p.old p.new }
 {
     if at(p, word) {
         return true;
@@ -111,14 +103,11 @@ pub fn at_unsafe(p: &mut Parser<'_>, word: SyntaxKind) -> bool
 /// Parses an optional `unsafe` and `word`.
 // unsafe impl
 pub fn unsafe_word(p: &mut Parser<'_>, word: SyntaxKind)
-    requires begins { (c : Bool) → Saw c
-        (Either (next (one (raw_of word))) ('unsafe' before one (raw_of word))) p.old true }
-    requires other { raw_of word ≢ kinds.UNSAFE_KW }
-    requires inside { raw_of word ≢ kinds.EOF }
-    requires some { 1 ≤ tokens p.old }
+    requires begins { Starts
+        (Either (next (one (raw_of word))) ('unsafe' before one (raw_of word))) p.old }
+    requires word { FollowsUnsafe (raw_of word) }
     ensures reads { (c : Bool) → Reads c (⁅ One 'unsafe' ⁆ ▸ One (one (raw_of word))) p.old p.new }
-    ensures left { tokens p.new + 1 ≤ tokens p.old }
-    ensures looks { spent p.new + 4095 ≤ spent p.old }
+    ensures takes { Takes 4095 p.old p.new }
 {
     if at(p, word) {
         take(p, word);
@@ -134,8 +123,7 @@ pub fn use_item(p: &mut Parser<'_>, item: Marker)
     requires some { 1 ≤ tokens p.old }
     requires innermost { IsInnermost item p.old.nodes }
     ensures completes { (c : Bool) → Completes c rows.use_item p.old p.new }
-    ensures left { tokens p.new + 1 ≤ tokens p.old }
-    ensures looks { spent p.new + 4080 ≤ spent p.old }
+    ensures takes { Takes 4080 p.old p.new }
 {
     take(p, SyntaxKind::USE_KW);
     expect_use_tree(p);
@@ -147,12 +135,10 @@ pub fn use_item(p: &mut Parser<'_>, item: Marker)
 /// macro call.
 // m! { a }
 pub fn path_item(p: &mut Parser<'_>, item: Marker)
-    requires begins { (c : Bool) → Saw c (looks rules.path) p.old true }
-    requires some { 1 ≤ tokens p.old }
+    requires begins { Starts (looks rules.path) p.old }
     requires innermost { IsInnermost item p.old.nodes }
     ensures completes { (c : Bool) → Completes c rows.path_item p.old p.new }
-    ensures left { tokens p.new + 1 ≤ tokens p.old }
-    ensures looks { spent p.new + 3990 ≤ spent p.old }
+    ensures takes { Takes 3990 p.old p.new }
 {
     path(p);
     after_path(p, item);
@@ -163,8 +149,7 @@ pub fn path_item(p: &mut Parser<'_>, item: Marker)
 fn after_path(p: &mut Parser<'_>, item: Marker)
     requires { IsInnermost item p.old.nodes }
     ensures completes { (c : Bool) → Completes c rows.after_path p.old p.new }
-    ensures left { tokens p.new ≤ tokens p.old }
-    ensures looks { spent p.new ≤ spent p.old + 3 }
+    ensures asks { Asks 3 p.old p.new }
 {
     if at(p, SyntaxKind::BANG) {
         take(p, SyntaxKind::BANG);
@@ -180,8 +165,7 @@ fn after_path(p: &mut Parser<'_>, item: Marker)
 // (a);
 fn macro_tokens(p: &mut Parser<'_>)
     ensures reads { (c : Bool) → Reads c rows.macro_tokens p.old p.new }
-    ensures left { tokens p.new ≤ tokens p.old }
-    ensures looks { spent p.new ≤ spent p.old + 3 }
+    ensures asks { Asks 3 p.old p.new }
 {
     if at(p, SyntaxKind::L_CURLY) {
         token_tree(p);
@@ -197,10 +181,7 @@ pub fn no_item(p: &mut Parser<'_>, item: Marker, given: bool)
     requires some { given ≡ false → 1 ≤ tokens p.old }
     requires innermost { IsInnermost item p.old.nodes }
     ensures completes { (c : Bool) → CompletesWhere given c rows.no_item p.old p.new }
-    ensures left { tokens p.new ≤ tokens p.old }
-    ensures takes { given ≡ false → tokens p.new + 1 ≤ tokens p.old }
-    ensures pays { given ≡ false → spent p.new + 4090 ≤ spent p.old }
-    ensures looks { spent p.new ≤ spent p.old }
+    ensures takes { TakesUnless given 4090 0 p.old p.new }
 {
     if given {
         error(p, Message::ExpectedItem);

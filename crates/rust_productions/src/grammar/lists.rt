@@ -1,13 +1,13 @@
 //! What all lists of elements with commas between them share.
 
-ghost use Rattle.std.specs.Prelude.{◌≡◌, ◌≢◌, ◌+◌, ◌*◌, ◌<◌, ◌≤◌, Bool, IsTrue};
+ghost use Rattle.std.specs.Prelude.{◌+◌, ◌<◌, ◌≤◌, Bool, IsTrue};
 ghost use Rattle.parser_input.specs.Kind.{raw_of};
 ghost use Rattle.parser_input.specs.Kinds as kinds;
-ghost use Rattle.rust_productions.specs.Looks.{tokens, spent};
+ghost use Rattle.rust_productions.specs.Looks.{tokens, spent, Asks, Peeks};
+ghost use Rattle.rust_grammar.specs.Notation as notation;
 ghost use Rattle.rust_grammar.specs.Notation.{until, separator, unexpected};
 ghost use Rattle.rust_grammar.specs.Words.{one};
-ghost use Rattle.rust_grammar.specs.Rule.{Left, Not};
-ghost use Rattle.rust_productions.specs.Reads.{Does, Reads, Saw};
+ghost use Rattle.rust_productions.specs.Reads.{Reads, Saw};
 
 use crate::grammar::{at, current, error, take};
 use parser_events::message::Message;
@@ -16,10 +16,8 @@ use parser_input::syntax_kind::SyntaxKind;
 
 /// Returns `true` if no token is left.
 pub(crate) fn at_end(p: &mut Parser<'_>) -> bool
-    ensures sees { (c : Bool) → Saw c (Not Left) p.old result }
-    ensures same { Does (λ s. s) p.old p.new }
-    ensures left { tokens p.new ≡ tokens p.old }
-    ensures looks { spent p.new ≤ spent p.old + 1 }
+    ensures sees { (c : Bool) → Saw c notation.at_end p.old result }
+    ensures peeks { Peeks 1 p.old p.new }
 {
     match current(p) {
         SyntaxKind::EOF => true,
@@ -30,9 +28,7 @@ pub(crate) fn at_end(p: &mut Parser<'_>) -> bool
 /// Returns `true` if a list ends here: at its closing token or at the end of the input.
 pub fn at_list_end(p: &mut Parser<'_>, closing: SyntaxKind) -> bool
     ensures sees { (c : Bool) → Saw c (until (one (raw_of closing))) p.old result }
-    ensures same { Does (λ s. s) p.old p.new }
-    ensures left { tokens p.new ≡ tokens p.old }
-    ensures looks { spent p.new ≤ spent p.old + 2 }
+    ensures peeks { Peeks 2 p.old p.new }
 {
     if at_end(p) {
         return true;
@@ -44,9 +40,7 @@ pub fn at_list_end(p: &mut Parser<'_>, closing: SyntaxKind) -> bool
 pub fn at_unexpected(p: &mut Parser<'_>) -> bool
     ensures sees { (c : Bool) → Saw c unexpected p.old result }
     ensures some { IsTrue result → 1 ≤ tokens p.old }
-    ensures same { Does (λ s. s) p.old p.new }
-    ensures left { tokens p.new ≡ tokens p.old }
-    ensures looks { spent p.new ≤ spent p.old + 1 }
+    ensures peeks { Peeks 1 p.old p.new }
 {
     match current(p) {
         SyntaxKind::SEMICOLON
@@ -62,8 +56,7 @@ pub fn at_unexpected(p: &mut Parser<'_>) -> bool
 /// Parses the comma after an element; emits an error if there is none and the list does not close.
 pub fn comma(p: &mut Parser<'_>, closing: SyntaxKind)
     ensures reads { (c : Bool) → Reads c (separator (one (raw_of closing))) p.old p.new }
-    ensures left { tokens p.new ≤ tokens p.old }
-    ensures looks { spent p.new ≤ spent p.old + 2 }
+    ensures asks { Asks 2 p.old p.new }
     ensures pays { tokens p.new < tokens p.old → spent p.new + 4000 ≤ spent p.old }
 {
     if at(p, SyntaxKind::COMMA) {

@@ -1,15 +1,15 @@
 //! Names, lifetimes and literals.
 
-ghost use Rattle.std.specs.Prelude.{◌≡◌, ◌+◌, ◌*◌, ◌≤◌, Bool, IsTrue};
+ghost use Rattle.std.specs.Prelude.{◌≡◌, ◌+◌, ◌≤◌, Bool, IsTrue};
 ghost use Rattle.parser_input.specs.Kinds as kinds;
 ghost use Rattle.parser_events.specs.Forest.{Expected};
-ghost use Rattle.rust_productions.specs.Looks.{tokens, spent};
+ghost use Rattle.rust_productions.specs.Looks.{tokens, spent, Asks, Peeks};
 ghost use Rattle.rust_grammar.specs.Notation.{⁅◌⁆, ◌! };
 ghost use Rattle.rust_grammar.specs.Patterns.{literal_token};
 ghost use Rattle.rust_grammar.specs.Calls.{Name, Lifetime, Ref, Literal};
 ghost use Rattle.rust_grammar.specs.Rule as rules;
 ghost use Rattle.rust_grammar.specs.Paths as rows;
-ghost use Rattle.rust_productions.specs.Reads.{looks, Does, Gives, Reads, Saw};
+ghost use Rattle.rust_productions.specs.Reads.{looks, Gives, Reads, Saw};
 
 use crate::grammar::{at, complete, current, error, start, take};
 use parser_events::message::Message;
@@ -33,8 +33,7 @@ pub fn name(p: &mut Parser<'_>)
 // a
 pub fn expect_name(p: &mut Parser<'_>)
     ensures reads { (c : Bool) → Reads c (Name !) p.old p.new }
-    ensures left { tokens p.new ≤ tokens p.old }
-    ensures looks { spent p.new ≤ spent p.old + 1 }
+    ensures asks { Asks 1 p.old p.new }
 {
     if at(p, SyntaxKind::IDENT) {
         name(p);
@@ -60,8 +59,7 @@ pub fn lifetime(p: &mut Parser<'_>)
 // 'a
 pub fn opt_lifetime(p: &mut Parser<'_>)
     ensures reads { (c : Bool) → Reads c ⁅ Lifetime ⁆ p.old p.new }
-    ensures left { tokens p.new ≤ tokens p.old }
-    ensures looks { spent p.new ≤ spent p.old + 1 }
+    ensures asks { Asks 1 p.old p.new }
 {
     if at(p, SyntaxKind::LIFETIME_IDENT) {
         lifetime(p);
@@ -102,9 +100,7 @@ pub fn name_ref(p: &mut Parser<'_>)
 pub fn at_name_ref(p: &mut Parser<'_>) -> bool
     ensures sees { (c : Bool) → Saw c (looks rules.name_ref) p.old result }
     ensures some { IsTrue result → 1 ≤ tokens p.old }
-    ensures same { Does (λ s. s) p.old p.new }
-    ensures left { tokens p.new ≡ tokens p.old }
-    ensures looks { spent p.new ≤ spent p.old + 1 }
+    ensures peeks { Peeks 1 p.old p.new }
 {
     match current(p) {
         SyntaxKind::IDENT
@@ -120,8 +116,7 @@ pub fn at_name_ref(p: &mut Parser<'_>) -> bool
 // self
 pub(crate) fn expect_name_ref(p: &mut Parser<'_>)
     ensures reads { (c : Bool) → Reads c (Ref !) p.old p.new }
-    ensures left { tokens p.new ≤ tokens p.old }
-    ensures looks { spent p.new ≤ spent p.old + 1 }
+    ensures asks { Asks 1 p.old p.new }
 {
     if at_name_ref(p) {
         name_ref(p);
@@ -168,9 +163,7 @@ pub fn literal(p: &mut Parser<'_>)
 pub fn at_literal(p: &mut Parser<'_>) -> bool
     ensures sees { (c : Bool) → Saw c (looks rules.literal) p.old result }
     ensures some { IsTrue result → 1 ≤ tokens p.old }
-    ensures same { Does (λ s. s) p.old p.new }
-    ensures left { tokens p.new ≡ tokens p.old }
-    ensures looks { spent p.new ≤ spent p.old + 1 }
+    ensures peeks { Peeks 1 p.old p.new }
 {
     match current(p) {
         SyntaxKind::INT_NUMBER
@@ -190,8 +183,7 @@ pub fn at_literal(p: &mut Parser<'_>) -> bool
 // 1
 pub fn expect_literal(p: &mut Parser<'_>)
     ensures reads { (c : Bool) → Reads c (Literal !) p.old p.new }
-    ensures left { tokens p.new ≤ tokens p.old }
-    ensures looks { spent p.new ≤ spent p.old + 1 }
+    ensures asks { Asks 1 p.old p.new }
 {
     if at_literal(p) {
         literal(p);

@@ -1,12 +1,12 @@
 //! The operators between operands.
 
-ghost use Rattle.std.specs.Prelude.{◌≡◌, ◌≢◌, ◌+◌, ◌≤◌, Bool, IsTrue, Some, true, if◌then◌else◌};
+ghost use Rattle.std.specs.Prelude.{◌≡◌, ◌≢◌, ◌≤◌, Bool, IsTrue, Some, true, if◌then◌else◌};
 ghost use Rattle.parser_input.specs.Kind.{raw_of};
 ghost use Rattle.parser_input.specs.Kinds as kinds;
 ghost use Rattle.rust_grammar.specs.Rule.{Both, Joint, Kind, One, spelled_at};
 ghost use Rattle.rust_grammar.specs.Words.{'|>'};
 ghost use Rattle.rust_productions.specs.Layers.{operators_at};
-ghost use Rattle.rust_productions.specs.Looks.{tokens, spent};
+ghost use Rattle.rust_productions.specs.Looks.{tokens, Takes, Peeks, Stays};
 ghost use Rattle.rust_productions.specs.Operators.{IsMark, IsNext, spelling_of};
 ghost use Rattle.rust_productions.specs.Reads.{Does, Reads, Saw};
 
@@ -58,9 +58,7 @@ impl Operator {
 fn at_joined(p: &mut Parser<'_>, kind: SyntaxKind) -> bool
     ensures sees { (c : Bool) → Saw c (Both (Joint 0) (Kind 1 (raw_of kind))) p.old result }
     ensures some { IsTrue result → raw_of kind ≢ kinds.EOF → 2 ≤ tokens p.old }
-    ensures same { Does (λ s. s) p.old p.new }
-    ensures left { tokens p.new ≡ tokens p.old }
-    ensures looks { spent p.new ≤ spent p.old + 1 }
+    ensures peeks { Peeks 1 p.old p.new }
 {
     if !p.joint_at(0) {
         return false;
@@ -72,9 +70,7 @@ fn at_joined(p: &mut Parser<'_>, kind: SyntaxKind) -> bool
 fn at_joined_after(p: &mut Parser<'_>, kind: SyntaxKind) -> bool
     ensures sees { (c : Bool) → Saw c (Both (Joint 1) (Kind 2 (raw_of kind))) p.old result }
     ensures some { IsTrue result → raw_of kind ≢ kinds.EOF → 3 ≤ tokens p.old }
-    ensures same { Does (λ s. s) p.old p.new }
-    ensures left { tokens p.new ≡ tokens p.old }
-    ensures looks { spent p.new ≤ spent p.old + 1 }
+    ensures peeks { Peeks 1 p.old p.new }
 {
     if !p.joint_at(1) {
         return false;
@@ -87,9 +83,7 @@ fn at_pipe_gt(p: &mut Parser<'_>) -> bool
     requires { (c : Bool) → Saw c (Kind 0 kinds.PIPE) p.old true }
     ensures sees { (c : Bool) → Saw c (spelled_at 0 '|>') p.old result }
     ensures some { IsTrue result → 2 ≤ tokens p.old }
-    ensures same { Does (λ s. s) p.old p.new }
-    ensures left { tokens p.new ≡ tokens p.old }
-    ensures looks { spent p.new ≤ spent p.old + 1 }
+    ensures peeks { Peeks 1 p.old p.new }
 {
     if !at_contextual(p, SyntaxKind::PIPE_GT) {
         return false;
@@ -101,8 +95,7 @@ fn at_pipe_gt(p: &mut Parser<'_>) -> bool
 pub fn at_joint(p: &mut Parser<'_>) -> bool
     ensures sees { (c : Bool) → Saw c (Joint 0) p.old result }
     ensures same { Does (λ s. s) p.old p.new }
-    ensures left { tokens p.new ≡ tokens p.old }
-    ensures looks { spent p.new ≡ spent p.old }
+    ensures stays { Stays p.old p.new }
 {
     p.joint_at(0)
 }
@@ -117,9 +110,7 @@ pub enum RangeMark {
 /// Returns the range operator that is next, if there is one.
 pub fn range_mark(p: &mut Parser<'_>) -> Option<RangeMark>
     ensures mark { IsMark result p.old }
-    ensures same { Does (λ s. s) p.old p.new }
-    ensures left { tokens p.new ≡ tokens p.old }
-    ensures looks { spent p.new ≤ spent p.old + 3 }
+    ensures peeks { Peeks 3 p.old p.new }
 {
     if !at(p, SyntaxKind::DOT) {
         return None;
@@ -140,8 +131,7 @@ pub fn range_mark(p: &mut Parser<'_>) -> Option<RangeMark>
 pub fn take_mark(p: &mut Parser<'_>, mark: RangeMark)
     requires { IsMark (Some mark) p.old }
     ensures reads { (c : Bool) → Reads c (One (spelling_of mark)) p.old p.new }
-    ensures left { tokens p.new + 1 ≤ tokens p.old }
-    ensures looks { spent p.new + 4096 ≤ spent p.old }
+    ensures takes { Takes 4096 p.old p.new }
 {
     match mark {
         RangeMark::Exclusive => p.token(SyntaxKind::DOT2, 2),
@@ -152,9 +142,7 @@ pub fn take_mark(p: &mut Parser<'_>, mark: RangeMark)
 /// Returns the operator that is next, the longest one, if there is one.
 pub fn current_op(p: &mut Parser<'_>) -> Operator
     ensures next { IsNext result p.old }
-    ensures same { Does (λ s. s) p.old p.new }
-    ensures left { tokens p.new ≡ tokens p.old }
-    ensures looks { spent p.new ≤ spent p.old + 4 }
+    ensures peeks { Peeks 4 p.old p.new }
 {
     match current(p) {
         SyntaxKind::AS_KW => Operator::new(1, SyntaxKind::AS_KW, 1),
@@ -197,9 +185,7 @@ fn after_ampersand(p: &mut Parser<'_>) -> Operator
     requires first { (c : Bool) → Saw c (Kind 0 kinds.AMP) p.old true }
     requires some { 1 ≤ tokens p.old }
     ensures next { IsNext result p.old }
-    ensures same { Does (λ s. s) p.old p.new }
-    ensures left { tokens p.new ≡ tokens p.old }
-    ensures looks { spent p.new ≤ spent p.old + 2 }
+    ensures peeks { Peeks 2 p.old p.new }
 {
     if at_joined(p, SyntaxKind::AMP) {
         return Operator::new(9, SyntaxKind::AMP2, 2);
@@ -213,9 +199,7 @@ fn after_pipe(p: &mut Parser<'_>) -> Operator
     requires first { (c : Bool) → Saw c (Kind 0 kinds.PIPE) p.old true }
     requires some { 1 ≤ tokens p.old }
     ensures next { IsNext result p.old }
-    ensures same { Does (λ s. s) p.old p.new }
-    ensures left { tokens p.new ≡ tokens p.old }
-    ensures looks { spent p.new ≤ spent p.old + 3 }
+    ensures peeks { Peeks 3 p.old p.new }
 {
     if at_joined(p, SyntaxKind::PIPE) {
         return Operator::new(10, SyntaxKind::PIPE2, 2);
@@ -232,9 +216,7 @@ fn after_equals(p: &mut Parser<'_>) -> Operator
     requires first { (c : Bool) → Saw c (Kind 0 kinds.EQ) p.old true }
     requires some { 1 ≤ tokens p.old }
     ensures next { IsNext result p.old }
-    ensures same { Does (λ s. s) p.old p.new }
-    ensures left { tokens p.new ≡ tokens p.old }
-    ensures looks { spent p.new ≤ spent p.old + 2 }
+    ensures peeks { Peeks 2 p.old p.new }
 {
     if at_joined(p, SyntaxKind::EQ) {
         return Operator::new(8, SyntaxKind::EQ2, 2);
@@ -250,9 +232,7 @@ fn after_bang(p: &mut Parser<'_>) -> Operator
     requires first { (c : Bool) → Saw c (Kind 0 kinds.BANG) p.old true }
     requires some { 1 ≤ tokens p.old }
     ensures next { IsNext result p.old }
-    ensures same { Does (λ s. s) p.old p.new }
-    ensures left { tokens p.new ≡ tokens p.old }
-    ensures looks { spent p.new ≤ spent p.old + 1 }
+    ensures peeks { Peeks 1 p.old p.new }
 {
     if at_joined(p, SyntaxKind::EQ) {
         return Operator::new(8, SyntaxKind::NEQ, 2);
@@ -265,9 +245,7 @@ fn after_left_angle(p: &mut Parser<'_>) -> Operator
     requires first { (c : Bool) → Saw c (Kind 0 kinds.L_ANGLE) p.old true }
     requires some { 1 ≤ tokens p.old }
     ensures next { IsNext result p.old }
-    ensures same { Does (λ s. s) p.old p.new }
-    ensures left { tokens p.new ≡ tokens p.old }
-    ensures looks { spent p.new ≤ spent p.old + 3 }
+    ensures peeks { Peeks 3 p.old p.new }
 {
     if !at_joint(p) {
         return Operator::new(8, SyntaxKind::L_ANGLE, 1);
@@ -289,9 +267,7 @@ fn after_right_angle(p: &mut Parser<'_>) -> Operator
     requires first { (c : Bool) → Saw c (Kind 0 kinds.R_ANGLE) p.old true }
     requires some { 1 ≤ tokens p.old }
     ensures next { IsNext result p.old }
-    ensures same { Does (λ s. s) p.old p.new }
-    ensures left { tokens p.new ≡ tokens p.old }
-    ensures looks { spent p.new ≤ spent p.old + 3 }
+    ensures peeks { Peeks 3 p.old p.new }
 {
     if !at_joint(p) {
         return Operator::new(8, SyntaxKind::R_ANGLE, 1);
@@ -313,8 +289,7 @@ pub fn take_operator(p: &mut Parser<'_>, operator: Operator)
     requires next { IsNext operator p.old }
     requires is { 1 ≤ operator.height }
     ensures reads { (c : Bool) → Reads c (operators_at operator.height) p.old p.new }
-    ensures left { tokens p.new + 1 ≤ tokens p.old }
-    ensures looks { spent p.new + 4096 ≤ spent p.old }
+    ensures takes { Takes 4096 p.old p.new }
 {
     p.token(operator.kind, operator.width as usize);
 }

@@ -1,9 +1,9 @@
 //! Parameters of functions.
 
-ghost use Rattle.std.specs.Prelude.{◌≡◌, ◌+◌, ◌≤◌, Bool, IsTrue};
-ghost use Rattle.rust_productions.specs.Looks.{tokens, spent};
+ghost use Rattle.std.specs.Prelude.{◌≤◌, Bool, IsTrue};
+ghost use Rattle.rust_productions.specs.Looks.{tokens, Peeks};
 ghost use Rattle.rust_grammar.specs.Rule as rules;
-ghost use Rattle.rust_productions.specs.Reads.{looks, Does, Saw};
+ghost use Rattle.rust_productions.specs.Reads.{looks, Saw};
 
 use crate::grammar::patterns::at_pattern;
 use parser_events::parser::Parser;
@@ -13,9 +13,7 @@ use parser_events::parser::Parser;
 pub fn at_param(p: &mut Parser<'_>) -> bool
     ensures sees { (c : Bool) → Saw c (looks rules.param) p.old result }
     ensures some { IsTrue result → 1 ≤ tokens p.old }
-    ensures same { Does (λ s. s) p.old p.new }
-    ensures left { tokens p.new ≡ tokens p.old }
-    ensures looks { spent p.new ≤ spent p.old + 9 }
+    ensures peeks { Peeks 9 p.old p.new }
 {
     at_pattern(p)
 }

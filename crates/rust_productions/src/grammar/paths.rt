@@ -1,16 +1,17 @@
 //! Paths.
 
-ghost use Rattle.std.specs.Prelude.{◌≡◌, ◌+◌, ◌≤◌, Bool, true, false, IsTrue};
+ghost use Rattle.std.specs.Prelude.{◌≤◌, Bool, true, false, IsTrue};
 ghost use Rattle.parser_input.specs.Kinds as kinds;
 ghost use Rattle.parser_events.specs.Stack.{IsInnermost};
-ghost use Rattle.rust_productions.specs.Looks.{tokens, spent};
+ghost use Rattle.rust_productions.specs.Looks.{tokens, Takes, Asks, Peeks, TakesTwoIn, AsksIn};
 ghost use Rattle.rust_grammar.specs.Notation.{◌! };
 ghost use Rattle.rust_grammar.specs.Calls.{Path};
 ghost use Rattle.rust_grammar.specs.Shared.{path_goes_on};
 ghost use Rattle.rust_grammar.specs.Rule as rules;
 ghost use Rattle.rust_grammar.specs.Rule.{Kind, Joint, Both, Nothing};
 ghost use Rattle.rust_grammar.specs.Paths as rows;
-ghost use Rattle.rust_productions.specs.Reads.{looks, Does, Gives, Reads, Saw};
+ghost use Rattle.rust_productions.specs.Reads.{looks, Gives, Reads, Saw};
+ghost use Rattle.rust_productions.specs.Starts.{Starts};
 
 use crate::grammar::names::{at_name_ref, expect_name_ref, name_ref};
 use crate::grammar::{abandon, at_pair, complete, error, nth, start, take_pair, wrap};
@@ -23,9 +24,7 @@ pub fn at_colons(p: &mut Parser<'_>) -> bool
     ensures sees { (c : Bool) → Saw c (Both (Kind 0 kinds.COLON)
         (Both (Joint 0) (Kind 1 kinds.COLON))) p.old result }
     ensures some { IsTrue result → 2 ≤ tokens p.old }
-    ensures same { Does (λ s. s) p.old p.new }
-    ensures left { tokens p.new ≡ tokens p.old }
-    ensures looks { spent p.new ≤ spent p.old + 2 }
+    ensures peeks { Peeks 2 p.old p.new }
 {
     at_pair(p, SyntaxKind::COLON, SyntaxKind::COLON)
 }
@@ -34,9 +33,7 @@ pub fn at_colons(p: &mut Parser<'_>) -> bool
 pub fn at_path(p: &mut Parser<'_>) -> bool
     ensures sees { (c : Bool) → Saw c (looks rules.path) p.old result }
     ensures some { IsTrue result → 1 ≤ tokens p.old }
-    ensures same { Does (λ s. s) p.old p.new }
-    ensures left { tokens p.new ≡ tokens p.old }
-    ensures looks { spent p.new ≤ spent p.old + 3 }
+    ensures peeks { Peeks 3 p.old p.new }
 {
     if at_name_ref(p) {
         return true;
@@ -53,8 +50,7 @@ pub fn first_word(p: &mut Parser<'_>)
     requires begins { (c : Bool) → Saw c (looks rules.path) p.old true }
     requires some { 1 ≤ tokens p.old }
     ensures reads { (c : Bool) → Reads c (rows.first_word Nothing) p.old p.new }
-    ensures left { tokens p.new + 1 ≤ tokens p.old }
-    ensures looks { spent p.new + 4090 ≤ spent p.old }
+    ensures takes { Takes 4090 p.old p.new }
 {
     if at_colons(p) {
         take_pair(p, SyntaxKind::COLON2);
@@ -70,8 +66,7 @@ fn first_segment(p: &mut Parser<'_>)
     requires begins { (c : Bool) → Saw c (looks rules.path) p.old true }
     requires some { 1 ≤ tokens p.old }
     ensures reads { (c : Bool) → Reads c (rows.first_segment Nothing) p.old p.new }
-    ensures left { tokens p.new + 1 ≤ tokens p.old }
-    ensures looks { spent p.new + 4090 ≤ spent p.old }
+    ensures takes { Takes 4090 p.old p.new }
 {
     let path = start(p);
     let segment = start(p);
@@ -84,9 +79,7 @@ fn first_segment(p: &mut Parser<'_>)
 pub fn at_next_segment(p: &mut Parser<'_>) -> bool
     ensures sees { (c : Bool) → Saw c path_goes_on p.old result }
     ensures some { IsTrue result → 2 ≤ tokens p.old }
-    ensures same { Does (λ s. s) p.old p.new }
-    ensures left { tokens p.new ≡ tokens p.old }
-    ensures looks { spent p.new ≤ spent p.old + 3 }
+    ensures peeks { Peeks 3 p.old p.new }
 {
     if !at_colons(p) {
         return false;
@@ -101,8 +94,7 @@ pub fn at_next_segment(p: &mut Parser<'_>) -> bool
 // a
 fn expect_segment(p: &mut Parser<'_>)
     ensures reads { (c : Bool) → Reads c (rows.segment Nothing !) p.old p.new }
-    ensures left { tokens p.new ≤ tokens p.old }
-    ensures looks { spent p.new ≤ spent p.old + 1 }
+    ensures asks { Asks 1 p.old p.new }
 {
     if at_name_ref(p) {
         let segment = start(p);
@@ -119,9 +111,7 @@ fn next_segment(p: &mut Parser<'_>, path: Marker) -> Marker
     requires innermost { IsInnermost path p.old.nodes }
     requires some { 2 ≤ tokens p.old }
     ensures reads { (c : Bool) → Reads c (rows.next_segment Nothing) p.old p.new }
-    ensures marker { IsInnermost result p.new.nodes }
-    ensures left { tokens p.new + 2 ≤ tokens p.old }
-    ensures looks { spent p.new + 8000 ≤ spent p.old }
+    ensures takes { TakesTwoIn result 8000 p.old p.new }
 {
     take_pair(p, SyntaxKind::COLON2);
     expect_segment(p);
@@ -134,9 +124,7 @@ fn next_segments(p: &mut Parser<'_>, path: Marker) -> Marker
     requires { IsInnermost path p.old.nodes }
     ensures reads { (c : Bool) → Reads c (rows.next_segments Nothing) p.old p.new }
     ensures ends { (c : Bool) → Saw c path_goes_on p.new false }
-    ensures marker { IsInnermost result p.new.nodes }
-    ensures left { tokens p.new ≤ tokens p.old }
-    ensures looks { spent p.new ≤ spent p.old + 3 }
+    ensures asks { AsksIn result 3 p.old p.new }
 {
     let mut path = path;
     'turns: while at_next_segment(p) {
@@ -148,12 +136,10 @@ fn next_segments(p: &mut Parser<'_>, path: Marker) -> Marker
 /// Parses a path without generic arguments.
 // a::b
 pub fn path(p: &mut Parser<'_>)
-    requires begins { (c : Bool) → Saw c (looks rules.path) p.old true }
-    requires some { 1 ≤ tokens p.old }
+    requires begins { Starts (looks rules.path) p.old }
     ensures gives { (c : Bool) → Gives rules.path c p.old p.new }
     ensures ends { (c : Bool) → Saw c path_goes_on p.new false }
-    ensures left { tokens p.new + 1 ≤ tokens p.old }
-    ensures looks { spent p.new + 4000 ≤ spent p.old }
+    ensures takes { Takes 4000 p.old p.new }
 {
     let frame = start(p);
     first_segment(p);
@@ -165,8 +151,7 @@ pub fn path(p: &mut Parser<'_>)
 // a::b
 pub(crate) fn expect_path(p: &mut Parser<'_>)
     ensures reads { (c : Bool) → Reads c (Path !) p.old p.new }
-    ensures left { tokens p.new ≤ tokens p.old }
-    ensures looks { spent p.new ≤ spent p.old + 3 }
+    ensures asks { Asks 3 p.old p.new }
 {
     if at_path(p) {
         path(p);

@@ -1,13 +1,13 @@
 //! Patterns.
 
-ghost use Rattle.std.specs.Prelude.{◌≡◌, ◌+◌, ◌≤◌, Bool, IsTrue};
-ghost use Rattle.rust_productions.specs.Looks.{tokens, spent};
+ghost use Rattle.std.specs.Prelude.{◌≤◌, Bool, IsTrue};
+ghost use Rattle.rust_productions.specs.Looks.{tokens, Peeks};
 ghost use Rattle.rust_grammar.specs.Shared.{field_name};
 ghost use Rattle.rust_grammar.specs.Words.{':'};
 ghost use Rattle.rust_grammar.specs.Notation.{◌▹◌};
 ghost use Rattle.rust_grammar.specs.Rule as rules;
 ghost use Rattle.rust_grammar.specs.Rule.{begins, One};
-ghost use Rattle.rust_productions.specs.Reads.{looks, Does, Saw};
+ghost use Rattle.rust_productions.specs.Reads.{looks, Saw};
 
 use crate::grammar::names::at_literal;
 use crate::grammar::paths::at_path;
@@ -19,9 +19,7 @@ use parser_input::syntax_kind::SyntaxKind;
 pub fn at_single_pattern(p: &mut Parser<'_>) -> bool
     ensures sees { (c : Bool) → Saw c (looks rules.single_pattern) p.old result }
     ensures some { IsTrue result → 1 ≤ tokens p.old }
-    ensures same { Does (λ s. s) p.old p.new }
-    ensures left { tokens p.new ≡ tokens p.old }
-    ensures looks { spent p.new ≤ spent p.old + 8 }
+    ensures peeks { Peeks 8 p.old p.new }
 {
     if at(p, SyntaxKind::IDENT) {
         return true;
@@ -51,9 +49,7 @@ pub fn at_single_pattern(p: &mut Parser<'_>) -> bool
 pub fn at_pattern(p: &mut Parser<'_>) -> bool
     ensures sees { (c : Bool) → Saw c (looks rules.pattern) p.old result }
     ensures some { IsTrue result → 1 ≤ tokens p.old }
-    ensures same { Does (λ s. s) p.old p.new }
-    ensures left { tokens p.new ≡ tokens p.old }
-    ensures looks { spent p.new ≤ spent p.old + 9 }
+    ensures peeks { Peeks 9 p.old p.new }
 {
     if at_single_pattern(p) {
         return true;
@@ -68,9 +64,7 @@ pub fn at_pattern(p: &mut Parser<'_>) -> bool
 pub fn at_named_field(p: &mut Parser<'_>) -> bool
     ensures sees { (c : Bool) → Saw c (begins looks (field_name ▹ One ':')) p.old result }
     ensures some { IsTrue result → 2 ≤ tokens p.old }
-    ensures same { Does (λ s. s) p.old p.new }
-    ensures left { tokens p.new ≡ tokens p.old }
-    ensures looks { spent p.new ≤ spent p.old + 2 }
+    ensures peeks { Peeks 2 p.old p.new }
 {
     if !at_second(p, SyntaxKind::COLON) {
         return false;
@@ -85,9 +79,7 @@ pub fn at_named_field(p: &mut Parser<'_>) -> bool
 pub fn at_pattern_field(p: &mut Parser<'_>) -> bool
     ensures sees { (c : Bool) → Saw c (looks rules.pattern_field) p.old result }
     ensures some { IsTrue result → 1 ≤ tokens p.old }
-    ensures same { Does (λ s. s) p.old p.new }
-    ensures left { tokens p.new ≡ tokens p.old }
-    ensures looks { spent p.new ≤ spent p.old + 5 }
+    ensures peeks { Peeks 5 p.old p.new }
 {
     if at_pair(p, SyntaxKind::DOT, SyntaxKind::DOT) {
         return true;

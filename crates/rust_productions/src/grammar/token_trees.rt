@@ -1,11 +1,11 @@
 //! Token trees: tokens with brackets around them.
 
-ghost use Rattle.std.specs.Prelude.{◌≡◌, ◌≢◌, ◌+◌, ◌*◌, ◌≤◌, Bool, true, IsTrue};
+ghost use Rattle.std.specs.Prelude.{◌≢◌, ◌*◌, ◌≤◌, Bool, IsTrue};
 ghost use Rattle.parser_input.specs.Kind.{raw_of};
 ghost use Rattle.parser_input.specs.Kinds as kinds;
 ghost use Rattle.parser_input.specs.Kinds.{TOKEN_TREE};
 ghost use Rattle.parser_events.specs.Forest.{Expected};
-ghost use Rattle.rust_productions.specs.Looks.{tokens, spent};
+ghost use Rattle.rust_productions.specs.Looks.{tokens, Takes, Asks, Peeks};
 ghost use Rattle.rust_grammar.specs.Notation.{◌or◌, ◌▸◌, ◌*, ◌!, ◌⟨◌⟩};
 ghost use Rattle.rust_grammar.specs.Words.{one};
 ghost use Rattle.rust_grammar.specs.Calls.{TokenTree};
@@ -13,7 +13,7 @@ ghost use Rattle.rust_grammar.specs.Items.{inner_token};
 ghost use Rattle.rust_grammar.specs.Rule as rules;
 ghost use Rattle.rust_grammar.specs.Rule.{Either, Want, One};
 ghost use Rattle.rust_grammar.specs.Items as rows;
-ghost use Rattle.rust_productions.specs.Reads.{looks, Does, Gives, Reads, Saw};
+ghost use Rattle.rust_productions.specs.Reads.{looks, Gives, Reads, Saw};
 
 use crate::grammar::{complete, current, error, expect, start, take, take_any};
 use parser_events::message::Message;
@@ -24,9 +24,7 @@ use parser_input::syntax_kind::SyntaxKind;
 pub fn at_token_tree(p: &mut Parser<'_>) -> bool
     ensures sees { (c : Bool) → Saw c (looks rules.token_tree) p.old result }
     ensures some { IsTrue result → 1 ≤ tokens p.old }
-    ensures same { Does (λ s. s) p.old p.new }
-    ensures left { tokens p.new ≡ tokens p.old }
-    ensures looks { spent p.new ≤ spent p.old + 1 }
+    ensures peeks { Peeks 1 p.old p.new }
 {
     match current(p) {
         SyntaxKind::L_PAREN | SyntaxKind::L_BRACK | SyntaxKind::L_CURLY => true,
@@ -39,9 +37,7 @@ fn at_inner(p: &mut Parser<'_>) -> bool
     ensures sees { (c : Bool) → Saw c
         (Either (looks rules.token_tree) rows.no_closing) p.old result }
     ensures some { IsTrue result → 1 ≤ tokens p.old }
-    ensures same { Does (λ s. s) p.old p.new }
-    ensures left { tokens p.new ≡ tokens p.old }
-    ensures looks { spent p.new ≤ spent p.old + 1 }
+    ensures peeks { Peeks 1 p.old p.new }
 {
     match current(p) {
         SyntaxKind::R_PAREN | SyntaxKind::R_CURLY | SyntaxKind::R_BRACK | SyntaxKind::EOF => false,
@@ -55,8 +51,7 @@ fn at_inner(p: &mut Parser<'_>) -> bool
 fn inner(p: &mut Parser<'_>)
     requires { 1 ≤ tokens p.old }
     ensures reads { (c : Bool) → Reads c inner_token p.old p.new }
-    ensures left { tokens p.new + 1 ≤ tokens p.old }
-    ensures looks { spent p.new + 4000 ≤ spent p.old }
+    ensures takes { Takes 4000 p.old p.new }
 {
     if at_token_tree(p) {
         token_tree(p);
@@ -70,8 +65,7 @@ fn inner(p: &mut Parser<'_>)
 #[cycle(token_trees)]
 fn inner_tokens(p: &mut Parser<'_>)
     ensures reads { (c : Bool) → Reads c (inner_token *) p.old p.new }
-    ensures left { tokens p.new ≤ tokens p.old }
-    ensures looks { spent p.new ≤ spent p.old + 1 }
+    ensures asks { Asks 1 p.old p.new }
 {
     'turns: while at_inner(p) {
         inner(p);
@@ -89,8 +83,7 @@ fn bracketed(p: &mut Parser<'_>, opening: SyntaxKind, closing: SyntaxKind)
         ⟨ One (one (raw_of opening))
         ▸ inner_token *
         ▸ Want (One (one (raw_of closing))) (Expected (raw_of closing)) ⟩) p.old p.new }
-    ensures left { tokens p.new + 1 ≤ tokens p.old }
-    ensures looks { spent p.new + 4080 ≤ spent p.old }
+    ensures takes { Takes 4080 p.old p.new }
 {
     let tree = start(p);
     take(p, opening);
@@ -105,8 +98,7 @@ fn bracketed(p: &mut Parser<'_>, opening: SyntaxKind, closing: SyntaxKind)
 pub fn token_tree(p: &mut Parser<'_>)
     requires { 1 ≤ tokens p.old }
     ensures gives { (c : Bool) → Gives rules.token_tree c p.old p.new }
-    ensures left { tokens p.new + 1 ≤ tokens p.old }
-    ensures looks { spent p.new + 4070 ≤ spent p.old }
+    ensures takes { Takes 4070 p.old p.new }
 {
     match current(p) {
         SyntaxKind::L_PAREN => bracketed(p, SyntaxKind::L_PAREN, SyntaxKind::R_PAREN),
@@ -119,8 +111,7 @@ pub fn token_tree(p: &mut Parser<'_>)
 // (a b)
 pub fn expect_token_tree(p: &mut Parser<'_>)
     ensures reads { (c : Bool) → Reads c (TokenTree !) p.old p.new }
-    ensures left { tokens p.new ≤ tokens p.old }
-    ensures looks { spent p.new ≤ spent p.old + 1 }
+    ensures asks { Asks 1 p.old p.new }
 {
     if at_token_tree(p) {
         token_tree(p);

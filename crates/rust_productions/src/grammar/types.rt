@@ -1,11 +1,11 @@
 //! Types.
 
-ghost use Rattle.std.specs.Prelude.{◌≡◌, ◌+◌, ◌*◌, ◌≤◌, Bool, IsTrue};
+ghost use Rattle.std.specs.Prelude.{◌≤◌, Bool, IsTrue};
 ghost use Rattle.parser_input.specs.Kinds as kinds;
-ghost use Rattle.rust_productions.specs.Looks.{tokens, spent};
+ghost use Rattle.rust_productions.specs.Looks.{tokens, Peeks};
 ghost use Rattle.rust_grammar.specs.Rule as rules;
 ghost use Rattle.rust_grammar.specs.Types as rows;
-ghost use Rattle.rust_productions.specs.Reads.{looks, Does, Saw};
+ghost use Rattle.rust_productions.specs.Reads.{looks, Saw};
 
 use crate::grammar::paths::at_path;
 use crate::grammar::{at_contextual, current, nth};
@@ -16,9 +16,7 @@ use parser_input::syntax_kind::SyntaxKind;
 pub fn at_dyn_word(p: &mut Parser<'_>) -> bool
     ensures sees { (c : Bool) → Saw c rows.dyn_begins p.old result }
     ensures some { IsTrue result → 1 ≤ tokens p.old }
-    ensures same { Does (λ s. s) p.old p.new }
-    ensures left { tokens p.new ≡ tokens p.old }
-    ensures looks { spent p.new ≤ spent p.old + 1 }
+    ensures peeks { Peeks 1 p.old p.new }
 {
     if !at_contextual(p, SyntaxKind::DYN_KW) {
         return false;
@@ -39,9 +37,7 @@ pub fn at_dyn_word(p: &mut Parser<'_>) -> bool
 pub fn at_type(p: &mut Parser<'_>) -> bool
     ensures sees { (c : Bool) → Saw c (looks rules.any_type) p.old result }
     ensures some { IsTrue result → 1 ≤ tokens p.old }
-    ensures same { Does (λ s. s) p.old p.new }
-    ensures left { tokens p.new ≡ tokens p.old }
-    ensures looks { spent p.new ≤ spent p.old + 5 }
+    ensures peeks { Peeks 5 p.old p.new }
 {
     if at_path(p) {
         return true;

@@ -1,9 +1,9 @@
 //! What a `use` names.
 
-ghost use Rattle.std.specs.Prelude.{◌≡◌, ◌+◌, ◌*◌, ◌≤◌, Bool, true, false, IsTrue, [], ◌∷◌};
+ghost use Rattle.std.specs.Prelude.{◌*◌, ◌≤◌, Bool, true, false, IsTrue, [], ◌∷◌};
 ghost use Rattle.parser_input.specs.Kinds as kinds;
 ghost use Rattle.parser_input.specs.Kinds.{USE_TREE, USE_TREE_LIST};
-ghost use Rattle.rust_productions.specs.Looks.{tokens, spent};
+ghost use Rattle.rust_productions.specs.Looks.{tokens, Takes, Asks, Peeks};
 ghost use Rattle.rust_grammar.specs.Notation.{◌*, ◌!, one_of, until, list_element, unexpected};
 ghost use Rattle.rust_grammar.specs.Words.{'l_curly', 'r_curly', '*'};
 ghost use Rattle.rust_grammar.specs.Calls.{UseTree};
@@ -12,7 +12,7 @@ ghost use Rattle.rust_grammar.specs.Shared.{colons_before_more, path_goes_on};
 ghost use Rattle.rust_grammar.specs.Rule as rules;
 ghost use Rattle.rust_grammar.specs.Rule.{Both, Either, Not, Unless};
 ghost use Rattle.rust_grammar.specs.Items as rows;
-ghost use Rattle.rust_productions.specs.Reads.{looks, Does, Gives, Reads, Saw};
+ghost use Rattle.rust_productions.specs.Reads.{looks, Gives, Reads, Saw};
 
 use crate::grammar::lists::{at_list_end, at_unexpected, comma};
 use crate::grammar::names::expect_name;
@@ -28,9 +28,7 @@ use parser_input::syntax_kind::SyntaxKind;
 fn at_colons_before_more(p: &mut Parser<'_>) -> bool
     ensures sees { (c : Bool) → Saw c colons_before_more p.old result }
     ensures some { IsTrue result → 3 ≤ tokens p.old }
-    ensures same { Does (λ s. s) p.old p.new }
-    ensures left { tokens p.new ≡ tokens p.old }
-    ensures looks { spent p.new ≤ spent p.old + 4 }
+    ensures peeks { Peeks 4 p.old p.new }
 {
     if !at_colons(p) {
         return false;
@@ -48,9 +46,7 @@ fn at_colons_before_more(p: &mut Parser<'_>) -> bool
 fn at_use_tree(p: &mut Parser<'_>) -> bool
     ensures sees { (c : Bool) → Saw c (looks rules.use_tree) p.old result }
     ensures some { IsTrue result → 1 ≤ tokens p.old }
-    ensures same { Does (λ s. s) p.old p.new }
-    ensures left { tokens p.new ≡ tokens p.old }
-    ensures looks { spent p.new ≤ spent p.old + 6 }
+    ensures peeks { Peeks 6 p.old p.new }
 {
     if at_colons(p) {
         return true;
@@ -68,8 +64,7 @@ fn at_use_tree(p: &mut Parser<'_>) -> bool
 // a::b
 pub(crate) fn expect_use_tree(p: &mut Parser<'_>)
     ensures reads { (c : Bool) → Reads c (UseTree !) p.old p.new }
-    ensures left { tokens p.new ≤ tokens p.old }
-    ensures looks { spent p.new ≤ spent p.old + 6 }
+    ensures asks { Asks 6 p.old p.new }
 {
     if at_use_tree(p) {
         use_tree(p);
@@ -83,8 +78,7 @@ pub(crate) fn expect_use_tree(p: &mut Parser<'_>)
 fn rename(p: &mut Parser<'_>)
     requires { 1 ≤ tokens p.old }
     ensures reads { (c : Bool) → Reads c rows.rename p.old p.new }
-    ensures left { tokens p.new + 1 ≤ tokens p.old }
-    ensures looks { spent p.new + 4090 ≤ spent p.old }
+    ensures takes { Takes 4090 p.old p.new }
 {
     let rename = start(p);
     take(p, SyntaxKind::AS_KW);
@@ -96,8 +90,7 @@ fn rename(p: &mut Parser<'_>)
 // _
 pub fn underscore_or_name(p: &mut Parser<'_>)
     ensures reads { (c : Bool) → Reads c rows.underscore_or_name p.old p.new }
-    ensures left { tokens p.new ≤ tokens p.old }
-    ensures looks { spent p.new ≤ spent p.old + 2 }
+    ensures asks { Asks 2 p.old p.new }
 {
     if at(p, SyntaxKind::UNDERSCORE) {
         take(p, SyntaxKind::UNDERSCORE);
@@ -112,8 +105,7 @@ pub fn underscore_or_name(p: &mut Parser<'_>)
 fn star_or_list(p: &mut Parser<'_>)
     requires { 1 ≤ tokens p.old }
     ensures reads { (c : Bool) → Reads c rows.star_or_list p.old p.new }
-    ensures left { tokens p.new + 1 ≤ tokens p.old }
-    ensures looks { spent p.new + 3900 ≤ spent p.old }
+    ensures takes { Takes 3900 p.old p.new }
 {
     if at(p, SyntaxKind::STAR) {
         take(p, SyntaxKind::STAR);
@@ -128,8 +120,7 @@ fn star_or_list(p: &mut Parser<'_>)
 fn after_path(p: &mut Parser<'_>)
     requires ends { (c : Bool) → Saw c path_goes_on p.old false }
     ensures reads { (c : Bool) → Reads c after_use p.old p.new }
-    ensures left { tokens p.new ≤ tokens p.old }
-    ensures looks { spent p.new ≤ spent p.old + 5 }
+    ensures asks { Asks 5 p.old p.new }
 {
     if at_colons_before_more(p) {
         take_pair(p, SyntaxKind::COLON2);
@@ -148,8 +139,7 @@ fn path_tree(p: &mut Parser<'_>)
     requires begins { (c : Bool) → Saw c (looks rules.path) p.old true }
     requires some { 1 ≤ tokens p.old }
     ensures reads { (c : Bool) → Reads c rows.path_tree p.old p.new }
-    ensures left { tokens p.new + 1 ≤ tokens p.old }
-    ensures looks { spent p.new + 3900 ≤ spent p.old }
+    ensures takes { Takes 3900 p.old p.new }
 {
     path(p);
     after_path(p);
@@ -162,8 +152,7 @@ fn after_colons(p: &mut Parser<'_>)
     requires next { (c : Bool) → Saw c (one_of 0 ('*' ∷ 'l_curly' ∷ [])) p.old true }
     requires some { 1 ≤ tokens p.old }
     ensures reads { (c : Bool) → Reads c rows.after_colons p.old p.new }
-    ensures left { tokens p.new + 1 ≤ tokens p.old }
-    ensures looks { spent p.new + 3900 ≤ spent p.old }
+    ensures takes { Takes 3900 p.old p.new }
 {
     if at(p, SyntaxKind::STAR) {
         take(p, SyntaxKind::STAR);
@@ -179,8 +168,7 @@ fn inside(p: &mut Parser<'_>)
     requires begins { (c : Bool) → Saw c (looks rules.use_tree) p.old true }
     requires some { 1 ≤ tokens p.old }
     ensures reads { (c : Bool) → Reads c rows.in_use_tree p.old p.new }
-    ensures left { tokens p.new + 1 ≤ tokens p.old }
-    ensures looks { spent p.new + 3890 ≤ spent p.old }
+    ensures takes { Takes 3890 p.old p.new }
 {
     if at_colons_before_more(p) {
         take_pair(p, SyntaxKind::COLON2);
@@ -201,8 +189,7 @@ pub fn use_tree(p: &mut Parser<'_>)
     requires begins { (c : Bool) → Saw c (looks rules.use_tree) p.old true }
     requires some { 1 ≤ tokens p.old }
     ensures gives { (c : Bool) → Gives rules.use_tree c p.old p.new }
-    ensures left { tokens p.new + 1 ≤ tokens p.old }
-    ensures looks { spent p.new + 3880 ≤ spent p.old }
+    ensures takes { Takes 3880 p.old p.new }
 {
     let tree = start(p);
     inside(p);
@@ -215,8 +202,7 @@ pub fn use_tree(p: &mut Parser<'_>)
 pub fn use_list(p: &mut Parser<'_>)
     requires { 1 ≤ tokens p.old }
     ensures gives { (c : Bool) → Gives rules.use_list c p.old p.new }
-    ensures left { tokens p.new + 1 ≤ tokens p.old }
-    ensures looks { spent p.new + 4000 ≤ spent p.old }
+    ensures takes { Takes 4000 p.old p.new }
 {
     let list = start(p);
     take(p, SyntaxKind::L_CURLY);
@@ -230,9 +216,7 @@ fn at_use_turn(p: &mut Parser<'_>) -> bool
     ensures sees { (c : Bool) → Saw c
         (Both (Not (until 'r_curly')) (Either (looks rules.use_tree) unexpected)) p.old result }
     ensures some { IsTrue result → 1 ≤ tokens p.old }
-    ensures same { Does (λ s. s) p.old p.new }
-    ensures left { tokens p.new ≡ tokens p.old }
-    ensures looks { spent p.new ≤ spent p.old + 9 }
+    ensures peeks { Peeks 9 p.old p.new }
 {
     if at_list_end(p, SyntaxKind::R_CURLY) {
         return false;
@@ -252,8 +236,7 @@ fn at_use_turn(p: &mut Parser<'_>) -> bool
 fn use_turn(p: &mut Parser<'_>)
     requires { 1 ≤ tokens p.old }
     ensures reads { Reads false (list_element USE_TREE_LIST UseTree 'r_curly') p.old p.new }
-    ensures left { tokens p.new + 1 ≤ tokens p.old }
-    ensures looks { spent p.new + 3860 ≤ spent p.old }
+    ensures takes { Takes 3860 p.old p.new }
 {
     if at_use_tree(p) {
         use_tree(p);
@@ -270,8 +253,7 @@ fn use_turns(p: &mut Parser<'_>)
     ensures reads { Reads false
         ((Unless (until 'r_curly')
         (list_element USE_TREE_LIST UseTree 'r_curly')) *) p.old p.new }
-    ensures left { tokens p.new ≤ tokens p.old }
-    ensures looks { spent p.new ≤ spent p.old + 9 }
+    ensures asks { Asks 9 p.old p.new }
 {
     'turns: while at_use_turn(p) {
         use_turn(p);

@@ -1,14 +1,14 @@
 //! Visibility.
 
-ghost use Rattle.std.specs.Prelude.{◌≡◌, ◌+◌, ◌*◌, ◌≤◌, Bool, IsTrue};
-ghost use Rattle.rust_productions.specs.Looks.{tokens, spent};
+ghost use Rattle.std.specs.Prelude.{◌≤◌, Bool, IsTrue};
+ghost use Rattle.rust_productions.specs.Looks.{tokens, Takes, Asks, Peeks};
 ghost use Rattle.rust_grammar.specs.Notation.{⁅◌⁆};
 ghost use Rattle.rust_grammar.specs.Calls.{Visibility};
 ghost use Rattle.rust_grammar.specs.Items.{visibility_goes_on};
 ghost use Rattle.rust_grammar.specs.Rule as rules;
 ghost use Rattle.rust_grammar.specs.Rule.{When};
 ghost use Rattle.rust_grammar.specs.Items as rows;
-ghost use Rattle.rust_productions.specs.Reads.{Does, Gives, Reads, Saw};
+ghost use Rattle.rust_productions.specs.Reads.{Gives, Reads, Saw};
 
 use crate::grammar::paths::expect_path;
 use crate::grammar::{at, at_second, at_third, complete, eat, expect, nth, start, take};
@@ -19,9 +19,7 @@ use parser_input::syntax_kind::SyntaxKind;
 fn at_scope(p: &mut Parser<'_>) -> bool
     ensures sees { (c : Bool) → Saw c visibility_goes_on p.old result }
     ensures some { IsTrue result → 1 ≤ tokens p.old }
-    ensures same { Does (λ s. s) p.old p.new }
-    ensures left { tokens p.new ≡ tokens p.old }
-    ensures looks { spent p.new ≤ spent p.old + 4 }
+    ensures peeks { Peeks 4 p.old p.new }
 {
     if !at(p, SyntaxKind::L_PAREN) {
         return false;
@@ -43,8 +41,7 @@ fn at_scope(p: &mut Parser<'_>) -> bool
 fn opt_scope(p: &mut Parser<'_>)
     ensures reads { (c : Bool) → Reads c
         ⁅ When visibility_goes_on rows.visibility_scope ⁆ p.old p.new }
-    ensures left { tokens p.new ≤ tokens p.old }
-    ensures looks { spent p.new ≤ spent p.old + 4 }
+    ensures asks { Asks 4 p.old p.new }
 {
     if at_scope(p) {
         take(p, SyntaxKind::L_PAREN);
@@ -59,8 +56,7 @@ fn opt_scope(p: &mut Parser<'_>)
 pub fn visibility(p: &mut Parser<'_>)
     requires { 1 ≤ tokens p.old }
     ensures gives { (c : Bool) → Gives rules.visibility c p.old p.new }
-    ensures left { tokens p.new + 1 ≤ tokens p.old }
-    ensures looks { spent p.new + 4092 ≤ spent p.old }
+    ensures takes { Takes 4092 p.old p.new }
 {
     let visibility = start(p);
     take(p, SyntaxKind::PUB_KW);
@@ -72,8 +68,7 @@ pub fn visibility(p: &mut Parser<'_>)
 // pub(crate)
 pub fn opt_visibility(p: &mut Parser<'_>)
     ensures reads { (c : Bool) → Reads c ⁅ Visibility ⁆ p.old p.new }
-    ensures left { tokens p.new ≤ tokens p.old }
-    ensures looks { spent p.new ≤ spent p.old + 1 }
+    ensures asks { Asks 1 p.old p.new }
 {
     if at(p, SyntaxKind::PUB_KW) {
         visibility(p);

@@ -96,44 +96,44 @@ expressions::atom::inside-returns-in-L_PAREN-clause-reads = atom.expressions::at
 pub expressions::atom::inside-returns-in-L_BRACK-clause-reads : goal.expressions::atom::inside-returns-in-L_BRACK-clause-reads
 expressions::atom::inside-returns-in-L_BRACK-clause-reads = atom.expressions::atom::inside-returns-in-L_BRACK-clause-reads
 
-pub expressions::atom::inside-returns-in-L_BRACK-clause-marker : goal.expressions::atom::inside-returns-in-L_BRACK-clause-marker
-expressions::atom::inside-returns-in-L_BRACK-clause-marker = atom.expressions::atom::inside-returns-in-L_BRACK-clause-marker
+pub expressions::atom::inside-returns-in-L_BRACK-clause-takes : goal.expressions::atom::inside-returns-in-L_BRACK-clause-takes
+expressions::atom::inside-returns-in-L_BRACK-clause-takes = atom.expressions::atom::inside-returns-in-L_BRACK-clause-takes
 
 pub expressions::atom::inside-returns-in-RETURN_KW-clause-reads : goal.expressions::atom::inside-returns-in-RETURN_KW-clause-reads
 expressions::atom::inside-returns-in-RETURN_KW-clause-reads = atom.expressions::atom::inside-returns-in-RETURN_KW-clause-reads
 
-pub expressions::atom::inside-returns-in-RETURN_KW-clause-marker : goal.expressions::atom::inside-returns-in-RETURN_KW-clause-marker
-expressions::atom::inside-returns-in-RETURN_KW-clause-marker = atom.expressions::atom::inside-returns-in-RETURN_KW-clause-marker
+pub expressions::atom::inside-returns-in-RETURN_KW-clause-takes : goal.expressions::atom::inside-returns-in-RETURN_KW-clause-takes
+expressions::atom::inside-returns-in-RETURN_KW-clause-takes = atom.expressions::atom::inside-returns-in-RETURN_KW-clause-takes
 
 pub expressions::atom::inside-returns-in-BREAK_KW-clause-reads : goal.expressions::atom::inside-returns-in-BREAK_KW-clause-reads
 expressions::atom::inside-returns-in-BREAK_KW-clause-reads = atom.expressions::atom::inside-returns-in-BREAK_KW-clause-reads
 
-pub expressions::atom::inside-returns-in-BREAK_KW-clause-marker : goal.expressions::atom::inside-returns-in-BREAK_KW-clause-marker
-expressions::atom::inside-returns-in-BREAK_KW-clause-marker = atom.expressions::atom::inside-returns-in-BREAK_KW-clause-marker
+pub expressions::atom::inside-returns-in-BREAK_KW-clause-takes : goal.expressions::atom::inside-returns-in-BREAK_KW-clause-takes
+expressions::atom::inside-returns-in-BREAK_KW-clause-takes = atom.expressions::atom::inside-returns-in-BREAK_KW-clause-takes
 
 pub expressions::atom::inside-returns-in-CONTINUE_KW-clause-reads : goal.expressions::atom::inside-returns-in-CONTINUE_KW-clause-reads
 expressions::atom::inside-returns-in-CONTINUE_KW-clause-reads = atom.expressions::atom::inside-returns-in-CONTINUE_KW-clause-reads
 
-pub expressions::atom::inside-returns-in-CONTINUE_KW-clause-marker : goal.expressions::atom::inside-returns-in-CONTINUE_KW-clause-marker
-expressions::atom::inside-returns-in-CONTINUE_KW-clause-marker = atom.expressions::atom::inside-returns-in-CONTINUE_KW-clause-marker
+pub expressions::atom::inside-returns-in-CONTINUE_KW-clause-takes : goal.expressions::atom::inside-returns-in-CONTINUE_KW-clause-takes
+expressions::atom::inside-returns-in-CONTINUE_KW-clause-takes = atom.expressions::atom::inside-returns-in-CONTINUE_KW-clause-takes
 
 pub expressions::atom::inside-returns-in-PIPE-clause-reads : goal.expressions::atom::inside-returns-in-PIPE-clause-reads
 expressions::atom::inside-returns-in-PIPE-clause-reads = atom.expressions::atom::inside-returns-in-PIPE-clause-reads
 
-pub expressions::atom::inside-returns-in-PIPE-clause-marker : goal.expressions::atom::inside-returns-in-PIPE-clause-marker
-expressions::atom::inside-returns-in-PIPE-clause-marker = atom.expressions::atom::inside-returns-in-PIPE-clause-marker
+pub expressions::atom::inside-returns-in-PIPE-clause-takes : goal.expressions::atom::inside-returns-in-PIPE-clause-takes
+expressions::atom::inside-returns-in-PIPE-clause-takes = atom.expressions::atom::inside-returns-in-PIPE-clause-takes
 
 pub expressions::atom::inside-returns-in-MOVE_KW-clause-reads : goal.expressions::atom::inside-returns-in-MOVE_KW-clause-reads
 expressions::atom::inside-returns-in-MOVE_KW-clause-reads = atom.expressions::atom::inside-returns-in-MOVE_KW-clause-reads
 
-pub expressions::atom::inside-returns-in-MOVE_KW-clause-marker : goal.expressions::atom::inside-returns-in-MOVE_KW-clause-marker
-expressions::atom::inside-returns-in-MOVE_KW-clause-marker = atom.expressions::atom::inside-returns-in-MOVE_KW-clause-marker
+pub expressions::atom::inside-returns-in-MOVE_KW-clause-takes : goal.expressions::atom::inside-returns-in-MOVE_KW-clause-takes
+expressions::atom::inside-returns-in-MOVE_KW-clause-takes = atom.expressions::atom::inside-returns-in-MOVE_KW-clause-takes
 
 pub expressions::atom::inside-returns-in-LET_KW-clause-reads : goal.expressions::atom::inside-returns-in-LET_KW-clause-reads
 expressions::atom::inside-returns-in-LET_KW-clause-reads = atom.expressions::atom::inside-returns-in-LET_KW-clause-reads
 
-pub expressions::atom::inside-returns-in-LET_KW-clause-marker : goal.expressions::atom::inside-returns-in-LET_KW-clause-marker
-expressions::atom::inside-returns-in-LET_KW-clause-marker = atom.expressions::atom::inside-returns-in-LET_KW-clause-marker
+pub expressions::atom::inside-returns-in-LET_KW-clause-takes : goal.expressions::atom::inside-returns-in-LET_KW-clause-takes
+expressions::atom::inside-returns-in-LET_KW-clause-takes = atom.expressions::atom::inside-returns-in-LET_KW-clause-takes
 
 pub expressions::atom::inside-returns-then-at_literal : goal.expressions::atom::inside-returns-then-at_literal
 expressions::atom::inside-returns-then-at_literal = atom.expressions::atom::inside-returns-then-at_literal
@@ -315,9 +315,6 @@ attributes::expect_meta-returns-then-at_path-clause-reads = attributes.attribute
 pub attributes::expect_meta-returns-clause-reads : goal.attributes::expect_meta-returns-clause-reads
 attributes::expect_meta-returns-clause-reads = attributes.attributes::expect_meta-returns-clause-reads
 
-pub attributes::meta-path-requires-clause-begins : goal.attributes::meta-path-requires-clause-begins
-attributes::meta-path-requires-clause-begins = attributes.attributes::meta-path-requires-clause-begins
-
 pub attributes::meta-complete-requires : goal.attributes::meta-complete-requires
 attributes::meta-complete-requires = attributes.attributes::meta-complete-requires
 
@@ -344,12 +341,6 @@ expressions::blocks::statement_turn-returns-clause-goes = blocks.expressions::bl
 
 pub expressions::blocks::statement_turn-returns-clause-ends : goal.expressions::blocks::statement_turn-returns-clause-ends
 expressions::blocks::statement_turn-returns-clause-ends = blocks.expressions::blocks::statement_turn-returns-clause-ends
-
-pub expressions::blocks::statement_turn-returns-clause-fewer : goal.expressions::blocks::statement_turn-returns-clause-fewer
-expressions::blocks::statement_turn-returns-clause-fewer = blocks.expressions::blocks::statement_turn-returns-clause-fewer
-
-pub expressions::blocks::statement_turn-returns-clause-pays : goal.expressions::blocks::statement_turn-returns-clause-pays
-expressions::blocks::statement_turn-returns-clause-pays = blocks.expressions::blocks::statement_turn-returns-clause-pays
 
 pub expressions::blocks::statements-turns-preserved : goal.expressions::blocks::statements-turns-preserved
 expressions::blocks::statements-turns-preserved = blocks.expressions::blocks::statements-turns-preserved
@@ -510,29 +501,11 @@ expressions::control::arm_turn-match_arm-requires = control.expressions::control
 pub expressions::control::arm_turn-returns-then-at_pattern-clause-goes : goal.expressions::control::arm_turn-returns-then-at_pattern-clause-goes
 expressions::control::arm_turn-returns-then-at_pattern-clause-goes = control.expressions::control::arm_turn-returns-then-at_pattern-clause-goes
 
-pub expressions::control::arm_turn-returns-then-at_pattern-clause-innermost : goal.expressions::control::arm_turn-returns-then-at_pattern-clause-innermost
-expressions::control::arm_turn-returns-then-at_pattern-clause-innermost = control.expressions::control::arm_turn-returns-then-at_pattern-clause-innermost
-
-pub expressions::control::arm_turn-returns-then-at_pattern-clause-pays : goal.expressions::control::arm_turn-returns-then-at_pattern-clause-pays
-expressions::control::arm_turn-returns-then-at_pattern-clause-pays = control.expressions::control::arm_turn-returns-then-at_pattern-clause-pays
-
-pub expressions::control::arm_turn-returns-then-at_pattern-clause-looks : goal.expressions::control::arm_turn-returns-then-at_pattern-clause-looks
-expressions::control::arm_turn-returns-then-at_pattern-clause-looks = control.expressions::control::arm_turn-returns-then-at_pattern-clause-looks
-
 pub expressions::control::arm_turn-skip-requires : goal.expressions::control::arm_turn-skip-requires
 expressions::control::arm_turn-skip-requires = control.expressions::control::arm_turn-skip-requires
 
 pub expressions::control::arm_turn-returns-clause-goes : goal.expressions::control::arm_turn-returns-clause-goes
 expressions::control::arm_turn-returns-clause-goes = control.expressions::control::arm_turn-returns-clause-goes
-
-pub expressions::control::arm_turn-returns-clause-innermost : goal.expressions::control::arm_turn-returns-clause-innermost
-expressions::control::arm_turn-returns-clause-innermost = control.expressions::control::arm_turn-returns-clause-innermost
-
-pub expressions::control::arm_turn-returns-clause-pays : goal.expressions::control::arm_turn-returns-clause-pays
-expressions::control::arm_turn-returns-clause-pays = control.expressions::control::arm_turn-returns-clause-pays
-
-pub expressions::control::arm_turn-returns-clause-looks : goal.expressions::control::arm_turn-returns-clause-looks
-expressions::control::arm_turn-returns-clause-looks = control.expressions::control::arm_turn-returns-clause-looks
 
 pub expressions::expect_expression-returns-in-Comparison-clause-reads : goal.expressions::expect_expression-returns-in-Comparison-clause-reads
 expressions::expect_expression-returns-in-Comparison-clause-reads = expressions.expressions::expect_expression-returns-in-Comparison-clause-reads
@@ -621,24 +594,6 @@ expressions::range-returns-clause-gives = expressions.expressions::range-returns
 pub expressions::range_end-layers-requires : goal.expressions::range_end-layers-requires
 expressions::range_end-layers-requires = expressions.expressions::range_end-layers-requires
 
-pub expressions::range_end-returns-then-at_range_operand-clause-near : goal.expressions::range_end-returns-then-at_range_operand-clause-near
-expressions::range_end-returns-then-at_range_operand-clause-near = expressions.expressions::range_end-returns-then-at_range_operand-clause-near
-
-pub expressions::range_end-returns-clause-near : goal.expressions::range_end-returns-clause-near
-expressions::range_end-returns-clause-near = expressions.expressions::range_end-returns-clause-near
-
-pub expressions::range_end-returns-then-at_range_operand-clause-to : goal.expressions::range_end-returns-then-at_range_operand-clause-to
-expressions::range_end-returns-then-at_range_operand-clause-to = expressions.expressions::range_end-returns-then-at_range_operand-clause-to
-
-pub expressions::range_end-returns-then-at_range_operand-clause-innermost : goal.expressions::range_end-returns-then-at_range_operand-clause-innermost
-expressions::range_end-returns-then-at_range_operand-clause-innermost = expressions.expressions::range_end-returns-then-at_range_operand-clause-innermost
-
-pub expressions::range_end-returns-clause-alone : goal.expressions::range_end-returns-clause-alone
-expressions::range_end-returns-clause-alone = expressions.expressions::range_end-returns-clause-alone
-
-pub expressions::range_end-returns-clause-innermost : goal.expressions::range_end-returns-clause-innermost
-expressions::range_end-returns-clause-innermost = expressions.expressions::range_end-returns-clause-innermost
-
 pub expressions::opt_assignment-wrap-requires : goal.expressions::opt_assignment-wrap-requires
 expressions::opt_assignment-wrap-requires = expressions.expressions::opt_assignment-wrap-requires
 
@@ -666,8 +621,8 @@ expressions::pipe_tail-pipes-preserved = expressions.expressions::pipe_tail-pipe
 pub expressions::pipe_tail-returns-clause-reads : goal.expressions::pipe_tail-returns-clause-reads
 expressions::pipe_tail-returns-clause-reads = expressions.expressions::pipe_tail-returns-clause-reads
 
-pub expressions::pipe_tail-returns-clause-looks : goal.expressions::pipe_tail-returns-clause-looks
-expressions::pipe_tail-returns-clause-looks = expressions.expressions::pipe_tail-returns-clause-looks
+pub expressions::pipe_tail-returns-clause-asks : goal.expressions::pipe_tail-returns-clause-asks
+expressions::pipe_tail-returns-clause-asks = expressions.expressions::pipe_tail-returns-clause-asks
 
 pub expressions::operation_tail-ranges-2-init : goal.expressions::operation_tail-ranges-2-init
 expressions::operation_tail-ranges-2-init = expressions.expressions::operation_tail-ranges-2-init
@@ -681,8 +636,8 @@ expressions::operation_tail-returns-then-not-more-clause-reads = expressions.exp
 pub expressions::operation_tail-returns-clause-reads : goal.expressions::operation_tail-returns-clause-reads
 expressions::operation_tail-returns-clause-reads = expressions.expressions::operation_tail-returns-clause-reads
 
-pub expressions::operation_tail-returns-clause-looks : goal.expressions::operation_tail-returns-clause-looks
-expressions::operation_tail-returns-clause-looks = expressions.expressions::operation_tail-returns-clause-looks
+pub expressions::operation_tail-returns-clause-asks : goal.expressions::operation_tail-returns-clause-asks
+expressions::operation_tail-returns-clause-asks = expressions.expressions::operation_tail-returns-clause-asks
 
 pub fields::field_value-named_value-requires : goal.fields::field_value-named_value-requires
 fields::field_value-named_value-requires = fields.fields::field_value-named_value-requires
@@ -1011,11 +966,8 @@ items::bare_item-body-requires = items.items::bare_item-body-requires
 pub items::bare_item-returns-clause-anew : goal.items::bare_item-returns-clause-anew
 items::bare_item-returns-clause-anew = items.items::bare_item-returns-clause-anew
 
-pub items::bare_item-returns-clause-left : goal.items::bare_item-returns-clause-left
-items::bare_item-returns-clause-left = items.items::bare_item-returns-clause-left
-
-pub items::bare_item-returns-clause-looks : goal.items::bare_item-returns-clause-looks
-items::bare_item-returns-clause-looks = items.items::bare_item-returns-clause-looks
+pub items::bare_item-returns-clause-takes : goal.items::bare_item-returns-clause-takes
+items::bare_item-returns-clause-takes = items.items::bare_item-returns-clause-takes
 
 pub items::attributes-turns-preserved : goal.items::attributes-turns-preserved
 items::attributes-turns-preserved = items.items::attributes-turns-preserved
@@ -1098,9 +1050,6 @@ items::body-no_item-requires = items.items::body-no_item-requires
 pub items::body-returns-else-at_path-clause-takes : goal.items::body-returns-else-at_path-clause-takes
 items::body-returns-else-at_path-clause-takes = items.items::body-returns-else-at_path-clause-takes
 
-pub items::body-returns-else-at_path-clause-pays : goal.items::body-returns-else-at_path-clause-pays
-items::body-returns-else-at_path-clause-pays = items.items::body-returns-else-at_path-clause-pays
-
 pub items::module-complete-requires : goal.items::module-complete-requires
 items::module-complete-requires = items.items::module-complete-requires
 
@@ -1146,17 +1095,11 @@ items::item_turn-attribute-requires = items.items::item_turn-attribute-requires
 pub items::item_turn-returns-then-at_inner_attribute-clause-goes : goal.items::item_turn-returns-then-at_inner_attribute-clause-goes
 items::item_turn-returns-then-at_inner_attribute-clause-goes = items.items::item_turn-returns-then-at_inner_attribute-clause-goes
 
-pub items::item_turn-returns-then-at_inner_attribute-clause-innermost : goal.items::item_turn-returns-then-at_inner_attribute-clause-innermost
-items::item_turn-returns-then-at_inner_attribute-clause-innermost = items.items::item_turn-returns-then-at_inner_attribute-clause-innermost
-
 pub items::item_turn-item-requires : goal.items::item_turn-item-requires
 items::item_turn-item-requires = items.items::item_turn-item-requires
 
 pub items::item_turn-returns-clause-goes : goal.items::item_turn-returns-clause-goes
 items::item_turn-returns-clause-goes = items.items::item_turn-returns-clause-goes
-
-pub items::item_turn-returns-clause-innermost : goal.items::item_turn-returns-clause-innermost
-items::item_turn-returns-clause-innermost = items.items::item_turn-returns-clause-innermost
 
 pub items::items-turns-preserved : goal.items::items-turns-preserved
 items::items-turns-preserved = items.items::items-turns-preserved
@@ -1200,14 +1143,14 @@ expressions::layers::climb-turns-preserved = layers.expressions::layers::climb-t
 pub expressions::layers::climb-returns-after-turns-clause-reads : goal.expressions::layers::climb-returns-after-turns-clause-reads
 expressions::layers::climb-returns-after-turns-clause-reads = layers.expressions::layers::climb-returns-after-turns-clause-reads
 
-pub expressions::layers::climb-returns-after-turns-clause-looks : goal.expressions::layers::climb-returns-after-turns-clause-looks
-expressions::layers::climb-returns-after-turns-clause-looks = layers.expressions::layers::climb-returns-after-turns-clause-looks
+pub expressions::layers::climb-returns-after-turns-clause-asks : goal.expressions::layers::climb-returns-after-turns-clause-asks
+expressions::layers::climb-returns-after-turns-clause-asks = layers.expressions::layers::climb-returns-after-turns-clause-asks
 
 pub expressions::layers::climb-returns-else-next-top-clause-reads : goal.expressions::layers::climb-returns-else-next-top-clause-reads
 expressions::layers::climb-returns-else-next-top-clause-reads = layers.expressions::layers::climb-returns-else-next-top-clause-reads
 
-pub expressions::layers::climb-returns-else-next-top-clause-looks : goal.expressions::layers::climb-returns-else-next-top-clause-looks
-expressions::layers::climb-returns-else-next-top-clause-looks = layers.expressions::layers::climb-returns-else-next-top-clause-looks
+pub expressions::layers::climb-returns-else-next-top-clause-asks : goal.expressions::layers::climb-returns-else-next-top-clause-asks
+expressions::layers::climb-returns-else-next-top-clause-asks = layers.expressions::layers::climb-returns-else-next-top-clause-asks
 
 pub expressions::layers::turn-returns-then-operator-eq1-clause-reads : goal.expressions::layers::turn-returns-then-operator-eq1-clause-reads
 expressions::layers::turn-returns-then-operator-eq1-clause-reads = layers.expressions::layers::turn-returns-then-operator-eq1-clause-reads
@@ -1227,35 +1170,11 @@ lists::turn-returns-then-at_element-clause-goes = lists.lists::turn-returns-then
 pub lists::turn-returns-then-at_element-clause-ends : goal.lists::turn-returns-then-at_element-clause-ends
 lists::turn-returns-then-at_element-clause-ends = lists.lists::turn-returns-then-at_element-clause-ends
 
-pub lists::turn-returns-then-at_element-clause-innermost : goal.lists::turn-returns-then-at_element-clause-innermost
-lists::turn-returns-then-at_element-clause-innermost = lists.lists::turn-returns-then-at_element-clause-innermost
-
-pub lists::turn-returns-then-at_element-clause-fewer : goal.lists::turn-returns-then-at_element-clause-fewer
-lists::turn-returns-then-at_element-clause-fewer = lists.lists::turn-returns-then-at_element-clause-fewer
-
-pub lists::turn-returns-then-at_element-clause-pays : goal.lists::turn-returns-then-at_element-clause-pays
-lists::turn-returns-then-at_element-clause-pays = lists.lists::turn-returns-then-at_element-clause-pays
-
-pub lists::turn-returns-then-at_element-clause-looks : goal.lists::turn-returns-then-at_element-clause-looks
-lists::turn-returns-then-at_element-clause-looks = lists.lists::turn-returns-then-at_element-clause-looks
-
 pub lists::turn-returns-then-at_unexpected-clause-goes : goal.lists::turn-returns-then-at_unexpected-clause-goes
 lists::turn-returns-then-at_unexpected-clause-goes = lists.lists::turn-returns-then-at_unexpected-clause-goes
 
-pub lists::turn-returns-then-at_unexpected-clause-innermost : goal.lists::turn-returns-then-at_unexpected-clause-innermost
-lists::turn-returns-then-at_unexpected-clause-innermost = lists.lists::turn-returns-then-at_unexpected-clause-innermost
-
-pub lists::turn-returns-then-at_unexpected-clause-pays : goal.lists::turn-returns-then-at_unexpected-clause-pays
-lists::turn-returns-then-at_unexpected-clause-pays = lists.lists::turn-returns-then-at_unexpected-clause-pays
-
-pub lists::turn-returns-then-at_unexpected-clause-looks : goal.lists::turn-returns-then-at_unexpected-clause-looks
-lists::turn-returns-then-at_unexpected-clause-looks = lists.lists::turn-returns-then-at_unexpected-clause-looks
-
 pub lists::turn-returns-clause-ends : goal.lists::turn-returns-clause-ends
 lists::turn-returns-clause-ends = lists.lists::turn-returns-clause-ends
-
-pub lists::turn-returns-clause-looks : goal.lists::turn-returns-clause-looks
-lists::turn-returns-clause-looks = lists.lists::turn-returns-clause-looks
 
 pub lists::read_element-closure_param-requires : goal.lists::read_element-closure_param-requires
 lists::read_element-closure_param-requires = lists.lists::read_element-closure_param-requires
@@ -1662,9 +1581,6 @@ params::self_alone-complete-requires = params.params::self_alone-complete-requir
 pub params::self_alone-returns-clause-reads : goal.params::self_alone-returns-clause-reads
 params::self_alone-returns-clause-reads = params.params::self_alone-returns-clause-reads
 
-pub paths::generic_args-opt_colons-requires-clause-begins : goal.paths::generic_args-opt_colons-requires-clause-begins
-paths::generic_args-opt_colons-requires-clause-begins = paths.paths::generic_args-opt_colons-requires-clause-begins
-
 pub paths::generic_args-complete-requires : goal.paths::generic_args-complete-requires
 paths::generic_args-complete-requires = paths.paths::generic_args-complete-requires
 
@@ -1740,38 +1656,38 @@ patterns::single_pattern-returns-clause-gives = patterns.patterns::single_patter
 pub patterns::inside-returns-in-MINUS-clause-reads : goal.patterns::inside-returns-in-MINUS-clause-reads
 patterns::inside-returns-in-MINUS-clause-reads = patterns.patterns::inside-returns-in-MINUS-clause-reads
 
-pub patterns::inside-returns-in-MINUS-clause-marker : goal.patterns::inside-returns-in-MINUS-clause-marker
-patterns::inside-returns-in-MINUS-clause-marker = patterns.patterns::inside-returns-in-MINUS-clause-marker
+pub patterns::inside-returns-in-MINUS-clause-takes : goal.patterns::inside-returns-in-MINUS-clause-takes
+patterns::inside-returns-in-MINUS-clause-takes = patterns.patterns::inside-returns-in-MINUS-clause-takes
 
 pub patterns::inside-returns-in-UNDERSCORE-clause-reads : goal.patterns::inside-returns-in-UNDERSCORE-clause-reads
 patterns::inside-returns-in-UNDERSCORE-clause-reads = patterns.patterns::inside-returns-in-UNDERSCORE-clause-reads
 
-pub patterns::inside-returns-in-UNDERSCORE-clause-marker : goal.patterns::inside-returns-in-UNDERSCORE-clause-marker
-patterns::inside-returns-in-UNDERSCORE-clause-marker = patterns.patterns::inside-returns-in-UNDERSCORE-clause-marker
+pub patterns::inside-returns-in-UNDERSCORE-clause-takes : goal.patterns::inside-returns-in-UNDERSCORE-clause-takes
+patterns::inside-returns-in-UNDERSCORE-clause-takes = patterns.patterns::inside-returns-in-UNDERSCORE-clause-takes
 
 pub patterns::inside-returns-in-AMP-clause-reads : goal.patterns::inside-returns-in-AMP-clause-reads
 patterns::inside-returns-in-AMP-clause-reads = patterns.patterns::inside-returns-in-AMP-clause-reads
 
-pub patterns::inside-returns-in-AMP-clause-marker : goal.patterns::inside-returns-in-AMP-clause-marker
-patterns::inside-returns-in-AMP-clause-marker = patterns.patterns::inside-returns-in-AMP-clause-marker
+pub patterns::inside-returns-in-AMP-clause-takes : goal.patterns::inside-returns-in-AMP-clause-takes
+patterns::inside-returns-in-AMP-clause-takes = patterns.patterns::inside-returns-in-AMP-clause-takes
 
 pub patterns::inside-returns-in-L_BRACK-clause-reads : goal.patterns::inside-returns-in-L_BRACK-clause-reads
 patterns::inside-returns-in-L_BRACK-clause-reads = patterns.patterns::inside-returns-in-L_BRACK-clause-reads
 
-pub patterns::inside-returns-in-L_BRACK-clause-marker : goal.patterns::inside-returns-in-L_BRACK-clause-marker
-patterns::inside-returns-in-L_BRACK-clause-marker = patterns.patterns::inside-returns-in-L_BRACK-clause-marker
+pub patterns::inside-returns-in-L_BRACK-clause-takes : goal.patterns::inside-returns-in-L_BRACK-clause-takes
+patterns::inside-returns-in-L_BRACK-clause-takes = patterns.patterns::inside-returns-in-L_BRACK-clause-takes
 
 pub patterns::inside-returns-in-REF_KW-clause-reads : goal.patterns::inside-returns-in-REF_KW-clause-reads
 patterns::inside-returns-in-REF_KW-clause-reads = patterns.patterns::inside-returns-in-REF_KW-clause-reads
 
-pub patterns::inside-returns-in-REF_KW-clause-marker : goal.patterns::inside-returns-in-REF_KW-clause-marker
-patterns::inside-returns-in-REF_KW-clause-marker = patterns.patterns::inside-returns-in-REF_KW-clause-marker
+pub patterns::inside-returns-in-REF_KW-clause-takes : goal.patterns::inside-returns-in-REF_KW-clause-takes
+patterns::inside-returns-in-REF_KW-clause-takes = patterns.patterns::inside-returns-in-REF_KW-clause-takes
 
 pub patterns::inside-returns-in-MUT_KW-clause-reads : goal.patterns::inside-returns-in-MUT_KW-clause-reads
 patterns::inside-returns-in-MUT_KW-clause-reads = patterns.patterns::inside-returns-in-MUT_KW-clause-reads
 
-pub patterns::inside-returns-in-MUT_KW-clause-marker : goal.patterns::inside-returns-in-MUT_KW-clause-marker
-patterns::inside-returns-in-MUT_KW-clause-marker = patterns.patterns::inside-returns-in-MUT_KW-clause-marker
+pub patterns::inside-returns-in-MUT_KW-clause-takes : goal.patterns::inside-returns-in-MUT_KW-clause-takes
+patterns::inside-returns-in-MUT_KW-clause-takes = patterns.patterns::inside-returns-in-MUT_KW-clause-takes
 
 pub patterns::inside-returns-then-at_paren_before_dots : goal.patterns::inside-returns-then-at_paren_before_dots
 patterns::inside-returns-then-at_paren_before_dots = patterns.patterns::inside-returns-then-at_paren_before_dots
@@ -2025,8 +1941,8 @@ statements::after_block-wrap-requires = statements.statements::after_block-wrap-
 pub statements::after_block-returns-then-at-clause-reads : goal.statements::after_block-returns-then-at-clause-reads
 statements::after_block-returns-then-at-clause-reads = statements.statements::after_block-returns-then-at-clause-reads
 
-pub statements::after_block-returns-then-at_end_of-clause-marker : goal.statements::after_block-returns-then-at_end_of-clause-marker
-statements::after_block-returns-then-at_end_of-clause-marker = statements.statements::after_block-returns-then-at_end_of-clause-marker
+pub statements::after_block-returns-then-at_end_of-clause-asks : goal.statements::after_block-returns-then-at_end_of-clause-asks
+statements::after_block-returns-then-at_end_of-clause-asks = statements.statements::after_block-returns-then-at_end_of-clause-asks
 
 pub statements::after_block-returns-then-at_end_of-clause-reads : goal.statements::after_block-returns-then-at_end_of-clause-reads
 statements::after_block-returns-then-at_end_of-clause-reads = statements.statements::after_block-returns-then-at_end_of-clause-reads
@@ -2097,11 +2013,11 @@ types::inside-returns-in-IMPL_KW-clause-reads = types.types::inside-returns-in-I
 pub types::inside-returns-in-DYN_KW-clause-reads : goal.types::inside-returns-in-DYN_KW-clause-reads
 types::inside-returns-in-DYN_KW-clause-reads = types.types::inside-returns-in-DYN_KW-clause-reads
 
-pub types::inside-returns-in-BANG-clause-marker : goal.types::inside-returns-in-BANG-clause-marker
-types::inside-returns-in-BANG-clause-marker = types.types::inside-returns-in-BANG-clause-marker
+pub types::inside-returns-in-BANG-clause-takes : goal.types::inside-returns-in-BANG-clause-takes
+types::inside-returns-in-BANG-clause-takes = types.types::inside-returns-in-BANG-clause-takes
 
-pub types::inside-returns-in-UNDERSCORE-clause-marker : goal.types::inside-returns-in-UNDERSCORE-clause-marker
-types::inside-returns-in-UNDERSCORE-clause-marker = types.types::inside-returns-in-UNDERSCORE-clause-marker
+pub types::inside-returns-in-UNDERSCORE-clause-takes : goal.types::inside-returns-in-UNDERSCORE-clause-takes
+types::inside-returns-in-UNDERSCORE-clause-takes = types.types::inside-returns-in-UNDERSCORE-clause-takes
 
 pub types::inside-returns-then-at_dyn_word : goal.types::inside-returns-then-at_dyn_word
 types::inside-returns-then-at_dyn_word = types.types::inside-returns-then-at_dyn_word
@@ -2118,11 +2034,11 @@ types::bounded_type-complete-requires = types.types::bounded_type-complete-requi
 pub types::bounded_type-returns-clause-reads : goal.types::bounded_type-returns-clause-reads
 types::bounded_type-returns-clause-reads = types.types::bounded_type-returns-clause-reads
 
-pub types::inside-returns-in-IMPL_KW-clause-marker : goal.types::inside-returns-in-IMPL_KW-clause-marker
-types::inside-returns-in-IMPL_KW-clause-marker = types.types::inside-returns-in-IMPL_KW-clause-marker
+pub types::inside-returns-in-IMPL_KW-clause-takes : goal.types::inside-returns-in-IMPL_KW-clause-takes
+types::inside-returns-in-IMPL_KW-clause-takes = types.types::inside-returns-in-IMPL_KW-clause-takes
 
-pub types::inside-returns-in-DYN_KW-clause-marker : goal.types::inside-returns-in-DYN_KW-clause-marker
-types::inside-returns-in-DYN_KW-clause-marker = types.types::inside-returns-in-DYN_KW-clause-marker
+pub types::inside-returns-in-DYN_KW-clause-takes : goal.types::inside-returns-in-DYN_KW-clause-takes
+types::inside-returns-in-DYN_KW-clause-takes = types.types::inside-returns-in-DYN_KW-clause-takes
 
 pub types::path_type-path_with_args-requires : goal.types::path_type-path_with_args-requires
 types::path_type-path_with_args-requires = types.types::path_type-path_with_args-requires
@@ -2201,3 +2117,54 @@ types::opt_type_after-returns-then-at-clause-reads = types.types::opt_type_after
 
 pub types::opt_type_after-returns-else-at-clause-reads : goal.types::opt_type_after-returns-else-at-clause-reads
 types::opt_type_after-returns-else-at-clause-reads = types.types::opt_type_after-returns-else-at-clause-reads
+
+pub attributes::meta-path-requires : goal.attributes::meta-path-requires
+attributes::meta-path-requires = attributes.attributes::meta-path-requires
+
+pub expressions::control::arm_turn-returns-then-at_pattern-clause-keeps : goal.expressions::control::arm_turn-returns-then-at_pattern-clause-keeps
+expressions::control::arm_turn-returns-then-at_pattern-clause-keeps = control.expressions::control::arm_turn-returns-then-at_pattern-clause-keeps
+
+pub expressions::control::arm_turn-returns-then-at_pattern-clause-asks : goal.expressions::control::arm_turn-returns-then-at_pattern-clause-asks
+expressions::control::arm_turn-returns-then-at_pattern-clause-asks = control.expressions::control::arm_turn-returns-then-at_pattern-clause-asks
+
+pub expressions::control::arm_turn-returns-clause-keeps : goal.expressions::control::arm_turn-returns-clause-keeps
+expressions::control::arm_turn-returns-clause-keeps = control.expressions::control::arm_turn-returns-clause-keeps
+
+pub expressions::control::arm_turn-returns-clause-asks : goal.expressions::control::arm_turn-returns-clause-asks
+expressions::control::arm_turn-returns-clause-asks = control.expressions::control::arm_turn-returns-clause-asks
+
+pub expressions::range_end-returns-then-at_range_operand-clause-ends : goal.expressions::range_end-returns-then-at_range_operand-clause-ends
+expressions::range_end-returns-then-at_range_operand-clause-ends = expressions.expressions::range_end-returns-then-at_range_operand-clause-ends
+
+pub expressions::range_end-returns-clause-ends : goal.expressions::range_end-returns-clause-ends
+expressions::range_end-returns-clause-ends = expressions.expressions::range_end-returns-clause-ends
+
+pub expressions::range_end-returns-then-at_range_operand-clause-keeps : goal.expressions::range_end-returns-then-at_range_operand-clause-keeps
+expressions::range_end-returns-then-at_range_operand-clause-keeps = expressions.expressions::range_end-returns-then-at_range_operand-clause-keeps
+
+pub expressions::range_end-returns-clause-keeps : goal.expressions::range_end-returns-clause-keeps
+expressions::range_end-returns-clause-keeps = expressions.expressions::range_end-returns-clause-keeps
+
+pub items::item_turn-returns-then-at_inner_attribute-clause-keeps : goal.items::item_turn-returns-then-at_inner_attribute-clause-keeps
+items::item_turn-returns-then-at_inner_attribute-clause-keeps = items.items::item_turn-returns-then-at_inner_attribute-clause-keeps
+
+pub items::item_turn-returns-clause-keeps : goal.items::item_turn-returns-clause-keeps
+items::item_turn-returns-clause-keeps = items.items::item_turn-returns-clause-keeps
+
+pub lists::turn-returns-then-at_element-clause-keeps : goal.lists::turn-returns-then-at_element-clause-keeps
+lists::turn-returns-then-at_element-clause-keeps = lists.lists::turn-returns-then-at_element-clause-keeps
+
+pub lists::turn-returns-then-at_element-clause-asks : goal.lists::turn-returns-then-at_element-clause-asks
+lists::turn-returns-then-at_element-clause-asks = lists.lists::turn-returns-then-at_element-clause-asks
+
+pub lists::turn-returns-then-at_unexpected-clause-keeps : goal.lists::turn-returns-then-at_unexpected-clause-keeps
+lists::turn-returns-then-at_unexpected-clause-keeps = lists.lists::turn-returns-then-at_unexpected-clause-keeps
+
+pub lists::turn-returns-then-at_unexpected-clause-asks : goal.lists::turn-returns-then-at_unexpected-clause-asks
+lists::turn-returns-then-at_unexpected-clause-asks = lists.lists::turn-returns-then-at_unexpected-clause-asks
+
+pub lists::turn-returns-clause-asks : goal.lists::turn-returns-clause-asks
+lists::turn-returns-clause-asks = lists.lists::turn-returns-clause-asks
+
+pub paths::generic_args-opt_colons-requires : goal.paths::generic_args-opt_colons-requires
+paths::generic_args-opt_colons-requires = paths.paths::generic_args-opt_colons-requires

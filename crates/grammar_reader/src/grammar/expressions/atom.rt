@@ -1,6 +1,6 @@
 //! Expressions without an operator.
 
-ghost use Rattle.std.specs.Prelude.{◌≤◌, ◌+◌, Bool, true, false};
+ghost use Rattle.std.specs.Prelude.{◌≤◌, Bool};
 ghost use Rattle.parser_input.specs.Kind.{raw_of};
 ghost use Rattle.parser_events.specs.Stack.{IsInnermost};
 ghost use Rattle.rust_grammar.specs.Notation.{◌▸◌, ◌⟨◌⟩};
@@ -9,8 +9,9 @@ ghost use Rattle.rust_grammar.specs.Rule.{One};
 ghost use Rattle.rust_grammar.specs.Whole.{rule};
 ghost use Rattle.rust_grammar.specs.Words.{one};
 ghost use Rattle.rust_grammar.specs.Expressions as rows;
-ghost use Rattle.rust_productions.specs.Looks.{tokens, spent};
-ghost use Rattle.rust_productions.specs.Reads.{looks, Reads, Saw};
+ghost use Rattle.rust_productions.specs.Looks.{tokens, Takes, Asks, TakesIn, AsksIn};
+ghost use Rattle.rust_productions.specs.Reads.{looks, Reads};
+ghost use Rattle.rust_productions.specs.Starts.{Starts, StartsIn};
 
 use crate::grammar::expressions::closures::{closure_expr, move_closure};
 use crate::grammar::expressions::control::block_like;
@@ -33,13 +34,10 @@ use rust_productions::grammar::{
 // (a)
 #[cycle(grammar)]
 pub(crate) fn inside(p: &mut Parser<'_>, frame: Marker, condition: bool) -> Marker
-    requires begins { Saw condition (looks rules.atom) p.old true }
-    requires some { 1 ≤ tokens p.old }
+    requires begins { StartsIn condition (looks rules.atom) p.old }
     requires innermost { IsInnermost frame p.old.nodes }
     ensures reads { Reads condition (rule rules.atom) p.old p.new }
-    ensures marker { IsInnermost result p.new.nodes }
-    ensures left { tokens p.new + 1 ≤ tokens p.old }
-    ensures looks { spent p.new + 2890 ≤ spent p.old }
+    ensures takes { TakesIn result 2890 p.old p.new }
 {
     match current(p) {
         SyntaxKind::L_PAREN => paren_expr(p, frame),
@@ -89,13 +87,10 @@ pub(crate) fn inside(p: &mut Parser<'_>, frame: Marker, condition: bool) -> Mark
 // S { a: 1 }
 #[cycle(grammar)]
 fn path_expr(p: &mut Parser<'_>, frame: Marker, condition: bool) -> Marker
-    requires begins { (c : Bool) → Saw c (looks rules.path) p.old true }
-    requires some { 1 ≤ tokens p.old }
+    requires begins { Starts (looks rules.path) p.old }
     requires innermost { IsInnermost frame p.old.nodes }
     ensures reads { Reads condition rows.path_expr p.old p.new }
-    ensures marker { IsInnermost result p.new.nodes }
-    ensures left { tokens p.new + 1 ≤ tokens p.old }
-    ensures looks { spent p.new + 3990 ≤ spent p.old }
+    ensures takes { TakesIn result 3990 p.old p.new }
 {
     path_with_args(p, Mode::Expr);
     after_path(p, frame, condition)
@@ -107,9 +102,7 @@ fn path_expr(p: &mut Parser<'_>, frame: Marker, condition: bool) -> Marker
 fn after_path(p: &mut Parser<'_>, frame: Marker, condition: bool) -> Marker
     requires innermost { IsInnermost frame p.old.nodes }
     ensures reads { Reads condition rows.after_path p.old p.new }
-    ensures marker { IsInnermost result p.new.nodes }
-    ensures left { tokens p.new ≤ tokens p.old }
-    ensures looks { spent p.new ≤ spent p.old + 4 }
+    ensures asks { AsksIn result 4 p.old p.new }
 {
     if at_pair(p, SyntaxKind::BANG, SyntaxKind::EQ) {
         return wrap(p, frame, SyntaxKind::PATH_EXPR);
@@ -134,8 +127,7 @@ fn after_path(p: &mut Parser<'_>, frame: Marker, condition: bool) -> Marker
 fn macro_call(p: &mut Parser<'_>)
     requires { 1 ≤ tokens p.old }
     ensures reads { (c : Bool) → Reads c rows.macro_tail p.old p.new }
-    ensures left { tokens p.new + 1 ≤ tokens p.old }
-    ensures looks { spent p.new + 4090 ≤ spent p.old }
+    ensures takes { Takes 4090 p.old p.new }
 {
     take(p, SyntaxKind::BANG);
     expect_token_tree(p);
@@ -148,9 +140,7 @@ fn paren_expr(p: &mut Parser<'_>, frame: Marker) -> Marker
     requires some { 1 ≤ tokens p.old }
     requires innermost { IsInnermost frame p.old.nodes }
     ensures reads { (c : Bool) → Reads c rows.tuple_or_paren p.old p.new }
-    ensures marker { IsInnermost result p.new.nodes }
-    ensures left { tokens p.new + 1 ≤ tokens p.old }
-    ensures looks { spent p.new + 3300 ≤ spent p.old }
+    ensures takes { TakesIn result 3300 p.old p.new }
 {
     take(p, SyntaxKind::L_PAREN);
     after_paren(p, frame)
@@ -162,9 +152,7 @@ fn paren_expr(p: &mut Parser<'_>, frame: Marker) -> Marker
 fn after_paren(p: &mut Parser<'_>, frame: Marker) -> Marker
     requires innermost { IsInnermost frame p.old.nodes }
     ensures reads { (c : Bool) → Reads c rows.after_l_paren p.old p.new }
-    ensures marker { IsInnermost result p.new.nodes }
-    ensures left { tokens p.new ≤ tokens p.old }
-    ensures looks { spent p.new ≤ spent p.old + 780 }
+    ensures asks { AsksIn result 780 p.old p.new }
 {
     if at(p, SyntaxKind::R_PAREN) {
         take(p, SyntaxKind::R_PAREN);
@@ -186,8 +174,7 @@ fn after_paren(p: &mut Parser<'_>, frame: Marker) -> Marker
 fn array_expr(p: &mut Parser<'_>)
     requires some { 1 ≤ tokens p.old }
     ensures reads { (c : Bool) → Reads c rows.array_expr p.old p.new }
-    ensures left { tokens p.new + 1 ≤ tokens p.old }
-    ensures looks { spent p.new + 3200 ≤ spent p.old }
+    ensures takes { Takes 3200 p.old p.new }
 {
     let node = start(p);
     take(p, SyntaxKind::L_BRACK);
@@ -200,8 +187,7 @@ fn array_expr(p: &mut Parser<'_>)
 #[cycle(grammar)]
 fn array_elements(p: &mut Parser<'_>)
     ensures reads { (c : Bool) → Reads c rows.array_elements p.old p.new }
-    ensures left { tokens p.new ≤ tokens p.old }
-    ensures looks { spent p.new ≤ spent p.old + 780 }
+    ensures asks { Asks 780 p.old p.new }
 {
     if at_expression(p, false) {
         expression(p, false);
@@ -216,8 +202,7 @@ fn array_elements(p: &mut Parser<'_>)
 #[cycle(grammar)]
 fn after_element(p: &mut Parser<'_>)
     ensures reads { (c : Bool) → Reads c rows.after_element p.old p.new }
-    ensures left { tokens p.new ≤ tokens p.old }
-    ensures looks { spent p.new ≤ spent p.old + 3 }
+    ensures asks { Asks 3 p.old p.new }
 {
     if at(p, SyntaxKind::SEMICOLON) {
         take(p, SyntaxKind::SEMICOLON);
@@ -245,8 +230,7 @@ fn value_expr(p: &mut Parser<'_>, token: SyntaxKind, kind: SyntaxKind, condition
     requires some { 1 ≤ tokens p.old }
     ensures reads { Reads condition (raw_of kind ⟨ One (one (raw_of token))
         ▸ rows.value ⟩) p.old p.new }
-    ensures left { tokens p.new + 1 ≤ tokens p.old }
-    ensures looks { spent p.new + 3300 ≤ spent p.old }
+    ensures takes { Takes 3300 p.old p.new }
 {
     let node = start(p);
     take(p, token);
@@ -259,8 +243,7 @@ fn value_expr(p: &mut Parser<'_>, token: SyntaxKind, kind: SyntaxKind, condition
 #[cycle(grammar)]
 fn opt_value(p: &mut Parser<'_>, condition: bool)
     ensures reads { Reads condition rows.value p.old p.new }
-    ensures left { tokens p.new ≤ tokens p.old }
-    ensures looks { spent p.new ≤ spent p.old + 780 }
+    ensures asks { Asks 780 p.old p.new }
 {
     if at_body(p, condition) {
         return;
@@ -276,8 +259,7 @@ fn opt_value(p: &mut Parser<'_>, condition: bool)
 fn let_expr(p: &mut Parser<'_>, condition: bool)
     requires some { 1 ≤ tokens p.old }
     ensures reads { Reads condition rows.let_expr p.old p.new }
-    ensures left { tokens p.new + 1 ≤ tokens p.old }
-    ensures looks { spent p.new + 3300 ≤ spent p.old }
+    ensures takes { Takes 3300 p.old p.new }
 {
     let node = start(p);
     take(p, SyntaxKind::LET_KW);

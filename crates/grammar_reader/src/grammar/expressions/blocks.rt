@@ -1,14 +1,14 @@
 //! Blocks.
 
-ghost use Rattle.std.specs.Prelude.{◌≡◌, ◌≤◌, ◌<◌, ◌+◌, Bool, ℕ, IsTrue, false};
-ghost use Rattle.parser_events.specs.Stack.{IsInnermost};
+ghost use Rattle.std.specs.Prelude.{◌≡◌, ◌≤◌, Bool, IsTrue, false};
 ghost use Rattle.rust_grammar.specs.Rule as rules;
 ghost use Rattle.rust_grammar.specs.Rule.{Call, Unless};
 ghost use Rattle.rust_grammar.specs.Statements.{all_of};
 ghost use Rattle.grammar_reader.specs.Told.{ends_of, listing_of};
-ghost use Rattle.rust_productions.specs.Looks.{tokens, spent};
+ghost use Rattle.rust_productions.specs.Looks.{tokens, Takes, Asks};
 ghost use Rattle.rust_productions.specs.Reads.{Gives, Reads};
-ghost use Rattle.rust_productions.specs.Turns.{TurnsFrom};
+ghost use Rattle.rust_productions.specs.Turns.{TakesTurn};
+ghost use Rattle.rust_productions.specs.Moves.{Keeps};
 
 use crate::grammar::list_end::{ListEnd, at_end_of};
 use crate::grammar::statements::statement;
@@ -22,8 +22,7 @@ use rust_productions::grammar::{complete, expect, start, take, tokens_left};
 pub(crate) fn block(p: &mut Parser<'_>)
     requires some { 1 ≤ tokens p.old }
     ensures gives { (c : Bool) → Gives rules.block c p.old p.new }
-    ensures left { tokens p.new + 1 ≤ tokens p.old }
-    ensures looks { spent p.new + 2990 ≤ spent p.old }
+    ensures takes { Takes 2990 p.old p.new }
 {
     let block = start(p);
     statement_list(p);
@@ -36,8 +35,7 @@ pub(crate) fn block(p: &mut Parser<'_>)
 pub(crate) fn statement_list(p: &mut Parser<'_>)
     requires some { 1 ≤ tokens p.old }
     ensures gives { (c : Bool) → Gives rules.statement_list c p.old p.new }
-    ensures left { tokens p.new + 1 ≤ tokens p.old }
-    ensures looks { spent p.new + 3000 ≤ spent p.old }
+    ensures takes { Takes 3000 p.old p.new }
 {
     let list = start(p);
     take(p, SyntaxKind::L_CURLY);
@@ -51,13 +49,10 @@ pub(crate) fn statement_list(p: &mut Parser<'_>)
 #[cycle(grammar)]
 fn statement_turn(p: &mut Parser<'_>, end: ListEnd) -> bool
     ensures goes { IsTrue result
-        → TurnsFrom false (Unless (ends_of end) (Call (listing_of end).one)) p.old p.new }
+        → TakesTurn false (Unless (ends_of end) (Call (listing_of end).one)) p.old p.new }
     ensures ends { result ≡ false → Reads false (all_of (listing_of end)) p.old p.new }
-    ensures innermost { (n : ℕ) → IsInnermost n p.old.nodes → IsInnermost n p.new.nodes }
-    ensures fewer { IsTrue result → tokens p.new < tokens p.old }
-    ensures left { tokens p.new ≤ tokens p.old }
-    ensures pays { IsTrue result → spent p.new ≤ spent p.old }
-    ensures looks { spent p.new ≤ spent p.old + 901 }
+    ensures keeps { Keeps p.old p.new }
+    ensures asks { Asks 901 p.old p.new }
 {
     if at_end_of(p, end) {
         return false;
@@ -72,8 +67,7 @@ fn statement_turn(p: &mut Parser<'_>, end: ListEnd) -> bool
 #[cycle(grammar)]
 pub(crate) fn statements(p: &mut Parser<'_>, end: ListEnd)
     ensures reads { Reads false (all_of (listing_of end)) p.old p.new }
-    ensures left { tokens p.new ≤ tokens p.old }
-    ensures looks { spent p.new ≤ spent p.old + 901 }
+    ensures asks { Asks 901 p.old p.new }
 {
     'turns: while statement_turn(p, end) {}
 }

@@ -1,6 +1,6 @@
 //! Closures.
 
-ghost use Rattle.std.specs.Prelude.{◌≤◌, ◌+◌, Bool, true, false};
+ghost use Rattle.std.specs.Prelude.{◌≤◌, Bool, true, false};
 ghost use Rattle.parser_input.specs.Kinds.{CLOSURE_EXPR};
 ghost use Rattle.rust_grammar.specs.Expressions as rows;
 ghost use Rattle.rust_grammar.specs.Notation.{◌▸◌, ⁅◌⁆, ◌!, ◌⟨◌⟩};
@@ -8,7 +8,7 @@ ghost use Rattle.rust_grammar.specs.Rule as rules;
 ghost use Rattle.rust_grammar.specs.Rule.{One};
 ghost use Rattle.rust_grammar.specs.Words.{'move'};
 ghost use Rattle.rust_grammar.specs.Shared.{type_annotation};
-ghost use Rattle.rust_productions.specs.Looks.{tokens, spent};
+ghost use Rattle.rust_productions.specs.Looks.{tokens, Takes, Asks};
 ghost use Rattle.rust_productions.specs.Reads.{looks, Reads, Saw};
 
 use crate::grammar::expressions::control::expect_block;
@@ -28,8 +28,7 @@ pub(crate) fn closure_expr(p: &mut Parser<'_>, condition: bool)
     requires some { 1 ≤ tokens p.old }
     ensures reads { Reads condition
         (CLOSURE_EXPR ⟨ rows.closure_params ▸ rows.closure_body ⟩) p.old p.new }
-    ensures left { tokens p.new + 1 ≤ tokens p.old }
-    ensures looks { spent p.new + 3280 ≤ spent p.old }
+    ensures takes { Takes 3280 p.old p.new }
 {
     let node = start(p);
     closure_params(p);
@@ -44,8 +43,7 @@ pub(crate) fn move_closure(p: &mut Parser<'_>, condition: bool)
     requires some { 1 ≤ tokens p.old }
     ensures reads { Reads condition (CLOSURE_EXPR
         ⟨ One 'move' ▸ rows.closure_params ! ▸ rows.closure_body ⟩) p.old p.new }
-    ensures left { tokens p.new + 1 ≤ tokens p.old }
-    ensures looks { spent p.new + 3280 ≤ spent p.old }
+    ensures takes { Takes 3280 p.old p.new }
 {
     let node = start(p);
     take(p, SyntaxKind::MOVE_KW);
@@ -59,8 +57,7 @@ pub(crate) fn move_closure(p: &mut Parser<'_>, condition: bool)
 #[cycle(grammar)]
 fn expect_closure_params(p: &mut Parser<'_>)
     ensures reads { (c : Bool) → Reads c (rows.closure_params !) p.old p.new }
-    ensures left { tokens p.new ≤ tokens p.old }
-    ensures looks { spent p.new ≤ spent p.old + 1 }
+    ensures asks { Asks 1 p.old p.new }
 {
     if at(p, SyntaxKind::PIPE) {
         closure_params(p);
@@ -75,8 +72,7 @@ fn expect_closure_params(p: &mut Parser<'_>)
 fn closure_params(p: &mut Parser<'_>)
     requires some { 1 ≤ tokens p.old }
     ensures reads { (c : Bool) → Reads c rows.closure_params p.old p.new }
-    ensures left { tokens p.new + 1 ≤ tokens p.old }
-    ensures looks { spent p.new + 4075 ≤ spent p.old }
+    ensures takes { Takes 4075 p.old p.new }
 {
     let list = start(p);
     take(p, SyntaxKind::PIPE);
@@ -96,8 +92,7 @@ pub(crate) fn closure_param(p: &mut Parser<'_>)
     requires begins { (c : Bool) → Saw c (looks rules.single_pattern) p.old true }
     requires some { 1 ≤ tokens p.old }
     ensures reads { Reads false rows.closure_param p.old p.new }
-    ensures left { tokens p.new + 1 ≤ tokens p.old }
-    ensures looks { spent p.new + 2900 ≤ spent p.old }
+    ensures takes { Takes 2900 p.old p.new }
 {
     let node = start(p);
     single_pattern(p);
@@ -110,8 +105,7 @@ pub(crate) fn closure_param(p: &mut Parser<'_>)
 #[cycle(grammar)]
 pub(crate) fn opt_type(p: &mut Parser<'_>, condition: bool)
     ensures reads { Reads condition ⁅ type_annotation ⁆ p.old p.new }
-    ensures left { tokens p.new ≤ tokens p.old }
-    ensures looks { spent p.new ≤ spent p.old + 1 }
+    ensures asks { Asks 1 p.old p.new }
 {
     if at(p, SyntaxKind::COLON) {
         take(p, SyntaxKind::COLON);
@@ -124,8 +118,7 @@ pub(crate) fn opt_type(p: &mut Parser<'_>, condition: bool)
 #[cycle(grammar)]
 fn closure_body(p: &mut Parser<'_>, condition: bool)
     ensures reads { Reads condition rows.closure_body p.old p.new }
-    ensures left { tokens p.new ≤ tokens p.old }
-    ensures looks { spent p.new ≤ spent p.old + 780 }
+    ensures asks { Asks 780 p.old p.new }
 {
     if at_pair(p, SyntaxKind::MINUS, SyntaxKind::R_ANGLE) {
         ret_type(p, condition);

@@ -1,14 +1,15 @@
 //! Expressions that end in a block.
 
-ghost use Rattle.std.specs.Prelude.{◌≡◌, ◌≤◌, ◌<◌, ◌+◌, Bool, ℕ, IsTrue, true, false};
-ghost use Rattle.parser_events.specs.Stack.{IsInnermost};
+ghost use Rattle.std.specs.Prelude.{◌≡◌, ◌≤◌, ◌+◌, Bool, IsTrue, true, false};
 ghost use Rattle.rust_grammar.specs.Calls.{Block, MatchArms, StatementList};
 ghost use Rattle.rust_grammar.specs.Notation.{⁅◌⁆, ◌*, ◌! };
 ghost use Rattle.rust_grammar.specs.Rule as rules;
 ghost use Rattle.rust_grammar.specs.Expressions as rows;
-ghost use Rattle.rust_productions.specs.Looks.{tokens, spent};
+ghost use Rattle.rust_productions.specs.Looks.{tokens, spent, Takes, Asks};
 ghost use Rattle.rust_productions.specs.Reads.{looks, Gives, Reads, Saw};
-ghost use Rattle.rust_productions.specs.Turns.{TurnsFrom};
+ghost use Rattle.rust_productions.specs.Turns.{TakesTurn};
+ghost use Rattle.rust_productions.specs.Starts.{Starts};
+ghost use Rattle.rust_productions.specs.Moves.{Keeps};
 
 use crate::grammar::expressions::blocks::{block, statement_list};
 use crate::grammar::expressions::expect_condition;
@@ -29,8 +30,7 @@ pub(crate) fn block_like(p: &mut Parser<'_>)
     requires begins { (c : Bool) → Saw c (looks rules.block_like) p.old true }
     requires some { 1 ≤ tokens p.old }
     ensures gives { (c : Bool) → Gives rules.block_like c p.old p.new }
-    ensures left { tokens p.new + 1 ≤ tokens p.old }
-    ensures looks { spent p.new + 2910 ≤ spent p.old }
+    ensures takes { Takes 2910 p.old p.new }
 {
     match current(p) {
         SyntaxKind::L_CURLY => block(p),
@@ -49,8 +49,7 @@ pub(crate) fn block_like(p: &mut Parser<'_>)
 #[cycle(grammar)]
 fn expect_statement_list(p: &mut Parser<'_>)
     ensures reads { (c : Bool) → Reads c (StatementList !) p.old p.new }
-    ensures left { tokens p.new ≤ tokens p.old }
-    ensures looks { spent p.new ≤ spent p.old + 1 }
+    ensures asks { Asks 1 p.old p.new }
 {
     if at(p, SyntaxKind::L_CURLY) {
         statement_list(p);
@@ -64,8 +63,7 @@ fn expect_statement_list(p: &mut Parser<'_>)
 #[cycle(grammar)]
 pub(crate) fn expect_block(p: &mut Parser<'_>)
     ensures reads { (c : Bool) → Reads c (Block !) p.old p.new }
-    ensures left { tokens p.new ≤ tokens p.old }
-    ensures looks { spent p.new ≤ spent p.old + 1 }
+    ensures asks { Asks 1 p.old p.new }
 {
     if at(p, SyntaxKind::L_CURLY) {
         block(p);
@@ -80,8 +78,7 @@ pub(crate) fn expect_block(p: &mut Parser<'_>)
 fn unsafe_block(p: &mut Parser<'_>)
     requires some { 1 ≤ tokens p.old }
     ensures reads { (c : Bool) → Reads c rows.unsafe_block p.old p.new }
-    ensures left { tokens p.new + 1 ≤ tokens p.old }
-    ensures looks { spent p.new + 4090 ≤ spent p.old }
+    ensures takes { Takes 4090 p.old p.new }
 {
     let node = start(p);
     take(p, SyntaxKind::UNSAFE_KW);
@@ -95,8 +92,7 @@ fn unsafe_block(p: &mut Parser<'_>)
 pub(crate) fn if_expr(p: &mut Parser<'_>)
     requires some { 1 ≤ tokens p.old }
     ensures gives { (c : Bool) → Gives rules.if_expr c p.old p.new }
-    ensures left { tokens p.new + 1 ≤ tokens p.old }
-    ensures looks { spent p.new + 3300 ≤ spent p.old }
+    ensures takes { Takes 3300 p.old p.new }
 {
     let node = start(p);
     take(p, SyntaxKind::IF_KW);
@@ -111,8 +107,7 @@ pub(crate) fn if_expr(p: &mut Parser<'_>)
 #[cycle(grammar)]
 fn opt_else(p: &mut Parser<'_>)
     ensures reads { (c : Bool) → Reads c ⁅ rows.else_branch ⁆ p.old p.new }
-    ensures left { tokens p.new ≤ tokens p.old }
-    ensures looks { spent p.new ≤ spent p.old + 1 }
+    ensures asks { Asks 1 p.old p.new }
 {
     if at(p, SyntaxKind::ELSE_KW) {
         take(p, SyntaxKind::ELSE_KW);
@@ -125,8 +120,7 @@ fn opt_else(p: &mut Parser<'_>)
 #[cycle(grammar)]
 fn after_else(p: &mut Parser<'_>)
     ensures reads { (c : Bool) → Reads c rows.if_or_block p.old p.new }
-    ensures left { tokens p.new ≤ tokens p.old }
-    ensures looks { spent p.new ≤ spent p.old + 2 }
+    ensures asks { Asks 2 p.old p.new }
 {
     if at(p, SyntaxKind::IF_KW) {
         if_expr(p);
@@ -141,8 +135,7 @@ fn after_else(p: &mut Parser<'_>)
 fn while_expr(p: &mut Parser<'_>)
     requires some { 1 ≤ tokens p.old }
     ensures reads { (c : Bool) → Reads c rows.while_expr p.old p.new }
-    ensures left { tokens p.new + 1 ≤ tokens p.old }
-    ensures looks { spent p.new + 3300 ≤ spent p.old }
+    ensures takes { Takes 3300 p.old p.new }
 {
     let node = start(p);
     take(p, SyntaxKind::WHILE_KW);
@@ -157,8 +150,7 @@ fn while_expr(p: &mut Parser<'_>)
 fn loop_expr(p: &mut Parser<'_>)
     requires some { 1 ≤ tokens p.old }
     ensures reads { (c : Bool) → Reads c rows.loop_expr p.old p.new }
-    ensures left { tokens p.new + 1 ≤ tokens p.old }
-    ensures looks { spent p.new + 4090 ≤ spent p.old }
+    ensures takes { Takes 4090 p.old p.new }
 {
     let node = start(p);
     take(p, SyntaxKind::LOOP_KW);
@@ -172,8 +164,7 @@ fn loop_expr(p: &mut Parser<'_>)
 fn for_expr(p: &mut Parser<'_>)
     requires some { 1 ≤ tokens p.old }
     ensures reads { (c : Bool) → Reads c rows.for_expr p.old p.new }
-    ensures left { tokens p.new + 1 ≤ tokens p.old }
-    ensures looks { spent p.new + 3300 ≤ spent p.old }
+    ensures takes { Takes 3300 p.old p.new }
 {
     let node = start(p);
     take(p, SyntaxKind::FOR_KW);
@@ -190,8 +181,7 @@ fn for_expr(p: &mut Parser<'_>)
 fn match_expr(p: &mut Parser<'_>)
     requires some { 1 ≤ tokens p.old }
     ensures reads { (c : Bool) → Reads c rows.match_expr p.old p.new }
-    ensures left { tokens p.new + 1 ≤ tokens p.old }
-    ensures looks { spent p.new + 3300 ≤ spent p.old }
+    ensures takes { Takes 3300 p.old p.new }
 {
     let node = start(p);
     take(p, SyntaxKind::MATCH_KW);
@@ -205,8 +195,7 @@ fn match_expr(p: &mut Parser<'_>)
 #[cycle(grammar)]
 fn expect_match_arms(p: &mut Parser<'_>)
     ensures reads { (c : Bool) → Reads c (MatchArms !) p.old p.new }
-    ensures left { tokens p.new ≤ tokens p.old }
-    ensures looks { spent p.new ≤ spent p.old + 1 }
+    ensures asks { Asks 1 p.old p.new }
 {
     if at(p, SyntaxKind::L_CURLY) {
         match_arms(p);
@@ -221,8 +210,7 @@ fn expect_match_arms(p: &mut Parser<'_>)
 pub(crate) fn match_arms(p: &mut Parser<'_>)
     requires some { 1 ≤ tokens p.old }
     ensures gives { (c : Bool) → Gives rules.match_arms c p.old p.new }
-    ensures left { tokens p.new + 1 ≤ tokens p.old }
-    ensures looks { spent p.new + 3000 ≤ spent p.old }
+    ensures takes { Takes 3000 p.old p.new }
 {
     let list = start(p);
     take(p, SyntaxKind::L_CURLY);
@@ -236,8 +224,7 @@ pub(crate) fn match_arms(p: &mut Parser<'_>)
 #[cycle(grammar)]
 fn arms(p: &mut Parser<'_>)
     ensures reads { Reads false (rows.arm_turn *) p.old p.new }
-    ensures left { tokens p.new ≤ tokens p.old }
-    ensures looks { spent p.new ≤ spent p.old + 1080 }
+    ensures asks { Asks 1080 p.old p.new }
 {
     'turns: while arm_turn(p) {}
 }
@@ -246,13 +233,10 @@ fn arms(p: &mut Parser<'_>)
 // a => b,
 #[cycle(grammar)]
 fn arm_turn(p: &mut Parser<'_>) -> bool
-    ensures goes { IsTrue result → TurnsFrom false rows.arm_turn p.old p.new }
+    ensures goes { IsTrue result → TakesTurn false rows.arm_turn p.old p.new }
     ensures ends { result ≡ false → Reads false (rows.arm_turn *) p.old p.new }
-    ensures innermost { (n : ℕ) → IsInnermost n p.old.nodes → IsInnermost n p.new.nodes }
-    ensures fewer { IsTrue result → tokens p.new < tokens p.old }
-    ensures left { tokens p.new ≤ tokens p.old }
-    ensures pays { IsTrue result → spent p.new ≤ spent p.old }
-    ensures looks { spent p.new ≤ spent p.old + 1080 }
+    ensures keeps { Keeps p.old p.new }
+    ensures asks { Asks 1080 p.old p.new }
 {
     if at_list_end(p, SyntaxKind::R_CURLY) {
         return false;
@@ -268,8 +252,7 @@ fn arm_turn(p: &mut Parser<'_>) -> bool
 /// Parses a path of one identifier, before the `!` of a macro call with braces.
 // m
 fn word_path(p: &mut Parser<'_>)
-    requires begins { (c : Bool) → Saw c rows.macro_block_begins p.old true }
-    requires some { 1 ≤ tokens p.old }
+    requires begins { Starts rows.macro_block_begins p.old }
     ensures gives { (c : Bool) → Gives rules.expr_path c p.old p.new }
     ensures left { tokens p.new + 1 ≡ tokens p.old }
     ensures looks { spent p.new + 4096 ≡ spent p.old }
@@ -291,8 +274,7 @@ fn macro_block(p: &mut Parser<'_>)
     requires begins { (c : Bool) → Saw c rows.macro_block_begins p.old true }
     requires some { 3 ≤ tokens p.old }
     ensures reads { (c : Bool) → Reads c rows.macro_block p.old p.new }
-    ensures left { tokens p.new + 1 ≤ tokens p.old }
-    ensures looks { spent p.new + 4080 ≤ spent p.old }
+    ensures takes { Takes 4080 p.old p.new }
 {
     let node = start(p);
     let call = start(p);

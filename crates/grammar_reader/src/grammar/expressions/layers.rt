@@ -1,14 +1,15 @@
 //! Operands with the operators between them.
 
-ghost use Rattle.std.specs.Prelude.{◌≤◌, ◌+◌, true};
+ghost use Rattle.std.specs.Prelude.{◌≤◌};
 ghost use Rattle.parser_events.specs.Forest.{ExpectedExpression};
 ghost use Rattle.parser_events.specs.Stack.{IsInnermost};
 ghost use Rattle.rust_grammar.specs.Rule as rules;
 ghost use Rattle.rust_grammar.specs.Rule.{Call, Want};
 ghost use Rattle.rust_productions.specs.Layers.{layer_at, repeated, turn_at, turns_from};
-ghost use Rattle.rust_productions.specs.Looks.{tokens, spent};
-ghost use Rattle.rust_productions.specs.Operators.{IsNext};
-ghost use Rattle.rust_productions.specs.Reads.{looks, Gives, Reads, Saw};
+ghost use Rattle.rust_productions.specs.Looks.{Takes, Asks, TakesIn, AsksIn};
+ghost use Rattle.rust_productions.specs.Operators.{IsLayerNext};
+ghost use Rattle.rust_productions.specs.Reads.{looks, Gives, Reads};
+ghost use Rattle.rust_productions.specs.Starts.{StartsIn};
 
 use crate::grammar::expressions::operand::prefixed;
 use crate::grammar::types::expect_type;
@@ -23,12 +24,10 @@ use rust_productions::grammar::{abandon, error, start, wrap};
 // a * b + c
 #[cycle(grammar)]
 pub(crate) fn layers(p: &mut Parser<'_>, height: u8, condition: bool)
-    requires begins { Saw condition (looks rules.prefixed) p.old true }
-    requires some { 1 ≤ tokens p.old }
+    requires begins { StartsIn condition (looks rules.prefixed) p.old }
     requires high { height ≤ 10 }
     ensures gives { Gives (layer_at height) condition p.old p.new }
-    ensures left { tokens p.new + 1 ≤ tokens p.old }
-    ensures looks { spent p.new + 2860 ≤ spent p.old }
+    ensures takes { Takes 2860 p.old p.new }
 {
     let frame = start(p);
     prefixed(p, condition);
@@ -44,9 +43,7 @@ pub(crate) fn climb(p: &mut Parser<'_>, frame: Marker, top: u8, condition: bool)
     requires high { top ≤ 10 }
     requires innermost { IsInnermost frame p.old.nodes }
     ensures reads { Reads condition (repeated (turns_from top 1)) p.old p.new }
-    ensures marker { IsInnermost result p.new.nodes }
-    ensures left { tokens p.new ≤ tokens p.old }
-    ensures looks { spent p.new ≤ spent p.old + 4 }
+    ensures asks { AsksIn result 4 p.old p.new }
 {
     let mut frame = frame;
     let mut lowest = 1;
@@ -63,14 +60,10 @@ pub(crate) fn climb(p: &mut Parser<'_>, frame: Marker, top: u8, condition: bool)
 // + b
 #[cycle(grammar)]
 fn turn(p: &mut Parser<'_>, frame: Marker, operator: Operator, condition: bool) -> Marker
-    requires next { IsNext operator p.old }
-    requires is { 1 ≤ operator.height }
-    requires high { operator.height ≤ 10 }
+    requires layer { IsLayerNext operator p.old }
     requires innermost { IsInnermost frame p.old.nodes }
     ensures reads { Reads condition (turn_at operator.height) p.old p.new }
-    ensures marker { IsInnermost result p.new.nodes }
-    ensures left { tokens p.new + 1 ≤ tokens p.old }
-    ensures looks { spent p.new + 3300 ≤ spent p.old }
+    ensures takes { TakesIn result 3300 p.old p.new }
 {
     take_operator(p, operator);
     if operator.height == 1 {
@@ -88,8 +81,7 @@ fn turn(p: &mut Parser<'_>, frame: Marker, operator: Operator, condition: bool) 
 pub(crate) fn expect_layer(p: &mut Parser<'_>, height: u8, condition: bool)
     requires high { height ≤ 10 }
     ensures reads { Reads condition (Want (Call (layer_at height)) ExpectedExpression) p.old p.new }
-    ensures left { tokens p.new ≤ tokens p.old }
-    ensures looks { spent p.new ≤ spent p.old + 11 }
+    ensures asks { Asks 11 p.old p.new }
 {
     if at_operand(p, condition) {
         layers(p, height, condition);

@@ -1,12 +1,12 @@
 //! Arms of a `match`.
 
-ghost use Rattle.std.specs.Prelude.{◌≤◌, ◌+◌, Bool, true};
+ghost use Rattle.std.specs.Prelude.{◌≤◌, Bool, true};
 ghost use Rattle.rust_grammar.specs.Notation.{⁅◌⁆, ◌! };
 ghost use Rattle.rust_grammar.specs.Rule as rules;
 ghost use Rattle.rust_grammar.specs.Rule.{One};
 ghost use Rattle.rust_grammar.specs.Words.{'=>'};
 ghost use Rattle.rust_grammar.specs.Expressions as rows;
-ghost use Rattle.rust_productions.specs.Looks.{tokens, spent};
+ghost use Rattle.rust_productions.specs.Looks.{tokens, Takes, Asks};
 ghost use Rattle.rust_productions.specs.Reads.{looks, Gives, Reads, Saw};
 
 use crate::grammar::expressions::control::block_like;
@@ -26,8 +26,7 @@ pub(crate) fn match_arm(p: &mut Parser<'_>, condition: bool)
     requires begins { (c : Bool) → Saw c (looks rules.pattern) p.old true }
     requires some { 1 ≤ tokens p.old }
     ensures gives { Gives rules.match_arm condition p.old p.new }
-    ensures left { tokens p.new + 1 ≤ tokens p.old }
-    ensures looks { spent p.new + 2100 ≤ spent p.old }
+    ensures takes { Takes 2100 p.old p.new }
 {
     let node = start(p);
     pattern(p);
@@ -42,8 +41,7 @@ pub(crate) fn match_arm(p: &mut Parser<'_>, condition: bool)
 #[cycle(grammar)]
 fn opt_guard(p: &mut Parser<'_>)
     ensures reads { (c : Bool) → Reads c ⁅ rows.match_guard ⁆ p.old p.new }
-    ensures left { tokens p.new ≤ tokens p.old }
-    ensures looks { spent p.new ≤ spent p.old + 1 }
+    ensures asks { Asks 1 p.old p.new }
 {
     if at(p, SyntaxKind::IF_KW) {
         let guard = start(p);
@@ -57,8 +55,7 @@ fn opt_guard(p: &mut Parser<'_>)
 // =>
 fn expect_arrow(p: &mut Parser<'_>)
     ensures reads { (c : Bool) → Reads c (One '=>' !) p.old p.new }
-    ensures left { tokens p.new ≤ tokens p.old }
-    ensures looks { spent p.new ≤ spent p.old + 2 }
+    ensures asks { Asks 2 p.old p.new }
 {
     if at_pair(p, SyntaxKind::EQ, SyntaxKind::R_ANGLE) {
         take_pair(p, SyntaxKind::FAT_ARROW);
@@ -72,8 +69,7 @@ fn expect_arrow(p: &mut Parser<'_>)
 #[cycle(grammar)]
 fn arm_value(p: &mut Parser<'_>, condition: bool)
     ensures reads { Reads condition rows.arm_value p.old p.new }
-    ensures left { tokens p.new ≤ tokens p.old }
-    ensures looks { spent p.new ≤ spent p.old + 780 }
+    ensures asks { Asks 780 p.old p.new }
 {
     if at_block_like(p) {
         block_like(p);

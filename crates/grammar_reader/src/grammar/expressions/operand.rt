@@ -1,17 +1,19 @@
 //! Operands, and what stands before and after them.
 
-ghost use Rattle.std.specs.Prelude.{◌≡◌, ◌≤◌, ◌+◌, Bool, IsTrue, true};
+ghost use Rattle.std.specs.Prelude.{◌≤◌, Bool, IsTrue, true};
 ghost use Rattle.parser_input.specs.Kind.{raw_of};
 ghost use Rattle.parser_input.specs.Kinds.{CALL_EXPR, FLOAT_NUMBER, INDEX_EXPR, METHOD_CALL_EXPR, PREFIX_EXPR, TRY_EXPR};
 ghost use Rattle.parser_events.specs.Stack.{IsInnermost};
 ghost use Rattle.rust_grammar.specs.Calls.{Arguments, Prefixed};
 ghost use Rattle.rust_grammar.specs.Notation.{◌▸◌, ◌*, ◌!, ◌⟨◌⟩, more};
 ghost use Rattle.rust_grammar.specs.Rule as rules;
-ghost use Rattle.rust_grammar.specs.Rule.{Joint, Kind, One, Split};
+ghost use Rattle.rust_grammar.specs.Rule.{Kind, One, Split};
 ghost use Rattle.rust_grammar.specs.Words.{one};
 ghost use Rattle.rust_grammar.specs.Expressions as rows;
-ghost use Rattle.rust_productions.specs.Looks.{tokens, spent};
-ghost use Rattle.rust_productions.specs.Reads.{looks, Anew, Does, Gives, Reads, Saw};
+ghost use Rattle.rust_productions.specs.Looks.{tokens, Takes, Asks, Peeks, TakesIn, TakesOneIn, AsksIn};
+ghost use Rattle.rust_productions.specs.Reads.{looks, Anew, Gives, Reads, Saw};
+ghost use Rattle.rust_productions.specs.Starts.{Starts};
+ghost use Rattle.grammar_reader.specs.Next.{IsFloat};
 
 use crate::grammar::expressions::atom::inside;
 use crate::grammar::expressions::{Level, expect_expression};
@@ -34,8 +36,7 @@ pub(crate) fn prefixed(p: &mut Parser<'_>, condition: bool)
     requires begins { Saw condition (looks rules.prefixed) p.old true }
     requires some { 1 ≤ tokens p.old }
     ensures gives { Gives rules.prefixed condition p.old p.new }
-    ensures left { tokens p.new + 1 ≤ tokens p.old }
-    ensures looks { spent p.new + 2870 ≤ spent p.old }
+    ensures takes { Takes 2870 p.old p.new }
 {
     match current(p) {
         SyntaxKind::MINUS => prefix_expr(p, SyntaxKind::MINUS, condition),
@@ -53,8 +54,7 @@ fn prefix_expr(p: &mut Parser<'_>, operator: SyntaxKind, condition: bool)
     requires some { 1 ≤ tokens p.old }
     ensures reads { Reads condition
         (PREFIX_EXPR ⟨ One (one (raw_of operator)) ▸ Prefixed ! ⟩) p.old p.new }
-    ensures left { tokens p.new + 1 ≤ tokens p.old }
-    ensures looks { spent p.new + 3300 ≤ spent p.old }
+    ensures takes { Takes 3300 p.old p.new }
 {
     let node = start(p);
     take(p, operator);
@@ -68,8 +68,7 @@ fn prefix_expr(p: &mut Parser<'_>, operator: SyntaxKind, condition: bool)
 fn ref_expr(p: &mut Parser<'_>, condition: bool)
     requires some { 1 ≤ tokens p.old }
     ensures reads { Reads condition rows.ref_expr p.old p.new }
-    ensures left { tokens p.new + 1 ≤ tokens p.old }
-    ensures looks { spent p.new + 3300 ≤ spent p.old }
+    ensures takes { Takes 3300 p.old p.new }
 {
     let node = start(p);
     take(p, SyntaxKind::AMP);
@@ -85,8 +84,7 @@ fn operand(p: &mut Parser<'_>, condition: bool)
     requires begins { Saw condition (looks rules.atom) p.old true }
     requires some { 1 ≤ tokens p.old }
     ensures anew { Anew condition rows.postfixed p.old p.new }
-    ensures left { tokens p.new + 1 ≤ tokens p.old }
-    ensures looks { spent p.new + 2880 ≤ spent p.old }
+    ensures takes { Takes 2880 p.old p.new }
 {
     let frame = start(p);
     let frame = inside(p, frame, condition);
@@ -98,9 +96,7 @@ fn operand(p: &mut Parser<'_>, condition: bool)
 fn at_postfix(p: &mut Parser<'_>) -> bool
     ensures sees { (c : Bool) → Saw c (looks rules.postfix) p.old result }
     ensures some { IsTrue result → 1 ≤ tokens p.old }
-    ensures same { Does (λ s. s) p.old p.new }
-    ensures left { tokens p.new ≡ tokens p.old }
-    ensures looks { spent p.new ≤ spent p.old + 3 }
+    ensures peeks { Peeks 3 p.old p.new }
 {
     match current(p) {
         SyntaxKind::L_PAREN => true,
@@ -122,9 +118,7 @@ fn at_postfix(p: &mut Parser<'_>) -> bool
 pub(crate) fn postfixes(p: &mut Parser<'_>, frame: Marker) -> Marker
     requires innermost { IsInnermost frame p.old.nodes }
     ensures reads { (c : Bool) → Reads c ((more rules.postfix) *) p.old p.new }
-    ensures marker { IsInnermost result p.new.nodes }
-    ensures left { tokens p.new ≤ tokens p.old }
-    ensures looks { spent p.new ≤ spent p.old + 3 }
+    ensures asks { AsksIn result 3 p.old p.new }
 {
     let mut frame = frame;
     'turns: while at_postfix(p) {
@@ -140,9 +134,7 @@ pub(crate) fn postfix(p: &mut Parser<'_>, frame: Marker) -> Marker
     requires some { 1 ≤ tokens p.old }
     requires innermost { IsInnermost frame p.old.nodes }
     ensures reads { (c : Bool) → Reads c (more rules.postfix) p.old p.new }
-    ensures marker { IsInnermost result p.new.nodes }
-    ensures left { tokens p.new + 1 ≤ tokens p.old }
-    ensures looks { spent p.new + 3290 ≤ spent p.old }
+    ensures takes { TakesIn result 3290 p.old p.new }
 {
     match current(p) {
         SyntaxKind::L_PAREN => {
@@ -170,8 +162,7 @@ pub(crate) fn postfix(p: &mut Parser<'_>, frame: Marker) -> Marker
 fn index(p: &mut Parser<'_>)
     requires some { 1 ≤ tokens p.old }
     ensures reads { (c : Bool) → Reads c rows.index p.old p.new }
-    ensures left { tokens p.new + 1 ≤ tokens p.old }
-    ensures looks { spent p.new + 3300 ≤ spent p.old }
+    ensures takes { Takes 3300 p.old p.new }
 {
     take(p, SyntaxKind::L_BRACK);
     expect_expression(p, Level::Expression, false);
@@ -182,9 +173,7 @@ fn index(p: &mut Parser<'_>)
 fn at_method(p: &mut Parser<'_>) -> bool
     ensures sees { (c : Bool) → Saw c rows.method_begins p.old result }
     ensures some { IsTrue result → 1 ≤ tokens p.old }
-    ensures same { Does (λ s. s) p.old p.new }
-    ensures left { tokens p.new ≡ tokens p.old }
-    ensures looks { spent p.new ≤ spent p.old + 4 }
+    ensures peeks { Peeks 4 p.old p.new }
 {
     if !at(p, SyntaxKind::IDENT) {
         return false;
@@ -204,9 +193,7 @@ fn at_method(p: &mut Parser<'_>) -> bool
 fn after_dot(p: &mut Parser<'_>, frame: Marker) -> Marker
     requires innermost { IsInnermost frame p.old.nodes }
     ensures reads { (c : Bool) → Reads c (more rules.after_dot) p.old p.new }
-    ensures marker { IsInnermost result p.new.nodes }
-    ensures left { tokens p.new ≤ tokens p.old }
-    ensures looks { spent p.new ≤ spent p.old + 5 }
+    ensures asks { AsksIn result 5 p.old p.new }
 {
     if at_method(p) {
         method_call(p);
@@ -235,8 +222,7 @@ fn after_dot(p: &mut Parser<'_>, frame: Marker) -> Marker
 fn method_call(p: &mut Parser<'_>)
     requires some { 1 ≤ tokens p.old }
     ensures reads { (c : Bool) → Reads c rows.method_call p.old p.new }
-    ensures left { tokens p.new + 1 ≤ tokens p.old }
-    ensures looks { spent p.new + 4080 ≤ spent p.old }
+    ensures takes { Takes 4080 p.old p.new }
 {
     word_type(p, SyntaxKind::IDENT, SyntaxKind::NAME_REF);
     opt_generic_args(p);
@@ -248,8 +234,7 @@ fn method_call(p: &mut Parser<'_>)
 #[cycle(grammar)]
 fn expect_arguments(p: &mut Parser<'_>)
     ensures reads { (c : Bool) → Reads c (Arguments !) p.old p.new }
-    ensures left { tokens p.new ≤ tokens p.old }
-    ensures looks { spent p.new ≤ spent p.old + 1 }
+    ensures asks { Asks 1 p.old p.new }
 {
     if at(p, SyntaxKind::L_PAREN) {
         arguments(p);
@@ -263,13 +248,10 @@ fn expect_arguments(p: &mut Parser<'_>)
 // 0.1
 #[cycle(grammar)]
 fn float(p: &mut Parser<'_>, frame: Marker) -> Marker
-    requires float { (c : Bool) → Saw c (Kind 0 FLOAT_NUMBER) p.old true }
-    requires some { 1 ≤ tokens p.old }
+    requires begins { Starts (Kind 0 FLOAT_NUMBER) p.old }
     requires innermost { IsInnermost frame p.old.nodes }
     ensures reads { (c : Bool) → Reads c rows.float_field p.old p.new }
-    ensures marker { IsInnermost result p.new.nodes }
-    ensures left { tokens p.new + 1 ≤ tokens p.old }
-    ensures looks { spent p.new + 4090 ≤ spent p.old }
+    ensures takes { TakesIn result 4090 p.old p.new }
 {
     let joint = at_joint(p);
     let frame = split(p, frame, joint);
@@ -282,14 +264,10 @@ fn float(p: &mut Parser<'_>, frame: Marker) -> Marker
 /// Completes the node as a field access by the next float, and opens a node around it.
 // 0.1
 fn split(p: &mut Parser<'_>, frame: Marker, joint: bool) -> Marker
-    requires float { (c : Bool) → Saw c (Kind 0 FLOAT_NUMBER) p.old true }
-    requires joint { (c : Bool) → Saw c (Joint 0) p.old joint }
-    requires some { 1 ≤ tokens p.old }
+    requires float { IsFloat joint p.old }
     requires innermost { IsInnermost frame p.old.nodes }
     ensures reads { (c : Bool) → Reads c Split p.old p.new }
-    ensures marker { IsInnermost result p.new.nodes }
-    ensures left { tokens p.new + 1 ≡ tokens p.old }
-    ensures looks { spent p.new + 4096 ≡ spent p.old }
+    ensures takes { TakesOneIn result p.old p.new }
 {
     let frame = p.split_float(frame, !joint);
     if !joint {

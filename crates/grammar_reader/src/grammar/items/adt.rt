@@ -1,11 +1,11 @@
 //! Structs and enums.
 
-ghost use Rattle.std.specs.Prelude.{◌≤◌, ◌+◌, Bool};
+ghost use Rattle.std.specs.Prelude.{◌≤◌, Bool};
 ghost use Rattle.parser_events.specs.Stack.{IsInnermost};
 ghost use Rattle.rust_grammar.specs.Calls.{Variants};
 ghost use Rattle.rust_grammar.specs.Notation.{◌! };
 ghost use Rattle.rust_grammar.specs.Items as rows;
-ghost use Rattle.rust_productions.specs.Looks.{tokens, spent};
+ghost use Rattle.rust_productions.specs.Looks.{tokens, Takes, Asks};
 ghost use Rattle.rust_productions.specs.Reads.{Completes, Reads};
 
 use crate::grammar::items::{opt_generic_params, opt_where_clause};
@@ -23,8 +23,7 @@ pub(crate) fn struct_item(p: &mut Parser<'_>, item: Marker, condition: bool)
     requires some { 1 ≤ tokens p.old }
     requires innermost { IsInnermost item p.old.nodes }
     ensures completes { Completes condition rows.struct_item p.old p.new }
-    ensures left { tokens p.new + 1 ≤ tokens p.old }
-    ensures looks { spent p.new + 4080 ≤ spent p.old }
+    ensures takes { Takes 4080 p.old p.new }
 {
     take(p, SyntaxKind::STRUCT_KW);
     expect_name(p);
@@ -38,8 +37,7 @@ pub(crate) fn struct_item(p: &mut Parser<'_>, item: Marker, condition: bool)
 #[cycle(grammar)]
 fn fields(p: &mut Parser<'_>, condition: bool)
     ensures reads { Reads condition rows.struct_fields p.old p.new }
-    ensures left { tokens p.new ≤ tokens p.old }
-    ensures looks { spent p.new ≤ spent p.old + 4 }
+    ensures asks { Asks 4 p.old p.new }
 {
     if at(p, SyntaxKind::L_PAREN) {
         tuple_fields(p);
@@ -56,8 +54,7 @@ fn fields(p: &mut Parser<'_>, condition: bool)
 #[cycle(grammar)]
 fn named_fields(p: &mut Parser<'_>)
     ensures reads { (c : Bool) → Reads c rows.named_fields p.old p.new }
-    ensures left { tokens p.new ≤ tokens p.old }
-    ensures looks { spent p.new ≤ spent p.old + 2 }
+    ensures asks { Asks 2 p.old p.new }
 {
     if at(p, SyntaxKind::L_CURLY) {
         record_fields(p);
@@ -73,8 +70,7 @@ pub(crate) fn enum_item(p: &mut Parser<'_>, item: Marker, condition: bool)
     requires some { 1 ≤ tokens p.old }
     requires innermost { IsInnermost item p.old.nodes }
     ensures completes { Completes condition rows.enum_item p.old p.new }
-    ensures left { tokens p.new + 1 ≤ tokens p.old }
-    ensures looks { spent p.new + 4080 ≤ spent p.old }
+    ensures takes { Takes 4080 p.old p.new }
 {
     take(p, SyntaxKind::ENUM_KW);
     expect_name(p);
@@ -89,8 +85,7 @@ pub(crate) fn enum_item(p: &mut Parser<'_>, item: Marker, condition: bool)
 #[cycle(grammar)]
 fn expect_variants(p: &mut Parser<'_>)
     ensures reads { (c : Bool) → Reads c (Variants !) p.old p.new }
-    ensures left { tokens p.new ≤ tokens p.old }
-    ensures looks { spent p.new ≤ spent p.old + 1 }
+    ensures asks { Asks 1 p.old p.new }
 {
     if at(p, SyntaxKind::L_CURLY) {
         variants(p);

@@ -1,11 +1,11 @@
 //! Constants, statics and names of types.
 
-ghost use Rattle.std.specs.Prelude.{◌≤◌, ◌+◌};
+ghost use Rattle.std.specs.Prelude.{◌≤◌};
 ghost use Rattle.parser_events.specs.Stack.{IsInnermost};
 ghost use Rattle.rust_grammar.specs.Notation.{⁅◌⁆};
 ghost use Rattle.rust_grammar.specs.Items as rows;
 ghost use Rattle.rust_grammar.specs.Shared.{initializer};
-ghost use Rattle.rust_productions.specs.Looks.{tokens, spent};
+ghost use Rattle.rust_productions.specs.Looks.{tokens, Takes, Asks};
 ghost use Rattle.rust_productions.specs.Reads.{Completes, Reads};
 
 use crate::grammar::expressions::{Level, expect_expression};
@@ -25,8 +25,7 @@ pub(crate) fn const_item(p: &mut Parser<'_>, item: Marker, condition: bool)
     requires some { 1 ≤ tokens p.old }
     requires innermost { IsInnermost item p.old.nodes }
     ensures completes { Completes condition rows.const_item p.old p.new }
-    ensures left { tokens p.new + 1 ≤ tokens p.old }
-    ensures looks { spent p.new + 4080 ≤ spent p.old }
+    ensures takes { Takes 4080 p.old p.new }
 {
     take(p, SyntaxKind::CONST_KW);
     underscore_or_name(p);
@@ -41,8 +40,7 @@ pub(crate) fn static_item(p: &mut Parser<'_>, item: Marker, condition: bool)
     requires some { 1 ≤ tokens p.old }
     requires innermost { IsInnermost item p.old.nodes }
     ensures completes { Completes condition rows.static_item p.old p.new }
-    ensures left { tokens p.new + 1 ≤ tokens p.old }
-    ensures looks { spent p.new + 4080 ≤ spent p.old }
+    ensures takes { Takes 4080 p.old p.new }
 {
     take(p, SyntaxKind::STATIC_KW);
     eat(p, SyntaxKind::MUT_KW);
@@ -56,8 +54,7 @@ pub(crate) fn static_item(p: &mut Parser<'_>, item: Marker, condition: bool)
 #[cycle(grammar)]
 fn typed_value(p: &mut Parser<'_>, condition: bool)
     ensures reads { Reads condition rows.typed_value p.old p.new }
-    ensures left { tokens p.new ≤ tokens p.old }
-    ensures looks { spent p.new ≤ spent p.old + 8 }
+    ensures asks { Asks 8 p.old p.new }
 {
     expect(p, SyntaxKind::COLON);
     expect_type(p, condition);
@@ -70,8 +67,7 @@ fn typed_value(p: &mut Parser<'_>, condition: bool)
 #[cycle(grammar)]
 pub(crate) fn opt_value(p: &mut Parser<'_>, condition: bool)
     ensures reads { Reads condition ⁅ initializer ⁆ p.old p.new }
-    ensures left { tokens p.new ≤ tokens p.old }
-    ensures looks { spent p.new ≤ spent p.old + 1 }
+    ensures asks { Asks 1 p.old p.new }
 {
     if at(p, SyntaxKind::EQ) {
         take(p, SyntaxKind::EQ);
@@ -86,8 +82,7 @@ pub(crate) fn type_alias(p: &mut Parser<'_>, item: Marker, condition: bool)
     requires some { 1 ≤ tokens p.old }
     requires innermost { IsInnermost item p.old.nodes }
     ensures completes { Completes condition rows.type_alias p.old p.new }
-    ensures left { tokens p.new + 1 ≤ tokens p.old }
-    ensures looks { spent p.new + 4080 ≤ spent p.old }
+    ensures takes { Takes 4080 p.old p.new }
 {
     take(p, SyntaxKind::TYPE_KW);
     expect_name(p);

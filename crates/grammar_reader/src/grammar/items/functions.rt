@@ -1,13 +1,14 @@
 //! Functions.
 
-ghost use Rattle.std.specs.Prelude.{◌≤◌, ◌+◌, Bool, true};
+ghost use Rattle.std.specs.Prelude.{Bool};
 ghost use Rattle.parser_events.specs.Stack.{IsInnermost};
 ghost use Rattle.rust_grammar.specs.Calls.{Params, RetType};
 ghost use Rattle.rust_grammar.specs.Items.{fn_begins};
 ghost use Rattle.rust_grammar.specs.Notation.{⁅◌⁆, ◌! };
 ghost use Rattle.rust_grammar.specs.Items as rows;
-ghost use Rattle.rust_productions.specs.Looks.{tokens, spent};
-ghost use Rattle.rust_productions.specs.Reads.{Completes, Reads, Saw};
+ghost use Rattle.rust_productions.specs.Looks.{Takes, Asks};
+ghost use Rattle.rust_productions.specs.Reads.{Completes, Reads};
+ghost use Rattle.rust_productions.specs.Starts.{Starts};
 
 use crate::grammar::expressions::blocks::block;
 use crate::grammar::items::{opt_generic_params, opt_where_clause};
@@ -24,12 +25,10 @@ use rust_productions::grammar::{at, at_pair, complete, error, expect};
 // const unsafe fn f<T>(a: T) -> T { a }
 #[cycle(grammar)]
 pub(crate) fn fn_item(p: &mut Parser<'_>, item: Marker, condition: bool)
-    requires begins { (c : Bool) → Saw c fn_begins p.old true }
-    requires some { 1 ≤ tokens p.old }
+    requires begins { Starts fn_begins p.old }
     requires innermost { IsInnermost item p.old.nodes }
     ensures completes { Completes condition rows.fn_item p.old p.new }
-    ensures left { tokens p.new + 1 ≤ tokens p.old }
-    ensures looks { spent p.new + 4080 ≤ spent p.old }
+    ensures takes { Takes 4080 p.old p.new }
 {
     fn_words(p);
     expect_name(p);
@@ -46,8 +45,7 @@ pub(crate) fn fn_item(p: &mut Parser<'_>, item: Marker, condition: bool)
 #[cycle(grammar)]
 fn expect_params(p: &mut Parser<'_>)
     ensures reads { (c : Bool) → Reads c (Params !) p.old p.new }
-    ensures left { tokens p.new ≤ tokens p.old }
-    ensures looks { spent p.new ≤ spent p.old + 1 }
+    ensures asks { Asks 1 p.old p.new }
 {
     if at(p, SyntaxKind::L_PAREN) {
         params(p);
@@ -61,8 +59,7 @@ fn expect_params(p: &mut Parser<'_>)
 #[cycle(grammar)]
 fn opt_ret_type(p: &mut Parser<'_>, condition: bool)
     ensures reads { Reads condition ⁅ RetType ⁆ p.old p.new }
-    ensures left { tokens p.new ≤ tokens p.old }
-    ensures looks { spent p.new ≤ spent p.old + 2 }
+    ensures asks { Asks 2 p.old p.new }
 {
     if at_pair(p, SyntaxKind::MINUS, SyntaxKind::R_ANGLE) {
         ret_type(p, condition);
@@ -74,8 +71,7 @@ fn opt_ret_type(p: &mut Parser<'_>, condition: bool)
 #[cycle(grammar)]
 fn fn_body(p: &mut Parser<'_>)
     ensures reads { (c : Bool) → Reads c rows.fn_body p.old p.new }
-    ensures left { tokens p.new ≤ tokens p.old }
-    ensures looks { spent p.new ≤ spent p.old + 2 }
+    ensures asks { Asks 2 p.old p.new }
 {
     if at(p, SyntaxKind::L_CURLY) {
         block(p);

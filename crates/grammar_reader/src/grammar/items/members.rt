@@ -1,12 +1,12 @@
 //! What stands in structs and enums: variants, and fields with and without names.
 
-ghost use Rattle.std.specs.Prelude.{◌≡◌, ◌≤◌, ◌+◌, Bool, false, true};
+ghost use Rattle.std.specs.Prelude.{◌≤◌, Bool, false, true};
 ghost use Rattle.rust_grammar.specs.Calls.{Attribute, Name, Visibility};
 ghost use Rattle.rust_grammar.specs.Items as rows;
 ghost use Rattle.rust_grammar.specs.Notation.{◌▸◌, ⁅◌⁆, ◌*, ◌! };
 ghost use Rattle.rust_grammar.specs.Rule.{begins};
-ghost use Rattle.rust_productions.specs.Looks.{tokens, spent};
-ghost use Rattle.rust_productions.specs.Reads.{looks, Does, Reads, Saw};
+ghost use Rattle.rust_productions.specs.Looks.{tokens, Takes, Asks, Peeks};
+ghost use Rattle.rust_productions.specs.Reads.{looks, Reads, Saw};
 
 use crate::grammar::items::attributes_and_visibility;
 use crate::grammar::lists::{record_fields, tuple_fields};
@@ -23,9 +23,7 @@ use rust_productions::grammar::{complete, current, expect, start};
 pub(crate) fn at_named_member(p: &mut Parser<'_>) -> bool
     ensures sees { (c : Bool) → Saw c
         (begins looks (Attribute * ▸ ⁅ Visibility ⁆ ▸ Name !)) p.old result }
-    ensures same { Does (λ s. s) p.old p.new }
-    ensures left { tokens p.new ≡ tokens p.old }
-    ensures looks { spent p.new ≤ spent p.old + 1 }
+    ensures peeks { Peeks 1 p.old p.new }
 {
     match current(p) {
         SyntaxKind::POUND | SyntaxKind::PUB_KW | SyntaxKind::IDENT => true,
@@ -36,9 +34,7 @@ pub(crate) fn at_named_member(p: &mut Parser<'_>) -> bool
 /// Returns `true` if a tuple field starts here: at an attribute, a visibility or a type.
 pub(crate) fn at_tuple_field(p: &mut Parser<'_>) -> bool
     ensures sees { (c : Bool) → Saw c (begins looks rows.typed) p.old result }
-    ensures same { Does (λ s. s) p.old p.new }
-    ensures left { tokens p.new ≡ tokens p.old }
-    ensures looks { spent p.new ≤ spent p.old + 6 }
+    ensures peeks { Peeks 6 p.old p.new }
 {
     match current(p) {
         SyntaxKind::POUND | SyntaxKind::PUB_KW => true,
@@ -53,8 +49,7 @@ pub(crate) fn variant(p: &mut Parser<'_>)
     requires begins { Saw false (begins looks rows.variant) p.old true }
     requires some { 1 ≤ tokens p.old }
     ensures reads { Reads false rows.variant p.old p.new }
-    ensures left { tokens p.new + 1 ≤ tokens p.old }
-    ensures looks { spent p.new + 4000 ≤ spent p.old }
+    ensures takes { Takes 4000 p.old p.new }
 {
     let variant = start(p);
     named(p);
@@ -69,8 +64,7 @@ pub(crate) fn record_field(p: &mut Parser<'_>)
     requires begins { Saw false (begins looks rows.record_field) p.old true }
     requires some { 1 ≤ tokens p.old }
     ensures reads { Reads false rows.record_field p.old p.new }
-    ensures left { tokens p.new + 1 ≤ tokens p.old }
-    ensures looks { spent p.new + 4000 ≤ spent p.old }
+    ensures takes { Takes 4000 p.old p.new }
 {
     let field = start(p);
     named(p);
@@ -86,8 +80,7 @@ pub(crate) fn tuple_field(p: &mut Parser<'_>)
     requires begins { Saw false (begins looks rows.tuple_field) p.old true }
     requires some { 1 ≤ tokens p.old }
     ensures reads { Reads false rows.tuple_field p.old p.new }
-    ensures left { tokens p.new + 1 ≤ tokens p.old }
-    ensures looks { spent p.new + 2900 ≤ spent p.old }
+    ensures takes { Takes 2900 p.old p.new }
 {
     let field = start(p);
     typed(p);
@@ -101,8 +94,7 @@ fn named(p: &mut Parser<'_>)
     requires begins { Saw false (begins looks (Attribute * ▸ ⁅ Visibility ⁆ ▸ Name !)) p.old true }
     requires some { 1 ≤ tokens p.old }
     ensures reads { Reads false (Attribute * ▸ ⁅ Visibility ⁆ ▸ Name !) p.old p.new }
-    ensures left { tokens p.new + 1 ≤ tokens p.old }
-    ensures looks { spent p.new + 4060 ≤ spent p.old }
+    ensures takes { Takes 4060 p.old p.new }
 {
     match current(p) {
         SyntaxKind::POUND => {
@@ -124,8 +116,7 @@ fn typed(p: &mut Parser<'_>)
     requires begins { Saw false (begins looks rows.typed) p.old true }
     requires some { 1 ≤ tokens p.old }
     ensures reads { Reads false rows.typed p.old p.new }
-    ensures left { tokens p.new + 1 ≤ tokens p.old }
-    ensures looks { spent p.new + 2900 ≤ spent p.old }
+    ensures takes { Takes 2900 p.old p.new }
 {
     match current(p) {
         SyntaxKind::POUND => {
@@ -145,8 +136,7 @@ fn typed(p: &mut Parser<'_>)
 #[cycle(grammar)]
 fn opt_fields(p: &mut Parser<'_>)
     ensures reads { (c : Bool) → Reads c ⁅ rows.variant_fields ⁆ p.old p.new }
-    ensures left { tokens p.new ≤ tokens p.old }
-    ensures looks { spent p.new ≤ spent p.old + 1 }
+    ensures asks { Asks 1 p.old p.new }
 {
     match current(p) {
         SyntaxKind::L_CURLY => record_fields(p),

@@ -1,12 +1,13 @@
 //! Traits and implementations.
 
-ghost use Rattle.std.specs.Prelude.{◌≤◌, ◌+◌, Bool, true};
+ghost use Rattle.std.specs.Prelude.{Bool};
 ghost use Rattle.parser_events.specs.Stack.{IsInnermost};
 ghost use Rattle.rust_grammar.specs.Calls.{AssocItems};
 ghost use Rattle.rust_grammar.specs.Notation.{◌! };
 ghost use Rattle.rust_grammar.specs.Items as rows;
-ghost use Rattle.rust_productions.specs.Looks.{tokens, spent};
-ghost use Rattle.rust_productions.specs.Reads.{Completes, Reads, Saw};
+ghost use Rattle.rust_productions.specs.Looks.{Takes, Asks};
+ghost use Rattle.rust_productions.specs.Reads.{Completes, Reads};
+ghost use Rattle.rust_productions.specs.Starts.{Starts};
 
 use crate::grammar::generic_params::bounds_after_colon;
 use crate::grammar::items::{assoc_items, opt_generic_params, opt_where_clause};
@@ -22,12 +23,10 @@ use rust_productions::grammar::{at, complete, error};
 // impl<T> A for B<T> { fn f() {} }
 #[cycle(grammar)]
 pub(crate) fn impl_item(p: &mut Parser<'_>, item: Marker, condition: bool)
-    requires begins { (c : Bool) → Saw c rows.impl_begins p.old true }
-    requires some { 1 ≤ tokens p.old }
+    requires begins { Starts rows.impl_begins p.old }
     requires innermost { IsInnermost item p.old.nodes }
     ensures completes { Completes condition rows.impl_item p.old p.new }
-    ensures left { tokens p.new + 1 ≤ tokens p.old }
-    ensures looks { spent p.new + 4080 ≤ spent p.old }
+    ensures takes { Takes 4080 p.old p.new }
 {
     unsafe_word(p, SyntaxKind::IMPL_KW);
     opt_generic_params(p);
@@ -42,12 +41,10 @@ pub(crate) fn impl_item(p: &mut Parser<'_>, item: Marker, condition: bool)
 // trait A<T>: B { fn f(); }
 #[cycle(grammar)]
 pub(crate) fn trait_item(p: &mut Parser<'_>, item: Marker, condition: bool)
-    requires begins { (c : Bool) → Saw c rows.trait_begins p.old true }
-    requires some { 1 ≤ tokens p.old }
+    requires begins { Starts rows.trait_begins p.old }
     requires innermost { IsInnermost item p.old.nodes }
     ensures completes { Completes condition rows.trait_item p.old p.new }
-    ensures left { tokens p.new + 1 ≤ tokens p.old }
-    ensures looks { spent p.new + 4080 ≤ spent p.old }
+    ensures takes { Takes 4080 p.old p.new }
 {
     unsafe_word(p, SyntaxKind::TRAIT_KW);
     expect_name(p);
@@ -63,8 +60,7 @@ pub(crate) fn trait_item(p: &mut Parser<'_>, item: Marker, condition: bool)
 #[cycle(grammar)]
 fn expect_assoc_items(p: &mut Parser<'_>)
     ensures reads { (c : Bool) → Reads c (AssocItems !) p.old p.new }
-    ensures left { tokens p.new ≤ tokens p.old }
-    ensures looks { spent p.new ≤ spent p.old + 1 }
+    ensures asks { Asks 1 p.old p.new }
 {
     if at(p, SyntaxKind::L_CURLY) {
         assoc_items(p);

@@ -3,6 +3,7 @@ use Rattle.std.proofs.Common.{ℕ, nat_eq, ap, sym, ◌∙◌}
 use Rattle.std.proofs.lemmas.Bool.{eqb-true}
 use Rattle.parser_input.specs.Kind.{raw_of}
 use Rattle.rust_productions.proofs.Facts.{saw-so}
+use Rattle.rust_productions.proofs.Peeking.{}
 use Rattle.rust_productions.proofs.grammar.at.Goals as goal
 
 pub returns-clause-sees : goal.returns-clause-sees
@@ -13,5 +14,5 @@ pub returns-clause-some : goal.returns-clause-some
 returns-clause-some c is some =
     c.current.ensures.some (λ z. some (sym c.to_raw-2.ensures.number ∙ sym (eqb-true _ _ is) ∙ c.to_raw.ensures.number ∙ z))
 
-pub returns-clause-same : goal.returns-clause-same
-returns-clause-same c = c.current.ensures.same
+pub returns-clause-peeks : goal.returns-clause-peeks
+returns-clause-peeks c = c.current.ensures.peeks

@@ -10,11 +10,9 @@ returns-clause-sees c cond = saw-kind cond 1 c.args.p.now _ _ _ (c.to_raw.ensure
 pub returns-clause-some : goal.returns-clause-some
 returns-clause-some c is some = some-ahead 1 c.args.p.now _ _ _ (c.to_raw.ensures.number ∙ c.kind_at.ensures.kind) is c.to_raw-2.ensures.number some
 
-pub returns-clause-same : goal.returns-clause-same
-returns-clause-same c = does-look _ _ _ c.kind_at.ensures.same
-
-pub returns-clause-left : goal.returns-clause-left
-returns-clause-left c = same-tokens _ _ _ c.kind_at.ensures.same
-
-pub returns-clause-looks : goal.returns-clause-looks
-returns-clause-looks c = one-look _ _ c.kind_at.ensures.same
+pub returns-clause-peeks : goal.returns-clause-peeks
+returns-clause-peeks c = record {
+  same = does-look _ _ _ c.kind_at.ensures.same;
+  left = same-tokens _ _ _ c.kind_at.ensures.same;
+  looks = one-look _ _ c.kind_at.ensures.same;
+}

@@ -13,11 +13,9 @@ returns-clause-end c cond = saw-some cond c.args.p.now c.kind_at.result c.kind_a
 pub returns-clause-some : goal.returns-clause-some
 returns-clause-some c some = left-next c.args.p.now _ c.kind_at.ensures.kind some
 
-pub returns-clause-same : goal.returns-clause-same
-returns-clause-same c = does-look _ _ _ c.kind_at.ensures.same
-
-pub returns-clause-left : goal.returns-clause-left
-returns-clause-left c = same-tokens _ _ _ c.kind_at.ensures.same
-
-pub returns-clause-looks : goal.returns-clause-looks
-returns-clause-looks c = one-look _ _ c.kind_at.ensures.same
+pub returns-clause-peeks : goal.returns-clause-peeks
+returns-clause-peeks c = record {
+  same = does-look _ _ _ c.kind_at.ensures.same;
+  left = same-tokens _ _ _ c.kind_at.ensures.same;
+  looks = one-look _ _ c.kind_at.ensures.same;
+}

@@ -7,8 +7,8 @@ use Rattle.rust_productions.proofs.grammar.error.Goals as goal
 pub returns-clause-reads : goal.returns-clause-reads
 returns-clause-reads c cond = reads-say cond (does-say _ _ _ c.error.ensures.nodes c.error.ensures.same)
 
-pub returns-clause-left : goal.returns-clause-left
-returns-clause-left c = same-left _ _ _ c.error.ensures.same
-
-pub returns-clause-looks : goal.returns-clause-looks
-returns-clause-looks c = same-spent _ _ _ c.error.ensures.same
+pub returns-clause-stays : goal.returns-clause-stays
+returns-clause-stays c = record {
+  left = same-left _ _ _ c.error.ensures.same;
+  looks = same-spent _ _ _ c.error.ensures.same;
+}

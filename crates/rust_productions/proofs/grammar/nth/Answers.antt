@@ -7,11 +7,9 @@ use Rattle.rust_productions.proofs.grammar.nth.Goals as goal
 pub returns-clause-sees : goal.returns-clause-sees
 returns-clause-sees c cond kind = saw-next cond _ c.args.p.now _ _ (ap (λ (n : ℕ). nat_eq n kind) c.kind_at.ensures.kind)
 
-pub returns-clause-same : goal.returns-clause-same
-returns-clause-same c = does-look _ _ _ c.kind_at.ensures.same
-
-pub returns-clause-left : goal.returns-clause-left
-returns-clause-left c = same-tokens _ _ _ c.kind_at.ensures.same
-
-pub returns-clause-looks : goal.returns-clause-looks
-returns-clause-looks c = one-look _ _ c.kind_at.ensures.same
+pub returns-clause-peeks : goal.returns-clause-peeks
+returns-clause-peeks c = record {
+  same = does-look _ _ _ c.kind_at.ensures.same;
+  left = same-tokens _ _ _ c.kind_at.ensures.same;
+  looks = one-look _ _ c.kind_at.ensures.same;
+}

@@ -10,8 +10,8 @@ precede-requires c = child _ _ _ _ _ c.requires c.complete-closed.ensures.nodes 
 pub returns-clause-wraps : goal.returns-clause-wraps
 returns-clause-wraps c = does-wrap _ _ _ _ _ _ c.requires c.complete-closed.ensures.nodes c.complete-closed.ensures.same c.complete-closed.ensures.place c.precede.ensures.nodes c.precede.ensures.same
 
-pub returns-clause-left : goal.returns-clause-left
-returns-clause-left c = same-left _ _ _ c.precede.ensures.same ∙ same-left _ _ _ c.complete-closed.ensures.same
-
-pub returns-clause-looks : goal.returns-clause-looks
-returns-clause-looks c = same-spent _ _ _ c.precede.ensures.same ∙ same-spent _ _ _ c.complete-closed.ensures.same
+pub returns-clause-stays : goal.returns-clause-stays
+returns-clause-stays c = record {
+  left = same-left _ _ _ c.precede.ensures.same ∙ same-left _ _ _ c.complete-closed.ensures.same;
+  looks = same-spent _ _ _ c.precede.ensures.same ∙ same-spent _ _ _ c.complete-closed.ensures.same;
+}

@@ -25,102 +25,136 @@ use Rattle.rust_productions.proofs.Ranges.{begins-call}
 use Rattle.grammar_reader.proofs.grammar.+grammar.Goals as goal
 
 pub expressions::atom::inside-paren_expr-requires : goal.expressions::atom::inside-paren_expr-requires
-expressions::atom::inside-paren_expr-requires t c = (omega arith, (omega arith, c.current.ensures.same.innermost _ c.requires.innermost))
+expressions::atom::inside-paren_expr-requires t c = (omega arith, (omega arith, c.current.ensures.peeks.same.innermost _ c.requires.innermost))
 
 pub expressions::atom::inside-returns-in-L_PAREN-clause-reads : goal.expressions::atom::inside-returns-in-L_PAREN-clause-reads
 unfolding look_of begins_below whole rule items statements expressions patterns types paths there_at shift passes is_silent begins in_mode anew row one_of any_of no_longer longest is_longer
-expressions::atom::inside-returns-in-L_PAREN-clause-reads t c = reads-here (saw-arm c.in-L_PAREN.is (c.current.ensures.sees c.args.condition) and nothing) (after-look _ c.current.ensures.same (c.paren_expr.ensures.reads c.args.condition))
+expressions::atom::inside-returns-in-L_PAREN-clause-reads t c = reads-here (saw-arm c.in-L_PAREN.is (c.current.ensures.sees c.args.condition) and nothing) (after-look _ c.current.ensures.peeks.same (c.paren_expr.ensures.reads c.args.condition))
 
 pub expressions::atom::inside-returns-in-L_BRACK-clause-reads : goal.expressions::atom::inside-returns-in-L_BRACK-clause-reads
 unfolding look_of begins_below whole rule items statements expressions patterns types paths there_at shift passes is_silent begins in_mode anew row one_of any_of no_longer longest is_longer
-expressions::atom::inside-returns-in-L_BRACK-clause-reads t c = reads-here (saw-arm c.in-L_BRACK.is (c.current.ensures.sees c.args.condition) and nothing) (after-look _ c.current.ensures.same (c.array_expr.ensures.reads c.args.condition))
+expressions::atom::inside-returns-in-L_BRACK-clause-reads t c = reads-here (saw-arm c.in-L_BRACK.is (c.current.ensures.sees c.args.condition) and nothing) (after-look _ c.current.ensures.peeks.same (c.array_expr.ensures.reads c.args.condition))
 
-pub expressions::atom::inside-returns-in-L_BRACK-clause-marker : goal.expressions::atom::inside-returns-in-L_BRACK-clause-marker
-expressions::atom::inside-returns-in-L_BRACK-clause-marker t c = (c.array_expr.ensures.reads true).does.innermost _ (c.current.ensures.same.innermost _ c.requires.innermost)
+pub expressions::atom::inside-returns-in-L_BRACK-clause-takes : goal.expressions::atom::inside-returns-in-L_BRACK-clause-takes
+expressions::atom::inside-returns-in-L_BRACK-clause-takes t c = record {
+  left = omega arith;
+  looks = omega arith;
+  marker = (c.array_expr.ensures.reads true).does.innermost _ (c.current.ensures.peeks.same.innermost _ c.requires.innermost);
+}
 
 pub expressions::atom::inside-returns-in-RETURN_KW-clause-reads : goal.expressions::atom::inside-returns-in-RETURN_KW-clause-reads
 unfolding look_of begins_below whole rule items statements expressions patterns types paths there_at shift passes is_silent begins in_mode anew row one_of any_of no_longer longest is_longer
-expressions::atom::inside-returns-in-RETURN_KW-clause-reads t c = reads-here (saw-arm c.in-RETURN_KW.is (c.current.ensures.sees c.args.condition) and nothing) (after-look _ c.current.ensures.same c.value_expr.ensures.reads)
+expressions::atom::inside-returns-in-RETURN_KW-clause-reads t c = reads-here (saw-arm c.in-RETURN_KW.is (c.current.ensures.sees c.args.condition) and nothing) (after-look _ c.current.ensures.peeks.same c.value_expr.ensures.reads)
 
-pub expressions::atom::inside-returns-in-RETURN_KW-clause-marker : goal.expressions::atom::inside-returns-in-RETURN_KW-clause-marker
-expressions::atom::inside-returns-in-RETURN_KW-clause-marker t c = c.value_expr.ensures.reads.does.innermost _ (c.current.ensures.same.innermost _ c.requires.innermost)
+pub expressions::atom::inside-returns-in-RETURN_KW-clause-takes : goal.expressions::atom::inside-returns-in-RETURN_KW-clause-takes
+expressions::atom::inside-returns-in-RETURN_KW-clause-takes t c = record {
+  left = omega arith;
+  looks = omega arith;
+  marker = c.value_expr.ensures.reads.does.innermost _ (c.current.ensures.peeks.same.innermost _ c.requires.innermost);
+}
 
 pub expressions::atom::inside-returns-in-BREAK_KW-clause-reads : goal.expressions::atom::inside-returns-in-BREAK_KW-clause-reads
 unfolding look_of begins_below whole rule items statements expressions patterns types paths there_at shift passes is_silent begins in_mode anew row one_of any_of no_longer longest is_longer
-expressions::atom::inside-returns-in-BREAK_KW-clause-reads t c = reads-here (saw-arm c.in-BREAK_KW.is (c.current.ensures.sees c.args.condition) and nothing) (after-look _ c.current.ensures.same c.value_expr-in-BREAK_KW.ensures.reads)
+expressions::atom::inside-returns-in-BREAK_KW-clause-reads t c = reads-here (saw-arm c.in-BREAK_KW.is (c.current.ensures.sees c.args.condition) and nothing) (after-look _ c.current.ensures.peeks.same c.value_expr-in-BREAK_KW.ensures.reads)
 
-pub expressions::atom::inside-returns-in-BREAK_KW-clause-marker : goal.expressions::atom::inside-returns-in-BREAK_KW-clause-marker
-expressions::atom::inside-returns-in-BREAK_KW-clause-marker t c = c.value_expr-in-BREAK_KW.ensures.reads.does.innermost _ (c.current.ensures.same.innermost _ c.requires.innermost)
+pub expressions::atom::inside-returns-in-BREAK_KW-clause-takes : goal.expressions::atom::inside-returns-in-BREAK_KW-clause-takes
+expressions::atom::inside-returns-in-BREAK_KW-clause-takes t c = record {
+  left = omega arith;
+  looks = omega arith;
+  marker = c.value_expr-in-BREAK_KW.ensures.reads.does.innermost _ (c.current.ensures.peeks.same.innermost _ c.requires.innermost);
+}
 
 pub expressions::atom::inside-returns-in-CONTINUE_KW-clause-reads : goal.expressions::atom::inside-returns-in-CONTINUE_KW-clause-reads
 unfolding look_of begins_below whole rule items statements expressions patterns types paths there_at shift passes is_silent begins in_mode anew row one_of any_of no_longer longest is_longer
-expressions::atom::inside-returns-in-CONTINUE_KW-clause-reads t c = reads-here (saw-arm c.in-CONTINUE_KW.is (c.current.ensures.sees c.args.condition) and nothing) (after-look _ c.current.ensures.same (c.word_type.ensures.reads c.args.condition))
+expressions::atom::inside-returns-in-CONTINUE_KW-clause-reads t c = reads-here (saw-arm c.in-CONTINUE_KW.is (c.current.ensures.sees c.args.condition) and nothing) (after-look _ c.current.ensures.peeks.same (c.word_type.ensures.reads c.args.condition))
 
-pub expressions::atom::inside-returns-in-CONTINUE_KW-clause-marker : goal.expressions::atom::inside-returns-in-CONTINUE_KW-clause-marker
-expressions::atom::inside-returns-in-CONTINUE_KW-clause-marker t c = (c.word_type.ensures.reads true).does.innermost _ (c.current.ensures.same.innermost _ c.requires.innermost)
+pub expressions::atom::inside-returns-in-CONTINUE_KW-clause-takes : goal.expressions::atom::inside-returns-in-CONTINUE_KW-clause-takes
+expressions::atom::inside-returns-in-CONTINUE_KW-clause-takes t c = record {
+  left = omega arith;
+  looks = omega arith;
+  marker = (c.word_type.ensures.reads true).does.innermost _ (c.current.ensures.peeks.same.innermost _ c.requires.innermost);
+}
 
 pub expressions::atom::inside-returns-in-PIPE-clause-reads : goal.expressions::atom::inside-returns-in-PIPE-clause-reads
 unfolding look_of begins_below whole rule items statements expressions patterns types paths there_at shift passes is_silent begins in_mode anew row one_of any_of no_longer longest is_longer
-expressions::atom::inside-returns-in-PIPE-clause-reads t c = reads-here (saw-arm c.in-PIPE.is (c.current.ensures.sees c.args.condition) and nothing) (after-look _ c.current.ensures.same c.closure_expr.ensures.reads)
+expressions::atom::inside-returns-in-PIPE-clause-reads t c = reads-here (saw-arm c.in-PIPE.is (c.current.ensures.sees c.args.condition) and nothing) (after-look _ c.current.ensures.peeks.same c.closure_expr.ensures.reads)
 
-pub expressions::atom::inside-returns-in-PIPE-clause-marker : goal.expressions::atom::inside-returns-in-PIPE-clause-marker
-expressions::atom::inside-returns-in-PIPE-clause-marker t c = c.closure_expr.ensures.reads.does.innermost _ (c.current.ensures.same.innermost _ c.requires.innermost)
+pub expressions::atom::inside-returns-in-PIPE-clause-takes : goal.expressions::atom::inside-returns-in-PIPE-clause-takes
+expressions::atom::inside-returns-in-PIPE-clause-takes t c = record {
+  left = omega arith;
+  looks = omega arith;
+  marker = c.closure_expr.ensures.reads.does.innermost _ (c.current.ensures.peeks.same.innermost _ c.requires.innermost);
+}
 
 pub expressions::atom::inside-returns-in-MOVE_KW-clause-reads : goal.expressions::atom::inside-returns-in-MOVE_KW-clause-reads
 unfolding look_of begins_below whole rule items statements expressions patterns types paths there_at shift passes is_silent begins in_mode anew row one_of any_of no_longer longest is_longer
-expressions::atom::inside-returns-in-MOVE_KW-clause-reads t c = reads-here (saw-arm c.in-MOVE_KW.is (c.current.ensures.sees c.args.condition) and nothing) (after-look _ c.current.ensures.same c.move_closure.ensures.reads)
+expressions::atom::inside-returns-in-MOVE_KW-clause-reads t c = reads-here (saw-arm c.in-MOVE_KW.is (c.current.ensures.sees c.args.condition) and nothing) (after-look _ c.current.ensures.peeks.same c.move_closure.ensures.reads)
 
-pub expressions::atom::inside-returns-in-MOVE_KW-clause-marker : goal.expressions::atom::inside-returns-in-MOVE_KW-clause-marker
-expressions::atom::inside-returns-in-MOVE_KW-clause-marker t c = c.move_closure.ensures.reads.does.innermost _ (c.current.ensures.same.innermost _ c.requires.innermost)
+pub expressions::atom::inside-returns-in-MOVE_KW-clause-takes : goal.expressions::atom::inside-returns-in-MOVE_KW-clause-takes
+expressions::atom::inside-returns-in-MOVE_KW-clause-takes t c = record {
+  left = omega arith;
+  looks = omega arith;
+  marker = c.move_closure.ensures.reads.does.innermost _ (c.current.ensures.peeks.same.innermost _ c.requires.innermost);
+}
 
 pub expressions::atom::inside-returns-in-LET_KW-clause-reads : goal.expressions::atom::inside-returns-in-LET_KW-clause-reads
 unfolding look_of begins_below whole rule items statements expressions patterns types paths there_at shift passes is_silent begins in_mode anew row one_of any_of no_longer longest is_longer
-expressions::atom::inside-returns-in-LET_KW-clause-reads t c = reads-here (saw-arm c.in-LET_KW.is (c.current.ensures.sees c.args.condition) and nothing) (after-look _ c.current.ensures.same c.let_expr.ensures.reads)
+expressions::atom::inside-returns-in-LET_KW-clause-reads t c = reads-here (saw-arm c.in-LET_KW.is (c.current.ensures.sees c.args.condition) and nothing) (after-look _ c.current.ensures.peeks.same c.let_expr.ensures.reads)
 
-pub expressions::atom::inside-returns-in-LET_KW-clause-marker : goal.expressions::atom::inside-returns-in-LET_KW-clause-marker
-expressions::atom::inside-returns-in-LET_KW-clause-marker t c = c.let_expr.ensures.reads.does.innermost _ (c.current.ensures.same.innermost _ c.requires.innermost)
+pub expressions::atom::inside-returns-in-LET_KW-clause-takes : goal.expressions::atom::inside-returns-in-LET_KW-clause-takes
+expressions::atom::inside-returns-in-LET_KW-clause-takes t c = record {
+  left = omega arith;
+  looks = omega arith;
+  marker = c.let_expr.ensures.reads.does.innermost _ (c.current.ensures.peeks.same.innermost _ c.requires.innermost);
+}
 
 pub expressions::atom::inside-returns-then-at_literal : goal.expressions::atom::inside-returns-then-at_literal
 unfolding look_of begins_below whole rule items statements expressions patterns types paths there_at shift passes is_silent begins in_mode anew row one_of any_of no_longer longest is_longer
 expressions::atom::inside-returns-then-at_literal t c = record {
-  reads = reads-here (saw-not c.in_default.not-L_PAREN (c.current.ensures.sees c.args.condition) and saw-not c.in_default.not-L_BRACK (c.current.ensures.sees c.args.condition) and saw-not c.in_default.not-RETURN_KW (c.current.ensures.sees c.args.condition) and saw-not c.in_default.not-BREAK_KW (c.current.ensures.sees c.args.condition) and saw-not c.in_default.not-CONTINUE_KW (c.current.ensures.sees c.args.condition) and saw-not c.in_default.not-PIPE (c.current.ensures.sees c.args.condition) and saw-not c.in_default.not-MOVE_KW (c.current.ensures.sees c.args.condition) and saw-not c.in_default.not-LET_KW (c.current.ensures.sees c.args.condition) and begun rules.literal (saw-before c.current.ensures.same (saw-so (c.at_literal.ensures.sees c.args.condition) c.if-at_literal.true)) nothing) (after-look _ c.current.ensures.same (after-look _ c.at_literal.ensures.same (reads-call _ (c.literal.ensures.gives c.args.condition))));
-  marker = (c.literal.ensures.gives true).does.innermost _ (c.at_literal.ensures.same.innermost _ (c.current.ensures.same.innermost _ c.requires.innermost));
-  left = omega (arith, c.literal.ensures.left, c.at_literal.ensures.left, c.current.ensures.left);
-  looks = omega (arith, c.literal.ensures.looks, c.at_literal.ensures.looks, c.current.ensures.looks);
+  reads = reads-here (saw-not c.in_default.not-L_PAREN (c.current.ensures.sees c.args.condition) and saw-not c.in_default.not-L_BRACK (c.current.ensures.sees c.args.condition) and saw-not c.in_default.not-RETURN_KW (c.current.ensures.sees c.args.condition) and saw-not c.in_default.not-BREAK_KW (c.current.ensures.sees c.args.condition) and saw-not c.in_default.not-CONTINUE_KW (c.current.ensures.sees c.args.condition) and saw-not c.in_default.not-PIPE (c.current.ensures.sees c.args.condition) and saw-not c.in_default.not-MOVE_KW (c.current.ensures.sees c.args.condition) and saw-not c.in_default.not-LET_KW (c.current.ensures.sees c.args.condition) and begun rules.literal (saw-before c.current.ensures.peeks.same (saw-so (c.at_literal.ensures.sees c.args.condition) c.if-at_literal.true)) nothing) (after-look _ c.current.ensures.peeks.same (after-look _ c.at_literal.ensures.peeks.same (reads-call _ (c.literal.ensures.gives c.args.condition))));
+  takes = record {
+    left = omega (arith, c.literal.ensures.left, c.at_literal.ensures.peeks.left, c.current.ensures.peeks.left);
+    looks = omega (arith, c.literal.ensures.looks, c.at_literal.ensures.peeks.looks, c.current.ensures.peeks.looks);
+    marker = (c.literal.ensures.gives true).does.innermost _ (c.at_literal.ensures.peeks.same.innermost _ (c.current.ensures.peeks.same.innermost _ c.requires.innermost));
+  };
 }
 
 pub expressions::atom::inside-block_like-requires : goal.expressions::atom::inside-block_like-requires
-expressions::atom::inside-block_like-requires t c = (omega arith, ((λ d. saw-after c.at_block_like.ensures.same (saw-so (c.at_block_like.ensures.sees d) c.if-at_block_like.true)), omega (arith, c.at_block_like.ensures.some c.if-at_block_like.true, c.at_block_like.ensures.left)))
+expressions::atom::inside-block_like-requires t c = (omega arith, ((λ d. saw-after c.at_block_like.ensures.peeks.same (saw-so (c.at_block_like.ensures.sees d) c.if-at_block_like.true)), omega (arith, c.at_block_like.ensures.some c.if-at_block_like.true, c.at_block_like.ensures.peeks.left)))
 
 pub expressions::atom::inside-returns-then-at_block_like : goal.expressions::atom::inside-returns-then-at_block_like
 unfolding look_of begins_below whole rule items statements expressions patterns types paths there_at shift passes is_silent begins in_mode anew row one_of any_of no_longer longest is_longer
 expressions::atom::inside-returns-then-at_block_like t c = record {
-  reads = reads-here (saw-not c.in_default.not-L_PAREN (c.current.ensures.sees c.args.condition) and saw-not c.in_default.not-L_BRACK (c.current.ensures.sees c.args.condition) and saw-not c.in_default.not-RETURN_KW (c.current.ensures.sees c.args.condition) and saw-not c.in_default.not-BREAK_KW (c.current.ensures.sees c.args.condition) and saw-not c.in_default.not-CONTINUE_KW (c.current.ensures.sees c.args.condition) and saw-not c.in_default.not-PIPE (c.current.ensures.sees c.args.condition) and saw-not c.in_default.not-MOVE_KW (c.current.ensures.sees c.args.condition) and saw-not c.in_default.not-LET_KW (c.current.ensures.sees c.args.condition) and begun rules.literal (saw-before c.current.ensures.same (saw-so (c.at_literal.ensures.sees c.args.condition) c.if-at_literal.false)) (begun rules.block_like (saw-before c.current.ensures.same (saw-before c.at_literal.ensures.same (saw-so (c.at_block_like.ensures.sees c.args.condition) c.if-at_block_like.true))) nothing)) (after-look _ c.current.ensures.same (after-look _ c.at_literal.ensures.same (after-look _ c.at_block_like.ensures.same (reads-call _ (c.block_like.ensures.gives c.args.condition)))));
-  marker = (c.block_like.ensures.gives true).does.innermost _ (c.at_block_like.ensures.same.innermost _ (c.at_literal.ensures.same.innermost _ (c.current.ensures.same.innermost _ c.requires.innermost)));
-  left = omega (arith, c.block_like.ensures.left, c.at_block_like.ensures.left, c.at_literal.ensures.left, c.current.ensures.left);
-  looks = omega (arith, c.block_like.ensures.looks, c.at_block_like.ensures.looks, c.at_literal.ensures.looks, c.current.ensures.looks);
+  reads = reads-here (saw-not c.in_default.not-L_PAREN (c.current.ensures.sees c.args.condition) and saw-not c.in_default.not-L_BRACK (c.current.ensures.sees c.args.condition) and saw-not c.in_default.not-RETURN_KW (c.current.ensures.sees c.args.condition) and saw-not c.in_default.not-BREAK_KW (c.current.ensures.sees c.args.condition) and saw-not c.in_default.not-CONTINUE_KW (c.current.ensures.sees c.args.condition) and saw-not c.in_default.not-PIPE (c.current.ensures.sees c.args.condition) and saw-not c.in_default.not-MOVE_KW (c.current.ensures.sees c.args.condition) and saw-not c.in_default.not-LET_KW (c.current.ensures.sees c.args.condition) and begun rules.literal (saw-before c.current.ensures.peeks.same (saw-so (c.at_literal.ensures.sees c.args.condition) c.if-at_literal.false)) (begun rules.block_like (saw-before c.current.ensures.peeks.same (saw-before c.at_literal.ensures.peeks.same (saw-so (c.at_block_like.ensures.sees c.args.condition) c.if-at_block_like.true))) nothing)) (after-look _ c.current.ensures.peeks.same (after-look _ c.at_literal.ensures.peeks.same (after-look _ c.at_block_like.ensures.peeks.same (reads-call _ (c.block_like.ensures.gives c.args.condition)))));
+  takes = record {
+    left = omega (arith, c.block_like.ensures.takes.left, c.at_block_like.ensures.peeks.left, c.at_literal.ensures.peeks.left, c.current.ensures.peeks.left);
+    looks = omega (arith, c.block_like.ensures.takes.looks, c.at_block_like.ensures.peeks.looks, c.at_literal.ensures.peeks.looks, c.current.ensures.peeks.looks);
+    marker = (c.block_like.ensures.gives true).does.innermost _ (c.at_block_like.ensures.peeks.same.innermost _ (c.at_literal.ensures.peeks.same.innermost _ (c.current.ensures.peeks.same.innermost _ c.requires.innermost)));
+  };
 }
 
 pub expressions::atom::inside-path_expr-requires : goal.expressions::atom::inside-path_expr-requires
 unfolding look_of begins_below whole rule items statements expressions patterns types paths there_at shift passes is_silent begins in_mode anew row one_of any_of no_longer longest is_longer
 expressions::atom::inside-path_expr-requires t c =
-    let seen = begins-else rules.expr_path rules.atom refl (saw-not c.in_default.not-L_PAREN (c.current.ensures.sees c.args.condition) and saw-not c.in_default.not-L_BRACK (c.current.ensures.sees c.args.condition) and saw-not c.in_default.not-RETURN_KW (c.current.ensures.sees c.args.condition) and saw-not c.in_default.not-BREAK_KW (c.current.ensures.sees c.args.condition) and saw-not c.in_default.not-CONTINUE_KW (c.current.ensures.sees c.args.condition) and saw-not c.in_default.not-PIPE (c.current.ensures.sees c.args.condition) and saw-not c.in_default.not-MOVE_KW (c.current.ensures.sees c.args.condition) and saw-not c.in_default.not-LET_KW (c.current.ensures.sees c.args.condition) and begun rules.literal (saw-before c.current.ensures.same (saw-so (c.at_literal.ensures.sees c.args.condition) c.if-at_literal.false)) (begun rules.block_like (saw-before c.current.ensures.same (saw-before c.at_literal.ensures.same (saw-so (c.at_block_like.ensures.sees c.args.condition) c.if-at_block_like.false))) nothing)) c.requires.begins refl in
+    let seen = begins-else rules.expr_path rules.atom refl (saw-not c.in_default.not-L_PAREN (c.current.ensures.sees c.args.condition) and saw-not c.in_default.not-L_BRACK (c.current.ensures.sees c.args.condition) and saw-not c.in_default.not-RETURN_KW (c.current.ensures.sees c.args.condition) and saw-not c.in_default.not-BREAK_KW (c.current.ensures.sees c.args.condition) and saw-not c.in_default.not-CONTINUE_KW (c.current.ensures.sees c.args.condition) and saw-not c.in_default.not-PIPE (c.current.ensures.sees c.args.condition) and saw-not c.in_default.not-MOVE_KW (c.current.ensures.sees c.args.condition) and saw-not c.in_default.not-LET_KW (c.current.ensures.sees c.args.condition) and begun rules.literal (saw-before c.current.ensures.peeks.same (saw-so (c.at_literal.ensures.sees c.args.condition) c.if-at_literal.false)) (begun rules.block_like (saw-before c.current.ensures.peeks.same (saw-before c.at_literal.ensures.peeks.same (saw-so (c.at_block_like.ensures.sees c.args.condition) c.if-at_block_like.false))) nothing)) c.requires.begins.sees refl in
     let path = subst (λ (l : Look). Saw c.args.condition l c.args.p.now true) (paths-begin modes.Expr) seen in (
       omega arith,
-      ((λ d. saw-after c.at_block_like.ensures.same (saw-after c.at_literal.ensures.same (saw-after c.current.ensures.same (any-mode path)))), (omega arith, c.at_block_like.ensures.same.innermost _ (c.at_literal.ensures.same.innermost _ (c.current.ensures.same.innermost _ c.requires.innermost)))),
+      (record { sees = λ d. saw-after c.at_block_like.ensures.peeks.same (saw-after c.at_literal.ensures.peeks.same (saw-after c.current.ensures.peeks.same (any-mode path))); some = omega arith }, c.at_block_like.ensures.peeks.same.innermost _ (c.at_literal.ensures.peeks.same.innermost _ (c.current.ensures.peeks.same.innermost _ c.requires.innermost))),
     )
 
 pub expressions::atom::inside-returns-else-at_block_like : goal.expressions::atom::inside-returns-else-at_block_like
 unfolding look_of begins_below whole rule items statements expressions patterns types paths there_at shift passes is_silent begins in_mode anew row one_of any_of no_longer longest is_longer
 expressions::atom::inside-returns-else-at_block_like t c = record {
-  reads = reads-here (saw-not c.in_default.not-L_PAREN (c.current.ensures.sees c.args.condition) and saw-not c.in_default.not-L_BRACK (c.current.ensures.sees c.args.condition) and saw-not c.in_default.not-RETURN_KW (c.current.ensures.sees c.args.condition) and saw-not c.in_default.not-BREAK_KW (c.current.ensures.sees c.args.condition) and saw-not c.in_default.not-CONTINUE_KW (c.current.ensures.sees c.args.condition) and saw-not c.in_default.not-PIPE (c.current.ensures.sees c.args.condition) and saw-not c.in_default.not-MOVE_KW (c.current.ensures.sees c.args.condition) and saw-not c.in_default.not-LET_KW (c.current.ensures.sees c.args.condition) and begun rules.literal (saw-before c.current.ensures.same (saw-so (c.at_literal.ensures.sees c.args.condition) c.if-at_literal.false)) (begun rules.block_like (saw-before c.current.ensures.same (saw-before c.at_literal.ensures.same (saw-so (c.at_block_like.ensures.sees c.args.condition) c.if-at_block_like.false))) (begun rules.expr_path (begins-else rules.expr_path rules.atom refl (saw-not c.in_default.not-L_PAREN (c.current.ensures.sees c.args.condition) and saw-not c.in_default.not-L_BRACK (c.current.ensures.sees c.args.condition) and saw-not c.in_default.not-RETURN_KW (c.current.ensures.sees c.args.condition) and saw-not c.in_default.not-BREAK_KW (c.current.ensures.sees c.args.condition) and saw-not c.in_default.not-CONTINUE_KW (c.current.ensures.sees c.args.condition) and saw-not c.in_default.not-PIPE (c.current.ensures.sees c.args.condition) and saw-not c.in_default.not-MOVE_KW (c.current.ensures.sees c.args.condition) and saw-not c.in_default.not-LET_KW (c.current.ensures.sees c.args.condition) and begun rules.literal (saw-before c.current.ensures.same (saw-so (c.at_literal.ensures.sees c.args.condition) c.if-at_literal.false)) (begun rules.block_like (saw-before c.current.ensures.same (saw-before c.at_literal.ensures.same (saw-so (c.at_block_like.ensures.sees c.args.condition) c.if-at_block_like.false))) nothing)) c.requires.begins refl) nothing))) (after-look _ c.current.ensures.same (after-look _ c.at_literal.ensures.same (after-look _ c.at_block_like.ensures.same c.path_expr.ensures.reads)));
-  marker = c.path_expr.ensures.marker;
-  left = omega (arith, c.path_expr.ensures.left, c.at_block_like.ensures.left, c.at_literal.ensures.left, c.current.ensures.left);
-  looks = omega (arith, c.path_expr.ensures.looks, c.at_block_like.ensures.looks, c.at_literal.ensures.looks, c.current.ensures.looks);
+  reads = reads-here (saw-not c.in_default.not-L_PAREN (c.current.ensures.sees c.args.condition) and saw-not c.in_default.not-L_BRACK (c.current.ensures.sees c.args.condition) and saw-not c.in_default.not-RETURN_KW (c.current.ensures.sees c.args.condition) and saw-not c.in_default.not-BREAK_KW (c.current.ensures.sees c.args.condition) and saw-not c.in_default.not-CONTINUE_KW (c.current.ensures.sees c.args.condition) and saw-not c.in_default.not-PIPE (c.current.ensures.sees c.args.condition) and saw-not c.in_default.not-MOVE_KW (c.current.ensures.sees c.args.condition) and saw-not c.in_default.not-LET_KW (c.current.ensures.sees c.args.condition) and begun rules.literal (saw-before c.current.ensures.peeks.same (saw-so (c.at_literal.ensures.sees c.args.condition) c.if-at_literal.false)) (begun rules.block_like (saw-before c.current.ensures.peeks.same (saw-before c.at_literal.ensures.peeks.same (saw-so (c.at_block_like.ensures.sees c.args.condition) c.if-at_block_like.false))) (begun rules.expr_path (begins-else rules.expr_path rules.atom refl (saw-not c.in_default.not-L_PAREN (c.current.ensures.sees c.args.condition) and saw-not c.in_default.not-L_BRACK (c.current.ensures.sees c.args.condition) and saw-not c.in_default.not-RETURN_KW (c.current.ensures.sees c.args.condition) and saw-not c.in_default.not-BREAK_KW (c.current.ensures.sees c.args.condition) and saw-not c.in_default.not-CONTINUE_KW (c.current.ensures.sees c.args.condition) and saw-not c.in_default.not-PIPE (c.current.ensures.sees c.args.condition) and saw-not c.in_default.not-MOVE_KW (c.current.ensures.sees c.args.condition) and saw-not c.in_default.not-LET_KW (c.current.ensures.sees c.args.condition) and begun rules.literal (saw-before c.current.ensures.peeks.same (saw-so (c.at_literal.ensures.sees c.args.condition) c.if-at_literal.false)) (begun rules.block_like (saw-before c.current.ensures.peeks.same (saw-before c.at_literal.ensures.peeks.same (saw-so (c.at_block_like.ensures.sees c.args.condition) c.if-at_block_like.false))) nothing)) c.requires.begins.sees refl) nothing))) (after-look _ c.current.ensures.peeks.same (after-look _ c.at_literal.ensures.peeks.same (after-look _ c.at_block_like.ensures.peeks.same c.path_expr.ensures.reads)));
+  takes = record {
+    left = omega (arith, c.path_expr.ensures.takes.left, c.at_block_like.ensures.peeks.left, c.at_literal.ensures.peeks.left, c.current.ensures.peeks.left);
+    looks = omega (arith, c.path_expr.ensures.takes.looks, c.at_block_like.ensures.peeks.looks, c.at_literal.ensures.peeks.looks, c.current.ensures.peeks.looks);
+    marker = c.path_expr.ensures.takes.marker;
+  };
 }
 
 pub expressions::atom::path_expr-path_with_args-requires : goal.expressions::atom::path_expr-path_with_args-requires
-expressions::atom::path_expr-path_with_args-requires t c = (omega arith, (c.requires.begins, c.requires.some))
+expressions::atom::path_expr-path_with_args-requires t c = (omega arith, (c.requires.begins.sees, c.requires.begins.some))
 
 pub expressions::atom::path_expr-after_path-requires : goal.expressions::atom::path_expr-after_path-requires
 expressions::atom::path_expr-after_path-requires t c = (omega arith, (c.path_with_args.ensures.gives true).does.innermost _ c.requires.innermost)
@@ -129,39 +163,39 @@ pub expressions::atom::path_expr-returns-clause-reads : goal.expressions::atom::
 expressions::atom::path_expr-returns-clause-reads t c = (reads-then _ (reads-call _ (c.path_with_args.ensures.gives c.args.condition)) c.after_path.ensures.reads)
 
 pub expressions::atom::after_path-wrap-requires : goal.expressions::atom::after_path-wrap-requires
-expressions::atom::after_path-wrap-requires t c = c.at_pair.ensures.same.innermost _ c.requires.innermost
+expressions::atom::after_path-wrap-requires t c = c.at_pair.ensures.peeks.same.innermost _ c.requires.innermost
 
 pub expressions::atom::after_path-wrap-frame-requires : goal.expressions::atom::after_path-wrap-frame-requires
-expressions::atom::after_path-wrap-frame-requires t c = (c.macro_call.ensures.reads true).does.innermost _ (c.at.ensures.same.innermost _ (c.at_pair.ensures.same.innermost _ c.requires.innermost))
+expressions::atom::after_path-wrap-frame-requires t c = (c.macro_call.ensures.reads true).does.innermost _ (c.at.ensures.peeks.same.innermost _ (c.at_pair.ensures.peeks.same.innermost _ c.requires.innermost))
 
 pub expressions::atom::after_path-wrap-requires-then-condition : goal.expressions::atom::after_path-wrap-requires-then-condition
-expressions::atom::after_path-wrap-requires-then-condition t c = c.at.ensures.same.innermost _ (c.at_pair.ensures.same.innermost _ c.requires.innermost)
+expressions::atom::after_path-wrap-requires-then-condition t c = c.at.ensures.peeks.same.innermost _ (c.at_pair.ensures.peeks.same.innermost _ c.requires.innermost)
 
 pub expressions::atom::after_path-wrap-requires-then-at-2 : goal.expressions::atom::after_path-wrap-requires-then-at-2
-expressions::atom::after_path-wrap-requires-then-at-2 t c = (c.field_values.ensures.gives true).does.innermost _ (c.at-2.ensures.same.innermost _ (c.at.ensures.same.innermost _ (c.at_pair.ensures.same.innermost _ c.requires.innermost)))
+expressions::atom::after_path-wrap-requires-then-at-2 t c = (c.field_values.ensures.gives true).does.innermost _ (c.at-2.ensures.peeks.same.innermost _ (c.at.ensures.peeks.same.innermost _ (c.at_pair.ensures.peeks.same.innermost _ c.requires.innermost)))
 
 pub expressions::atom::after_path-wrap-requires-2 : goal.expressions::atom::after_path-wrap-requires-2
-expressions::atom::after_path-wrap-requires-2 t c = c.at-2.ensures.same.innermost _ (c.at.ensures.same.innermost _ (c.at_pair.ensures.same.innermost _ c.requires.innermost))
+expressions::atom::after_path-wrap-requires-2 t c = c.at-2.ensures.peeks.same.innermost _ (c.at.ensures.peeks.same.innermost _ (c.at_pair.ensures.peeks.same.innermost _ c.requires.innermost))
 
 pub expressions::atom::after_path-returns-then-at_pair-clause-reads : goal.expressions::atom::after_path-returns-then-at_pair-clause-reads
 unfolding look_of begins_below whole rule items statements expressions patterns types paths there_at shift passes is_silent begins in_mode anew row one_of any_of no_longer longest is_longer
-expressions::atom::after_path-returns-then-at_pair-clause-reads t c = reads-here (saw-always (saw-so (c.at_pair.ensures.sees c.args.condition) c.if-at_pair.true) and saw-left (saw-so (c.at_pair.ensures.sees c.args.condition) c.if-at_pair.true) and nothing) (reads-wrap _ (reads-nothing _ c.at_pair.ensures.same) c.wrap.ensures.wraps)
+expressions::atom::after_path-returns-then-at_pair-clause-reads t c = reads-here (saw-always (saw-so (c.at_pair.ensures.sees c.args.condition) c.if-at_pair.true) and saw-left (saw-so (c.at_pair.ensures.sees c.args.condition) c.if-at_pair.true) and nothing) (reads-wrap _ (reads-nothing _ c.at_pair.ensures.peeks.same) c.wrap.ensures.wraps)
 
 pub expressions::atom::after_path-returns-then-at-clause-reads : goal.expressions::atom::after_path-returns-then-at-clause-reads
 unfolding look_of begins_below whole rule items statements expressions patterns types paths there_at shift passes is_silent begins in_mode anew row one_of any_of no_longer longest is_longer
-expressions::atom::after_path-returns-then-at-clause-reads t c = reads-here (saw-always (saw-so (c.at_pair.ensures.sees c.args.condition) c.if-at_pair.false) and saw-before c.at_pair.ensures.same (saw-so (c.at.ensures.sees c.args.condition) c.if-at.true) and nothing) (after-look _ c.at_pair.ensures.same (after-look _ c.at.ensures.same (reads-then _ (reads-wrap _ (c.macro_call.ensures.reads c.args.condition) c.wrap-frame.ensures.wraps) (reads-wrap _ (reads-nothing _ (does-nothing _)) c.wrap-then-at.ensures.wraps))))
+expressions::atom::after_path-returns-then-at-clause-reads t c = reads-here (saw-always (saw-so (c.at_pair.ensures.sees c.args.condition) c.if-at_pair.false) and saw-before c.at_pair.ensures.peeks.same (saw-so (c.at.ensures.sees c.args.condition) c.if-at.true) and nothing) (after-look _ c.at_pair.ensures.peeks.same (after-look _ c.at.ensures.peeks.same (reads-then _ (reads-wrap _ (c.macro_call.ensures.reads c.args.condition) c.wrap-frame.ensures.wraps) (reads-wrap _ (reads-nothing _ (does-nothing _)) c.wrap-then-at.ensures.wraps))))
 
 pub expressions::atom::after_path-returns-then-condition-clause-reads : goal.expressions::atom::after_path-returns-then-condition-clause-reads
 unfolding look_of begins_below whole rule items statements expressions patterns types paths there_at shift passes is_silent begins in_mode anew row one_of any_of no_longer longest is_longer
-expressions::atom::after_path-returns-then-condition-clause-reads t c = reads-here (saw-always (saw-so (c.at_pair.ensures.sees c.args.condition) c.if-at_pair.false) and saw-before c.at_pair.ensures.same (saw-so (c.at.ensures.sees c.args.condition) c.if-at.false) and saw-condition c.if-condition.true and nothing) (reads-wrap _ (reads-nothing _ (does-then c.at_pair.ensures.same c.at.ensures.same)) c.wrap-then-condition.ensures.wraps)
+expressions::atom::after_path-returns-then-condition-clause-reads t c = reads-here (saw-always (saw-so (c.at_pair.ensures.sees c.args.condition) c.if-at_pair.false) and saw-before c.at_pair.ensures.peeks.same (saw-so (c.at.ensures.sees c.args.condition) c.if-at.false) and saw-condition c.if-condition.true and nothing) (reads-wrap _ (reads-nothing _ (does-then c.at_pair.ensures.peeks.same c.at.ensures.peeks.same)) c.wrap-then-condition.ensures.wraps)
 
 pub expressions::atom::after_path-returns-then-at-2-clause-reads : goal.expressions::atom::after_path-returns-then-at-2-clause-reads
 unfolding look_of begins_below whole rule items statements expressions patterns types paths there_at shift passes is_silent begins in_mode anew row one_of any_of no_longer longest is_longer
-expressions::atom::after_path-returns-then-at-2-clause-reads t c = reads-here (saw-always (saw-so (c.at_pair.ensures.sees c.args.condition) c.if-at_pair.false) and saw-before c.at_pair.ensures.same (saw-so (c.at.ensures.sees c.args.condition) c.if-at.false) and saw-condition c.if-condition.false and saw-before c.at_pair.ensures.same (saw-before c.at.ensures.same (saw-so (c.at-2.ensures.sees c.args.condition) c.if-at-2.true)) and nothing) (after-look _ c.at_pair.ensures.same (after-look _ c.at.ensures.same (after-look _ c.at-2.ensures.same (reads-wrap _ (reads-call _ (c.field_values.ensures.gives c.args.condition)) c.wrap-then-at-2.ensures.wraps))))
+expressions::atom::after_path-returns-then-at-2-clause-reads t c = reads-here (saw-always (saw-so (c.at_pair.ensures.sees c.args.condition) c.if-at_pair.false) and saw-before c.at_pair.ensures.peeks.same (saw-so (c.at.ensures.sees c.args.condition) c.if-at.false) and saw-condition c.if-condition.false and saw-before c.at_pair.ensures.peeks.same (saw-before c.at.ensures.peeks.same (saw-so (c.at-2.ensures.sees c.args.condition) c.if-at-2.true)) and nothing) (after-look _ c.at_pair.ensures.peeks.same (after-look _ c.at.ensures.peeks.same (after-look _ c.at-2.ensures.peeks.same (reads-wrap _ (reads-call _ (c.field_values.ensures.gives c.args.condition)) c.wrap-then-at-2.ensures.wraps))))
 
 pub expressions::atom::after_path-returns-clause-reads : goal.expressions::atom::after_path-returns-clause-reads
 unfolding look_of begins_below whole rule items statements expressions patterns types paths there_at shift passes is_silent begins in_mode anew row one_of any_of no_longer longest is_longer
-expressions::atom::after_path-returns-clause-reads t c = reads-here (saw-always (saw-so (c.at_pair.ensures.sees c.args.condition) c.if-at_pair.false) and saw-before c.at_pair.ensures.same (saw-so (c.at.ensures.sees c.args.condition) c.if-at.false) and saw-condition c.if-condition.false and saw-before c.at_pair.ensures.same (saw-before c.at.ensures.same (saw-so (c.at-2.ensures.sees c.args.condition) c.if-at-2.false)) and nothing) (reads-wrap _ (reads-nothing _ (does-then c.at_pair.ensures.same (does-then c.at.ensures.same c.at-2.ensures.same))) c.wrap-2.ensures.wraps)
+expressions::atom::after_path-returns-clause-reads t c = reads-here (saw-always (saw-so (c.at_pair.ensures.sees c.args.condition) c.if-at_pair.false) and saw-before c.at_pair.ensures.peeks.same (saw-so (c.at.ensures.sees c.args.condition) c.if-at.false) and saw-condition c.if-condition.false and saw-before c.at_pair.ensures.peeks.same (saw-before c.at.ensures.peeks.same (saw-so (c.at-2.ensures.sees c.args.condition) c.if-at-2.false)) and nothing) (reads-wrap _ (reads-nothing _ (does-then c.at_pair.ensures.peeks.same (does-then c.at.ensures.peeks.same c.at-2.ensures.peeks.same))) c.wrap-2.ensures.wraps)
 
 pub expressions::atom::paren_expr-after_paren-requires : goal.expressions::atom::paren_expr-after_paren-requires
 expressions::atom::paren_expr-after_paren-requires t c = (omega arith, (c.take.ensures.reads true).does.innermost _ c.requires.innermost)
@@ -170,18 +204,18 @@ pub expressions::atom::paren_expr-returns-clause-reads : goal.expressions::atom:
 expressions::atom::paren_expr-returns-clause-reads t c = λ cond. (reads-then cond (c.take.ensures.reads cond) (c.after_paren.ensures.reads cond))
 
 pub expressions::atom::after_paren-wrap-requires : goal.expressions::atom::after_paren-wrap-requires
-expressions::atom::after_paren-wrap-requires t c = (c.take.ensures.reads true).does.innermost _ (c.at.ensures.same.innermost _ c.requires.innermost)
+expressions::atom::after_paren-wrap-requires t c = (c.take.ensures.reads true).does.innermost _ (c.at.ensures.peeks.same.innermost _ c.requires.innermost)
 
 pub expressions::atom::after_paren-tuple_tail-requires : goal.expressions::atom::after_paren-tuple_tail-requires
-expressions::atom::after_paren-tuple_tail-requires t c = (omega arith, c.expect_expression.ensures.reads.does.innermost _ (c.at.ensures.same.innermost _ c.requires.innermost))
+expressions::atom::after_paren-tuple_tail-requires t c = (omega arith, c.expect_expression.ensures.reads.does.innermost _ (c.at.ensures.peeks.same.innermost _ c.requires.innermost))
 
 pub expressions::atom::after_paren-returns-then-at-clause-reads : goal.expressions::atom::after_paren-returns-then-at-clause-reads
 unfolding look_of begins_below whole rule items statements expressions patterns types paths there_at shift passes is_silent begins in_mode anew row one_of any_of no_longer longest is_longer
-expressions::atom::after_paren-returns-then-at-clause-reads t c = λ cond. reads-here (saw-so (c.at.ensures.sees cond) c.if-at.true and nothing) (after-look cond c.at.ensures.same (reads-wrap cond (c.take.ensures.reads cond) c.wrap.ensures.wraps))
+expressions::atom::after_paren-returns-then-at-clause-reads t c = λ cond. reads-here (saw-so (c.at.ensures.sees cond) c.if-at.true and nothing) (after-look cond c.at.ensures.peeks.same (reads-wrap cond (c.take.ensures.reads cond) c.wrap.ensures.wraps))
 
 pub expressions::atom::after_paren-returns-clause-reads : goal.expressions::atom::after_paren-returns-clause-reads
 unfolding look_of begins_below whole rule items statements expressions patterns types paths there_at shift passes is_silent begins in_mode anew row one_of any_of no_longer longest is_longer
-expressions::atom::after_paren-returns-clause-reads t c = λ cond. reads-here (saw-so (c.at.ensures.sees cond) c.if-at.false and nothing) (after-look cond c.at.ensures.same (reads-then cond (reads-mode cond c.expect_expression.ensures.reads) (c.tuple_tail.ensures.reads cond)))
+expressions::atom::after_paren-returns-clause-reads t c = λ cond. reads-here (saw-so (c.at.ensures.sees cond) c.if-at.false and nothing) (after-look cond c.at.ensures.peeks.same (reads-then cond (reads-mode cond c.expect_expression.ensures.reads) (c.tuple_tail.ensures.reads cond)))
 
 pub expressions::atom::array_expr-complete-requires : goal.expressions::atom::array_expr-complete-requires
 expressions::atom::array_expr-complete-requires t c = (c.array_elements.ensures.reads true).does.innermost _ ((c.take.ensures.reads true).does.innermost _ c.start-node.ensures.marker)
@@ -190,27 +224,27 @@ pub expressions::atom::array_expr-returns-clause-reads : goal.expressions::atom:
 expressions::atom::array_expr-returns-clause-reads t c = λ cond. reads-node cond c.start-node.ensures.opens (reads-then cond (c.take.ensures.reads cond) (c.array_elements.ensures.reads cond)) c.complete.ensures.closes
 
 pub expressions::atom::array_elements-expression-requires : goal.expressions::atom::array_elements-expression-requires
-expressions::atom::array_elements-expression-requires t c = (omega arith, (saw-after c.at_expression.ensures.same (saw-so c.at_expression.ensures.sees c.if-at_expression.true), omega (arith, c.at_expression.ensures.some c.if-at_expression.true, c.at_expression.ensures.left)))
+expressions::atom::array_elements-expression-requires t c = (omega arith, (saw-after c.at_expression.ensures.peeks.same (saw-so c.at_expression.ensures.sees c.if-at_expression.true), omega (arith, c.at_expression.ensures.some c.if-at_expression.true, c.at_expression.ensures.peeks.left)))
 
 pub expressions::atom::array_elements-returns-then-at_expression-clause-reads : goal.expressions::atom::array_elements-returns-then-at_expression-clause-reads
 unfolding look_of begins_below whole rule items statements expressions patterns types paths there_at shift passes is_silent begins in_mode anew row one_of any_of no_longer longest is_longer
-expressions::atom::array_elements-returns-then-at_expression-clause-reads t c = λ cond. reads-or cond (saw-mode (begins-call rules.expression (saw-so c.at_expression.ensures.sees c.if-at_expression.true))) (after-look cond c.at_expression.ensures.same (reads-then cond (reads-mode cond (reads-call false c.expression.ensures.gives)) (c.after_element.ensures.reads cond)))
+expressions::atom::array_elements-returns-then-at_expression-clause-reads t c = λ cond. reads-or cond (saw-mode (begins-call rules.expression (saw-so c.at_expression.ensures.sees c.if-at_expression.true))) (after-look cond c.at_expression.ensures.peeks.same (reads-then cond (reads-mode cond (reads-call false c.expression.ensures.gives)) (c.after_element.ensures.reads cond)))
 
 pub expressions::atom::array_elements-returns-clause-reads : goal.expressions::atom::array_elements-returns-clause-reads
 unfolding look_of begins_below whole rule items statements expressions patterns types paths there_at shift passes is_silent begins in_mode anew row one_of any_of no_longer longest is_longer
-expressions::atom::array_elements-returns-clause-reads t c = λ cond. reads-else cond (saw-mode (begins-call rules.expression (saw-so c.at_expression.ensures.sees c.if-at_expression.false))) (after-look cond c.at_expression.ensures.same (c.expect.ensures.reads cond))
+expressions::atom::array_elements-returns-clause-reads t c = λ cond. reads-else cond (saw-mode (begins-call rules.expression (saw-so c.at_expression.ensures.sees c.if-at_expression.false))) (after-look cond c.at_expression.ensures.peeks.same (c.expect.ensures.reads cond))
 
 pub expressions::atom::after_element-returns-then-at-clause-reads : goal.expressions::atom::after_element-returns-then-at-clause-reads
 unfolding look_of begins_below whole rule items statements expressions patterns types paths there_at shift passes is_silent begins in_mode anew row one_of any_of no_longer longest is_longer
-expressions::atom::after_element-returns-then-at-clause-reads t c = λ cond. reads-here (saw-so (c.at.ensures.sees cond) c.if-at.true and nothing) (after-look cond c.at.ensures.same (reads-then cond (c.take.ensures.reads cond) (reads-then cond (reads-mode cond c.expect_expression.ensures.reads) (c.expect.ensures.reads cond))))
+expressions::atom::after_element-returns-then-at-clause-reads t c = λ cond. reads-here (saw-so (c.at.ensures.sees cond) c.if-at.true and nothing) (after-look cond c.at.ensures.peeks.same (reads-then cond (c.take.ensures.reads cond) (reads-then cond (reads-mode cond c.expect_expression.ensures.reads) (c.expect.ensures.reads cond))))
 
 pub expressions::atom::after_element-returns-then-at-2-clause-reads : goal.expressions::atom::after_element-returns-then-at-2-clause-reads
 unfolding look_of begins_below whole rule items statements expressions patterns types paths there_at shift passes is_silent begins in_mode anew row one_of any_of no_longer longest is_longer
-expressions::atom::after_element-returns-then-at-2-clause-reads t c = λ cond. reads-here (saw-so (c.at.ensures.sees cond) c.if-at.false and saw-before c.at.ensures.same (saw-so (c.at-2.ensures.sees cond) c.if-at-2.true) and nothing) (after-look cond c.at.ensures.same (after-look cond c.at-2.ensures.same (reads-then cond (c.take-then-at-2.ensures.reads cond) (c.rest_of_list.ensures.reads cond))))
+expressions::atom::after_element-returns-then-at-2-clause-reads t c = λ cond. reads-here (saw-so (c.at.ensures.sees cond) c.if-at.false and saw-before c.at.ensures.peeks.same (saw-so (c.at-2.ensures.sees cond) c.if-at-2.true) and nothing) (after-look cond c.at.ensures.peeks.same (after-look cond c.at-2.ensures.peeks.same (reads-then cond (c.take-then-at-2.ensures.reads cond) (c.rest_of_list.ensures.reads cond))))
 
 pub expressions::atom::after_element-returns-clause-reads : goal.expressions::atom::after_element-returns-clause-reads
 unfolding look_of begins_below whole rule items statements expressions patterns types paths there_at shift passes is_silent begins in_mode anew row one_of any_of no_longer longest is_longer
-expressions::atom::after_element-returns-clause-reads t c = λ cond. reads-here (saw-so (c.at.ensures.sees cond) c.if-at.false and saw-before c.at.ensures.same (saw-so (c.at-2.ensures.sees cond) c.if-at-2.false) and nothing) (after-look cond c.at.ensures.same (after-look cond c.at-2.ensures.same (c.expect-2.ensures.reads cond)))
+expressions::atom::after_element-returns-clause-reads t c = λ cond. reads-here (saw-so (c.at.ensures.sees cond) c.if-at.false and saw-before c.at.ensures.peeks.same (saw-so (c.at-2.ensures.sees cond) c.if-at-2.false) and nothing) (after-look cond c.at.ensures.peeks.same (after-look cond c.at-2.ensures.peeks.same (c.expect-2.ensures.reads cond)))
 
 pub expressions::atom::value_expr-complete-requires : goal.expressions::atom::value_expr-complete-requires
 expressions::atom::value_expr-complete-requires t c = c.opt_value.ensures.reads.does.innermost _ ((c.take.ensures.reads true).does.innermost _ c.start-node.ensures.marker)
@@ -219,19 +253,19 @@ pub expressions::atom::value_expr-returns-clause-reads : goal.expressions::atom:
 expressions::atom::value_expr-returns-clause-reads t c = reads-node _ c.start-node.ensures.opens (reads-then _ (c.take.ensures.reads c.args.condition) c.opt_value.ensures.reads) c.complete.ensures.closes
 
 pub expressions::atom::opt_value-operation-requires : goal.expressions::atom::opt_value-operation-requires
-expressions::atom::opt_value-operation-requires t c = (omega arith, (saw-after c.at_operation.ensures.same (saw-so c.at_operation.ensures.sees c.if-at_operation.true), omega (arith, c.at_operation.ensures.some c.if-at_operation.true, c.at_operation.ensures.left)))
+expressions::atom::opt_value-operation-requires t c = (omega arith, (saw-after c.at_operation.ensures.peeks.same (saw-so c.at_operation.ensures.sees c.if-at_operation.true), omega (arith, c.at_operation.ensures.some c.if-at_operation.true, c.at_operation.ensures.peeks.left)))
 
 pub expressions::atom::opt_value-returns-then-at_body-clause-reads : goal.expressions::atom::opt_value-returns-then-at_body-clause-reads
 unfolding look_of begins_below whole rule items statements expressions patterns types paths there_at shift passes is_silent begins in_mode anew row one_of any_of no_longer longest is_longer
-expressions::atom::opt_value-returns-then-at_body-clause-reads t c = reads-here (saw-so c.at_body.ensures.sees c.if-at_body.true and nothing) (reads-nothing _ c.at_body.ensures.same)
+expressions::atom::opt_value-returns-then-at_body-clause-reads t c = reads-here (saw-so c.at_body.ensures.sees c.if-at_body.true and nothing) (reads-nothing _ c.at_body.ensures.peeks.same)
 
 pub expressions::atom::opt_value-returns-then-at_operation-clause-reads : goal.expressions::atom::opt_value-returns-then-at_operation-clause-reads
 unfolding look_of begins_below whole rule items statements expressions patterns types paths there_at shift passes is_silent begins in_mode anew row one_of any_of no_longer longest is_longer
-expressions::atom::opt_value-returns-then-at_operation-clause-reads t c = reads-here (saw-so c.at_body.ensures.sees c.if-at_body.false and begun rules.operation (saw-before c.at_body.ensures.same (saw-so c.at_operation.ensures.sees c.if-at_operation.true)) nothing) (after-look _ c.at_body.ensures.same (after-look _ c.at_operation.ensures.same (reads-call _ c.operation.ensures.gives)))
+expressions::atom::opt_value-returns-then-at_operation-clause-reads t c = reads-here (saw-so c.at_body.ensures.sees c.if-at_body.false and begun rules.operation (saw-before c.at_body.ensures.peeks.same (saw-so c.at_operation.ensures.sees c.if-at_operation.true)) nothing) (after-look _ c.at_body.ensures.peeks.same (after-look _ c.at_operation.ensures.peeks.same (reads-call _ c.operation.ensures.gives)))
 
 pub expressions::atom::opt_value-returns-else-at_operation-clause-reads : goal.expressions::atom::opt_value-returns-else-at_operation-clause-reads
 unfolding look_of begins_below whole rule items statements expressions patterns types paths there_at shift passes is_silent begins in_mode anew row one_of any_of no_longer longest is_longer
-expressions::atom::opt_value-returns-else-at_operation-clause-reads t c = reads-here (saw-so c.at_body.ensures.sees c.if-at_body.false and begun rules.operation (saw-before c.at_body.ensures.same (saw-so c.at_operation.ensures.sees c.if-at_operation.false)) nothing) (reads-nothing _ (does-then c.at_body.ensures.same c.at_operation.ensures.same))
+expressions::atom::opt_value-returns-else-at_operation-clause-reads t c = reads-here (saw-so c.at_body.ensures.sees c.if-at_body.false and begun rules.operation (saw-before c.at_body.ensures.peeks.same (saw-so c.at_operation.ensures.sees c.if-at_operation.false)) nothing) (reads-nothing _ (does-then c.at_body.ensures.peeks.same c.at_operation.ensures.peeks.same))
 
 pub expressions::closures::closure_expr-complete-requires : goal.expressions::closures::closure_expr-complete-requires
 expressions::closures::closure_expr-complete-requires t c = c.closure_body.ensures.reads.does.innermost _ ((c.closure_params.ensures.reads true).does.innermost _ c.start-node.ensures.marker)
@@ -247,11 +281,11 @@ expressions::closures::move_closure-returns-clause-reads t c = reads-node _ c.st
 
 pub expressions::closures::expect_closure_params-returns-then-at-clause-reads : goal.expressions::closures::expect_closure_params-returns-then-at-clause-reads
 unfolding look_of begins_below whole rule items statements expressions patterns types paths there_at shift passes is_silent begins in_mode anew row one_of any_of no_longer longest is_longer
-expressions::closures::expect_closure_params-returns-then-at-clause-reads t c = λ cond. reads-here (saw-so (c.at.ensures.sees cond) c.if-at.true and nothing) (after-look cond c.at.ensures.same (c.closure_params.ensures.reads cond))
+expressions::closures::expect_closure_params-returns-then-at-clause-reads t c = λ cond. reads-here (saw-so (c.at.ensures.sees cond) c.if-at.true and nothing) (after-look cond c.at.ensures.peeks.same (c.closure_params.ensures.reads cond))
 
 pub expressions::closures::expect_closure_params-returns-clause-reads : goal.expressions::closures::expect_closure_params-returns-clause-reads
 unfolding look_of begins_below whole rule items statements expressions patterns types paths there_at shift passes is_silent begins in_mode anew row one_of any_of no_longer longest is_longer
-expressions::closures::expect_closure_params-returns-clause-reads t c = λ cond. reads-here (saw-so (c.at.ensures.sees cond) c.if-at.false and nothing) (after-look cond c.at.ensures.same (c.error.ensures.reads cond))
+expressions::closures::expect_closure_params-returns-clause-reads t c = λ cond. reads-here (saw-so (c.at.ensures.sees cond) c.if-at.false and nothing) (after-look cond c.at.ensures.peeks.same (c.error.ensures.reads cond))
 
 pub expressions::closures::closure_params-complete-requires : goal.expressions::closures::closure_params-complete-requires
 expressions::closures::closure_params-complete-requires t c = (c.rest_of_list.ensures.reads true).does.innermost _ ((c.take.ensures.reads true).does.innermost _ c.start-list.ensures.marker)
@@ -270,19 +304,19 @@ expressions::closures::closure_param-returns-clause-reads t c = reads-node _ c.s
 
 pub expressions::closures::opt_type-returns-then-at-clause-reads : goal.expressions::closures::opt_type-returns-then-at-clause-reads
 unfolding look_of begins_below whole rule items statements expressions patterns types paths there_at shift passes is_silent begins in_mode anew row one_of any_of no_longer longest is_longer
-expressions::closures::opt_type-returns-then-at-clause-reads t c = reads-here (saw-so (c.at.ensures.sees c.args.condition) c.if-at.true and nothing) (after-look _ c.at.ensures.same (reads-then _ (c.take.ensures.reads c.args.condition) c.expect_type.ensures.reads))
+expressions::closures::opt_type-returns-then-at-clause-reads t c = reads-here (saw-so (c.at.ensures.sees c.args.condition) c.if-at.true and nothing) (after-look _ c.at.ensures.peeks.same (reads-then _ (c.take.ensures.reads c.args.condition) c.expect_type.ensures.reads))
 
 pub expressions::closures::opt_type-returns-else-at-clause-reads : goal.expressions::closures::opt_type-returns-else-at-clause-reads
 unfolding look_of begins_below whole rule items statements expressions patterns types paths there_at shift passes is_silent begins in_mode anew row one_of any_of no_longer longest is_longer
-expressions::closures::opt_type-returns-else-at-clause-reads t c = reads-here (saw-so (c.at.ensures.sees c.args.condition) c.if-at.false and nothing) (reads-nothing _ c.at.ensures.same)
+expressions::closures::opt_type-returns-else-at-clause-reads t c = reads-here (saw-so (c.at.ensures.sees c.args.condition) c.if-at.false and nothing) (reads-nothing _ c.at.ensures.peeks.same)
 
 pub expressions::closures::closure_body-returns-then-at_pair-clause-reads : goal.expressions::closures::closure_body-returns-then-at_pair-clause-reads
 unfolding look_of begins_below whole rule items statements expressions patterns types paths there_at shift passes is_silent begins in_mode anew row one_of any_of no_longer longest is_longer
-expressions::closures::closure_body-returns-then-at_pair-clause-reads t c = reads-here (saw-so (c.at_pair.ensures.sees c.args.condition) c.if-at_pair.true and nothing) (after-look _ c.at_pair.ensures.same (reads-then _ (reads-call _ c.ret_type.ensures.gives) (c.expect_block.ensures.reads c.args.condition)))
+expressions::closures::closure_body-returns-then-at_pair-clause-reads t c = reads-here (saw-so (c.at_pair.ensures.sees c.args.condition) c.if-at_pair.true and nothing) (after-look _ c.at_pair.ensures.peeks.same (reads-then _ (reads-call _ c.ret_type.ensures.gives) (c.expect_block.ensures.reads c.args.condition)))
 
 pub expressions::closures::closure_body-returns-clause-reads : goal.expressions::closures::closure_body-returns-clause-reads
 unfolding look_of begins_below whole rule items statements expressions patterns types paths there_at shift passes is_silent begins in_mode anew row one_of any_of no_longer longest is_longer
-expressions::closures::closure_body-returns-clause-reads t c = reads-here (saw-so (c.at_pair.ensures.sees c.args.condition) c.if-at_pair.false and nothing) (after-look _ c.at_pair.ensures.same c.expect_expression.ensures.reads)
+expressions::closures::closure_body-returns-clause-reads t c = reads-here (saw-so (c.at_pair.ensures.sees c.args.condition) c.if-at_pair.false and nothing) (after-look _ c.at_pair.ensures.peeks.same c.expect_expression.ensures.reads)
 
 pub expressions::atom::let_expr-complete-requires : goal.expressions::atom::let_expr-complete-requires
 expressions::atom::let_expr-complete-requires t c = c.expect_expression.ensures.reads.does.innermost _ ((c.expect.ensures.reads true).does.innermost _ ((c.expect_pattern.ensures.reads true).does.innermost _ ((c.take.ensures.reads true).does.innermost _ c.start-node.ensures.marker)))

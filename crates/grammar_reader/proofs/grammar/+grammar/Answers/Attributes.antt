@@ -27,18 +27,18 @@ attributes::attribute-returns-clause-gives t c = λ cond. gives-anew (anew-after
     (reads-then cond (c.take.ensures.reads cond) (reads-then cond (c.eat.ensures.reads cond) (reads-then cond (c.expect.ensures.reads cond) (reads-then cond (reads-mode cond c.expect_meta.ensures.reads) (c.expect-2.ensures.reads cond))))) c.complete.ensures.closes))
 
 pub attributes::expect_meta-meta-requires : goal.attributes::expect_meta-meta-requires
-attributes::expect_meta-meta-requires t c = (omega arith, (λ cond. saw-after c.at_path.ensures.same (saw-so (c.at_path.ensures.sees cond) c.if-at_path.true), omega (arith, c.at_path.ensures.some c.if-at_path.true, c.at_path.ensures.left)))
+attributes::expect_meta-meta-requires t c = (omega arith, (λ cond. saw-after c.at_path.ensures.peeks.same (saw-so (c.at_path.ensures.sees cond) c.if-at_path.true), omega (arith, c.at_path.ensures.some c.if-at_path.true, c.at_path.ensures.peeks.left)))
 
 pub attributes::expect_meta-returns-then-at_path-clause-reads : goal.attributes::expect_meta-returns-then-at_path-clause-reads
 unfolding look_of begins_below whole rule items statements expressions patterns types paths there_at shift passes is_silent begins in_mode anew row one_of any_of no_longer longest is_longer
-attributes::expect_meta-returns-then-at_path-clause-reads t c = reads-here (begun rules.meta (saw-meta (saw-so (c.at_path.ensures.sees false) c.if-at_path.true)) nothing) (after-look false c.at_path.ensures.same (reads-call false c.meta.ensures.gives))
+attributes::expect_meta-returns-then-at_path-clause-reads t c = reads-here (begun rules.meta (saw-meta (saw-so (c.at_path.ensures.sees false) c.if-at_path.true)) nothing) (after-look false c.at_path.ensures.peeks.same (reads-call false c.meta.ensures.gives))
 
 pub attributes::expect_meta-returns-clause-reads : goal.attributes::expect_meta-returns-clause-reads
 unfolding look_of begins_below whole rule items statements expressions patterns types paths there_at shift passes is_silent begins in_mode anew row one_of any_of no_longer longest is_longer
-attributes::expect_meta-returns-clause-reads t c = reads-here (begun rules.meta (saw-meta (saw-so (c.at_path.ensures.sees false) c.if-at_path.false)) nothing) (after-look false c.at_path.ensures.same (c.error.ensures.reads false))
+attributes::expect_meta-returns-clause-reads t c = reads-here (begun rules.meta (saw-meta (saw-so (c.at_path.ensures.sees false) c.if-at_path.false)) nothing) (after-look false c.at_path.ensures.peeks.same (c.error.ensures.reads false))
 
-pub attributes::meta-path-requires-clause-begins : goal.attributes::meta-path-requires-clause-begins
-attributes::meta-path-requires-clause-begins t c = λ cond. saw-inside c.start-meta.ensures.opens (c.requires.begins cond)
+pub attributes::meta-path-requires : goal.attributes::meta-path-requires
+attributes::meta-path-requires t c = record { begins = record { sees = λ cond. saw-inside c.start-meta.ensures.opens (c.requires.begins cond); some = omega arith } }
 
 pub attributes::meta-complete-requires : goal.attributes::meta-complete-requires
 attributes::meta-complete-requires t c = c.opt_value.ensures.reads.does.innermost _ ((c.path.ensures.gives true).does.innermost _ c.start-meta.ensures.marker)
@@ -49,12 +49,12 @@ attributes::meta-returns-clause-gives t c = gives-anew (anew-after refl (reads-n
 
 pub attributes::opt_value-returns-then-at-clause-reads : goal.attributes::opt_value-returns-then-at-clause-reads
 unfolding look_of begins_below whole rule items statements expressions patterns types paths there_at shift passes is_silent begins in_mode anew row one_of any_of no_longer longest is_longer
-attributes::opt_value-returns-then-at-clause-reads t c = reads-here (saw-so (c.at.ensures.sees c.args.condition) c.if-at.true and nothing) (after-look _ c.at.ensures.same (reads-then _ (c.take.ensures.reads c.args.condition) c.expect_expression.ensures.reads))
+attributes::opt_value-returns-then-at-clause-reads t c = reads-here (saw-so (c.at.ensures.sees c.args.condition) c.if-at.true and nothing) (after-look _ c.at.ensures.peeks.same (reads-then _ (c.take.ensures.reads c.args.condition) c.expect_expression.ensures.reads))
 
 pub attributes::opt_value-returns-then-at_token_tree-clause-reads : goal.attributes::opt_value-returns-then-at_token_tree-clause-reads
 unfolding look_of begins_below whole rule items statements expressions patterns types paths there_at shift passes is_silent begins in_mode anew row one_of any_of no_longer longest is_longer
-attributes::opt_value-returns-then-at_token_tree-clause-reads t c = reads-here (saw-so (c.at.ensures.sees c.args.condition) c.if-at.false and begun rules.token_tree (saw-before c.at.ensures.same (saw-so (c.at_token_tree.ensures.sees c.args.condition) c.if-at_token_tree.true)) nothing) (after-look _ c.at.ensures.same (after-look _ c.at_token_tree.ensures.same (reads-call _ (c.token_tree.ensures.gives c.args.condition))))
+attributes::opt_value-returns-then-at_token_tree-clause-reads t c = reads-here (saw-so (c.at.ensures.sees c.args.condition) c.if-at.false and begun rules.token_tree (saw-before c.at.ensures.peeks.same (saw-so (c.at_token_tree.ensures.sees c.args.condition) c.if-at_token_tree.true)) nothing) (after-look _ c.at.ensures.peeks.same (after-look _ c.at_token_tree.ensures.peeks.same (reads-call _ (c.token_tree.ensures.gives c.args.condition))))
 
 pub attributes::opt_value-returns-else-at_token_tree-clause-reads : goal.attributes::opt_value-returns-else-at_token_tree-clause-reads
 unfolding look_of begins_below whole rule items statements expressions patterns types paths there_at shift passes is_silent begins in_mode anew row one_of any_of no_longer longest is_longer
-attributes::opt_value-returns-else-at_token_tree-clause-reads t c = reads-here (saw-so (c.at.ensures.sees c.args.condition) c.if-at.false and begun rules.token_tree (saw-before c.at.ensures.same (saw-so (c.at_token_tree.ensures.sees c.args.condition) c.if-at_token_tree.false)) nothing) (reads-nothing _ (does-then c.at.ensures.same c.at_token_tree.ensures.same))
+attributes::opt_value-returns-else-at_token_tree-clause-reads t c = reads-here (saw-so (c.at.ensures.sees c.args.condition) c.if-at.false and begun rules.token_tree (saw-before c.at.ensures.peeks.same (saw-so (c.at_token_tree.ensures.sees c.args.condition) c.if-at_token_tree.false)) nothing) (reads-nothing _ (does-then c.at.ensures.peeks.same c.at_token_tree.ensures.peeks.same))

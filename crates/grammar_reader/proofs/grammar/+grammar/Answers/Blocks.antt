@@ -22,41 +22,38 @@ use Rattle.rust_productions.proofs.Turns.{first-turn, idle-turn, last-turn, next
 use Rattle.grammar_reader.proofs.grammar.+grammar.Goals as goal
 
 pub expressions::blocks::statement_turn-returns-then-at_end_of-clause-ends : goal.expressions::blocks::statement_turn-returns-then-at_end_of-clause-ends
-expressions::blocks::statement_turn-returns-then-at_end_of-clause-ends t c = λ e. last-turn false _ (over-at-end c.args.end _) _ _ _ first-turn (over (Call (listing_of c.args.end).one) (saw-so (c.at_end_of.ensures.sees false) c.if-at_end_of.true)) c.at_end_of.ensures.same
+expressions::blocks::statement_turn-returns-then-at_end_of-clause-ends t c = λ e. last-turn false _ (over-at-end c.args.end _) _ _ _ first-turn (over (Call (listing_of c.args.end).one) (saw-so (c.at_end_of.ensures.sees false) c.if-at_end_of.true)) c.at_end_of.ensures.peeks.same
 
 pub expressions::blocks::statement_turn-statement-requires : goal.expressions::blocks::statement_turn-statement-requires
-expressions::blocks::statement_turn-statement-requires t c = (omega arith, omega (arith, some-within c.args.end (saw-so (c.at_end_of.ensures.sees false) c.if-at_end_of.false), c.at_end_of.ensures.left))
+expressions::blocks::statement_turn-statement-requires t c = (omega arith, omega (arith, some-within c.args.end (saw-so (c.at_end_of.ensures.sees false) c.if-at_end_of.false), c.at_end_of.ensures.peeks.left))
 
 pub expressions::blocks::statement_turn-returns-clause-goes : goal.expressions::blocks::statement_turn-returns-clause-goes
 unfolding tokens
-expressions::blocks::statement_turn-returns-clause-goes t c = λ e.
-    let more = saw-so (c.at_end_of.ensures.sees false) c.if-at_end_of.false in
-    next-turn false _ (over-at-end c.args.end _) _ _ _ first-turn (within (Call (listing_of c.args.end).one) more (statement-begins c.args.end (left-within c.args.end more)))
-    (after-look false c.at_end_of.ensures.same (reads-unless false (reads-call false c.statement.ensures.gives)))
-    (omega (arith, (ltb-true c.tokens_left.result c.tokens_left-before.result e), c.tokens_left.ensures, c.tokens_left-before.ensures, c.at_end_of.ensures.left))
+expressions::blocks::statement_turn-returns-clause-goes t c = λ e. record {
+  turns = (let more = saw-so (c.at_end_of.ensures.sees false) c.if-at_end_of.false in
+      next-turn false _ (over-at-end c.args.end _) _ _ _ first-turn (within (Call (listing_of c.args.end).one) more (statement-begins c.args.end (left-within c.args.end more)))
+      (after-look false c.at_end_of.ensures.peeks.same (reads-unless false (reads-call false c.statement.ensures.gives)))
+      (omega (arith, (ltb-true c.tokens_left.result c.tokens_left-before.result e), c.tokens_left.ensures, c.tokens_left-before.ensures, c.at_end_of.ensures.peeks.left)));
+  takes = record {
+    left = omega (arith, (ltb-true c.tokens_left.result c.tokens_left-before.result e), c.tokens_left.ensures, c.tokens_left-before.ensures, c.at_end_of.ensures.peeks.left);
+    looks = omega (arith, c.at_end_of.ensures.peeks.looks, c.statement.ensures.pays (omega (arith, (ltb-true c.tokens_left.result c.tokens_left-before.result e), c.tokens_left.ensures, c.tokens_left-before.ensures, c.at_end_of.ensures.peeks.left)));
+  };
+}
 
 pub expressions::blocks::statement_turn-returns-clause-ends : goal.expressions::blocks::statement_turn-returns-clause-ends
 unfolding tokens
 expressions::blocks::statement_turn-returns-clause-ends t c = λ e.
     let more = saw-so (c.at_end_of.ensures.sees false) c.if-at_end_of.false in
     idle-turn false _ (over-at-end c.args.end _) _ _ _ first-turn (within (Call (listing_of c.args.end).one) more (statement-begins c.args.end (left-within c.args.end more)))
-    (after-look false c.at_end_of.ensures.same (reads-unless false (reads-call false c.statement.ensures.gives)))
-    (omega (arith, (ltb-false c.tokens_left.result c.tokens_left-before.result e), c.tokens_left.ensures, c.tokens_left-before.ensures, c.at_end_of.ensures.left, c.statement.ensures.left))
-
-pub expressions::blocks::statement_turn-returns-clause-fewer : goal.expressions::blocks::statement_turn-returns-clause-fewer
-unfolding tokens
-expressions::blocks::statement_turn-returns-clause-fewer t c = λ e. omega (arith, (ltb-true c.tokens_left.result c.tokens_left-before.result e), c.tokens_left.ensures, c.tokens_left-before.ensures, c.at_end_of.ensures.left)
-
-pub expressions::blocks::statement_turn-returns-clause-pays : goal.expressions::blocks::statement_turn-returns-clause-pays
-unfolding tokens
-expressions::blocks::statement_turn-returns-clause-pays t c = λ e. omega (arith, c.at_end_of.ensures.looks, c.statement.ensures.pays (omega (arith, (ltb-true c.tokens_left.result c.tokens_left-before.result e), c.tokens_left.ensures, c.tokens_left-before.ensures, c.at_end_of.ensures.left)))
+    (after-look false c.at_end_of.ensures.peeks.same (reads-unless false (reads-call false c.statement.ensures.gives)))
+    (omega (arith, (ltb-false c.tokens_left.result c.tokens_left-before.result e), c.tokens_left.ensures, c.tokens_left-before.ensures, c.at_end_of.ensures.peeks.left, c.statement.ensures.asks.left))
 
 pub expressions::blocks::statements-turns-preserved : goal.expressions::blocks::statements-turns-preserved
 expressions::blocks::statements-turns-preserved t c = record {
-  innermost = λ n i. c.statement_turn.ensures.innermost n (c.turns.invariant.innermost n i);
-  goes = record { rest = λ end p. c.turns.invariant.goes.rest end ((c.statement_turn.ensures.goes c.turns-test.true).rest end p) };
-  left = omega (arith, c.turns.invariant.left, c.statement_turn.ensures.left);
-  looks = omega (arith, c.turns.invariant.looks, c.statement_turn.ensures.pays c.turns-test.true);
+  innermost = λ n i. c.statement_turn.ensures.keeps.innermost n (c.turns.invariant.innermost n i);
+  goes = record { rest = λ end p. c.turns.invariant.goes.rest end ((c.statement_turn.ensures.goes c.turns-test.true).turns.rest end p) };
+  left = omega (arith, c.turns.invariant.left, c.statement_turn.ensures.asks.left);
+  looks = omega (arith, c.turns.invariant.looks, (c.statement_turn.ensures.goes c.turns-test.true).takes.looks);
 }
 
 pub expressions::blocks::statements-returns-clause-reads : goal.expressions::blocks::statements-returns-clause-reads

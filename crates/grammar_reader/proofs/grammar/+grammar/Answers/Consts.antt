@@ -32,11 +32,11 @@ items::consts::typed_value-returns-clause-reads t c = (reads-then _ (c.expect.en
 
 pub items::consts::opt_value-returns-then-at-clause-reads : goal.items::consts::opt_value-returns-then-at-clause-reads
 unfolding look_of begins_below whole rule items statements expressions patterns types paths there_at shift passes is_silent begins in_mode anew row one_of any_of no_longer longest is_longer
-items::consts::opt_value-returns-then-at-clause-reads t c = reads-here (saw-so (c.at.ensures.sees c.args.condition) c.if-at.true and nothing) (after-look _ c.at.ensures.same (reads-then _ (c.take.ensures.reads c.args.condition) c.expect_expression.ensures.reads))
+items::consts::opt_value-returns-then-at-clause-reads t c = reads-here (saw-so (c.at.ensures.sees c.args.condition) c.if-at.true and nothing) (after-look _ c.at.ensures.peeks.same (reads-then _ (c.take.ensures.reads c.args.condition) c.expect_expression.ensures.reads))
 
 pub items::consts::opt_value-returns-else-at-clause-reads : goal.items::consts::opt_value-returns-else-at-clause-reads
 unfolding look_of begins_below whole rule items statements expressions patterns types paths there_at shift passes is_silent begins in_mode anew row one_of any_of no_longer longest is_longer
-items::consts::opt_value-returns-else-at-clause-reads t c = reads-here (saw-so (c.at.ensures.sees c.args.condition) c.if-at.false and nothing) (reads-nothing _ c.at.ensures.same)
+items::consts::opt_value-returns-else-at-clause-reads t c = reads-here (saw-so (c.at.ensures.sees c.args.condition) c.if-at.false and nothing) (reads-nothing _ c.at.ensures.peeks.same)
 
 pub items::consts::type_alias-complete-requires : goal.items::consts::type_alias-complete-requires
 items::consts::type_alias-complete-requires t c = (c.expect.ensures.reads true).does.innermost _ (c.opt_type_after.ensures.reads.does.innermost _ (c.opt_where_clause.ensures.reads.does.innermost _ ((c.bounds_after_colon.ensures.reads true).does.innermost _ ((c.opt_generic_params.ensures.reads true).does.innermost _ ((c.expect_name.ensures.reads true).does.innermost _ ((c.take.ensures.reads true).does.innermost _ c.requires.innermost))))))

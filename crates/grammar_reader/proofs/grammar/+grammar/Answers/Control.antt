@@ -1,5 +1,5 @@
 -- Expressions that end in a block.
-use Rattle.std.proofs.Common.{true, false, [], ◌∷◌, refl, arith}
+use Rattle.std.proofs.Common.{true, false, [], ◌∷◌, refl, arith, ◌∙◌}
 use Rattle.parser_events.specs.Forest.{ExpectedMatchArm}
 use Rattle.rust_grammar.specs.Calls.{MatchArm}
 use Rattle.rust_grammar.specs.Notation.{◌or◌, until}
@@ -29,63 +29,63 @@ use Rattle.grammar_reader.proofs.grammar.+grammar.Goals as goal
 
 pub expressions::control::block_like-returns-in-L_CURLY-clause-gives : goal.expressions::control::block_like-returns-in-L_CURLY-clause-gives
 unfolding look_of begins_below whole rule items statements expressions patterns types paths there_at shift passes is_silent begins in_mode anew row one_of any_of no_longer longest is_longer
-expressions::control::block_like-returns-in-L_CURLY-clause-gives t c = λ cond. gives-anew (anew-after refl (reads-here (saw-arm c.in-L_CURLY.is (c.current.ensures.sees cond) and nothing) (after-look cond c.current.ensures.same (reads-call cond (c.block.ensures.gives cond)))))
+expressions::control::block_like-returns-in-L_CURLY-clause-gives t c = λ cond. gives-anew (anew-after refl (reads-here (saw-arm c.in-L_CURLY.is (c.current.ensures.sees cond) and nothing) (after-look cond c.current.ensures.peeks.same (reads-call cond (c.block.ensures.gives cond)))))
 
 pub expressions::control::block_like-returns-in-UNSAFE_KW-clause-gives : goal.expressions::control::block_like-returns-in-UNSAFE_KW-clause-gives
 unfolding look_of begins_below whole rule items statements expressions patterns types paths there_at shift passes is_silent begins in_mode anew row one_of any_of no_longer longest is_longer
-expressions::control::block_like-returns-in-UNSAFE_KW-clause-gives t c = λ cond. gives-anew (anew-after refl (reads-here (saw-arm c.in-UNSAFE_KW.is (c.current.ensures.sees cond) and nothing) (after-look cond c.current.ensures.same (c.unsafe_block.ensures.reads cond))))
+expressions::control::block_like-returns-in-UNSAFE_KW-clause-gives t c = λ cond. gives-anew (anew-after refl (reads-here (saw-arm c.in-UNSAFE_KW.is (c.current.ensures.sees cond) and nothing) (after-look cond c.current.ensures.peeks.same (c.unsafe_block.ensures.reads cond))))
 
 pub expressions::control::block_like-returns-in-IF_KW-clause-gives : goal.expressions::control::block_like-returns-in-IF_KW-clause-gives
 unfolding look_of begins_below whole rule items statements expressions patterns types paths there_at shift passes is_silent begins in_mode anew row one_of any_of no_longer longest is_longer
-expressions::control::block_like-returns-in-IF_KW-clause-gives t c = λ cond. gives-anew (anew-after refl (reads-here (saw-arm c.in-IF_KW.is (c.current.ensures.sees cond) and nothing) (after-look cond c.current.ensures.same (reads-call cond (c.if_expr.ensures.gives cond)))))
+expressions::control::block_like-returns-in-IF_KW-clause-gives t c = λ cond. gives-anew (anew-after refl (reads-here (saw-arm c.in-IF_KW.is (c.current.ensures.sees cond) and nothing) (after-look cond c.current.ensures.peeks.same (reads-call cond (c.if_expr.ensures.gives cond)))))
 
 pub expressions::control::block_like-returns-in-WHILE_KW-clause-gives : goal.expressions::control::block_like-returns-in-WHILE_KW-clause-gives
 unfolding look_of begins_below whole rule items statements expressions patterns types paths there_at shift passes is_silent begins in_mode anew row one_of any_of no_longer longest is_longer
-expressions::control::block_like-returns-in-WHILE_KW-clause-gives t c = λ cond. gives-anew (anew-after refl (reads-here (saw-arm c.in-WHILE_KW.is (c.current.ensures.sees cond) and nothing) (after-look cond c.current.ensures.same (c.while_expr.ensures.reads cond))))
+expressions::control::block_like-returns-in-WHILE_KW-clause-gives t c = λ cond. gives-anew (anew-after refl (reads-here (saw-arm c.in-WHILE_KW.is (c.current.ensures.sees cond) and nothing) (after-look cond c.current.ensures.peeks.same (c.while_expr.ensures.reads cond))))
 
 pub expressions::control::block_like-returns-in-LOOP_KW-clause-gives : goal.expressions::control::block_like-returns-in-LOOP_KW-clause-gives
 unfolding look_of begins_below whole rule items statements expressions patterns types paths there_at shift passes is_silent begins in_mode anew row one_of any_of no_longer longest is_longer
-expressions::control::block_like-returns-in-LOOP_KW-clause-gives t c = λ cond. gives-anew (anew-after refl (reads-here (saw-arm c.in-LOOP_KW.is (c.current.ensures.sees cond) and nothing) (after-look cond c.current.ensures.same (c.loop_expr.ensures.reads cond))))
+expressions::control::block_like-returns-in-LOOP_KW-clause-gives t c = λ cond. gives-anew (anew-after refl (reads-here (saw-arm c.in-LOOP_KW.is (c.current.ensures.sees cond) and nothing) (after-look cond c.current.ensures.peeks.same (c.loop_expr.ensures.reads cond))))
 
 pub expressions::control::block_like-returns-in-FOR_KW-clause-gives : goal.expressions::control::block_like-returns-in-FOR_KW-clause-gives
 unfolding look_of begins_below whole rule items statements expressions patterns types paths there_at shift passes is_silent begins in_mode anew row one_of any_of no_longer longest is_longer
-expressions::control::block_like-returns-in-FOR_KW-clause-gives t c = λ cond. gives-anew (anew-after refl (reads-here (saw-arm c.in-FOR_KW.is (c.current.ensures.sees cond) and nothing) (after-look cond c.current.ensures.same (c.for_expr.ensures.reads cond))))
+expressions::control::block_like-returns-in-FOR_KW-clause-gives t c = λ cond. gives-anew (anew-after refl (reads-here (saw-arm c.in-FOR_KW.is (c.current.ensures.sees cond) and nothing) (after-look cond c.current.ensures.peeks.same (c.for_expr.ensures.reads cond))))
 
 pub expressions::control::block_like-returns-in-MATCH_KW-clause-gives : goal.expressions::control::block_like-returns-in-MATCH_KW-clause-gives
 unfolding look_of begins_below whole rule items statements expressions patterns types paths there_at shift passes is_silent begins in_mode anew row one_of any_of no_longer longest is_longer
-expressions::control::block_like-returns-in-MATCH_KW-clause-gives t c = λ cond. gives-anew (anew-after refl (reads-here (saw-arm c.in-MATCH_KW.is (c.current.ensures.sees cond) and nothing) (after-look cond c.current.ensures.same (c.match_expr.ensures.reads cond))))
+expressions::control::block_like-returns-in-MATCH_KW-clause-gives t c = λ cond. gives-anew (anew-after refl (reads-here (saw-arm c.in-MATCH_KW.is (c.current.ensures.sees cond) and nothing) (after-look cond c.current.ensures.peeks.same (c.match_expr.ensures.reads cond))))
 
 pub expressions::control::block_like-macro_block-requires : goal.expressions::control::block_like-macro_block-requires
 unfolding look_of begins_below whole rule items statements expressions patterns types paths there_at shift passes is_silent begins in_mode anew row one_of any_of no_longer longest is_longer
-expressions::control::block_like-macro_block-requires t c = record { begins = λ cond. saw-after c.current.ensures.same (saw-else (row 0 ('ident' ∷ '!' ∷ 'l_curly' ∷ [])) (looks rules.block_like) (saw-not c.in_default.not-L_CURLY (c.current.ensures.sees cond) and saw-not c.in_default.not-UNSAFE_KW (c.current.ensures.sees cond) and saw-not c.in_default.not-IF_KW (c.current.ensures.sees cond) and saw-not c.in_default.not-WHILE_KW (c.current.ensures.sees cond) and saw-not c.in_default.not-LOOP_KW (c.current.ensures.sees cond) and saw-not c.in_default.not-FOR_KW (c.current.ensures.sees cond) and saw-not c.in_default.not-MATCH_KW (c.current.ensures.sees cond) and nothing) (c.requires.begins cond) refl); some = three-left (saw-after c.current.ensures.same (saw-else (row 0 ('ident' ∷ '!' ∷ 'l_curly' ∷ [])) (looks rules.block_like) (saw-not c.in_default.not-L_CURLY (c.current.ensures.sees true) and saw-not c.in_default.not-UNSAFE_KW (c.current.ensures.sees true) and saw-not c.in_default.not-IF_KW (c.current.ensures.sees true) and saw-not c.in_default.not-WHILE_KW (c.current.ensures.sees true) and saw-not c.in_default.not-LOOP_KW (c.current.ensures.sees true) and saw-not c.in_default.not-FOR_KW (c.current.ensures.sees true) and saw-not c.in_default.not-MATCH_KW (c.current.ensures.sees true) and nothing) (c.requires.begins true) refl)) }
+expressions::control::block_like-macro_block-requires t c = record { begins = λ cond. saw-after c.current.ensures.peeks.same (saw-else (row 0 ('ident' ∷ '!' ∷ 'l_curly' ∷ [])) (looks rules.block_like) (saw-not c.in_default.not-L_CURLY (c.current.ensures.sees cond) and saw-not c.in_default.not-UNSAFE_KW (c.current.ensures.sees cond) and saw-not c.in_default.not-IF_KW (c.current.ensures.sees cond) and saw-not c.in_default.not-WHILE_KW (c.current.ensures.sees cond) and saw-not c.in_default.not-LOOP_KW (c.current.ensures.sees cond) and saw-not c.in_default.not-FOR_KW (c.current.ensures.sees cond) and saw-not c.in_default.not-MATCH_KW (c.current.ensures.sees cond) and nothing) (c.requires.begins cond) refl); some = three-left (saw-after c.current.ensures.peeks.same (saw-else (row 0 ('ident' ∷ '!' ∷ 'l_curly' ∷ [])) (looks rules.block_like) (saw-not c.in_default.not-L_CURLY (c.current.ensures.sees true) and saw-not c.in_default.not-UNSAFE_KW (c.current.ensures.sees true) and saw-not c.in_default.not-IF_KW (c.current.ensures.sees true) and saw-not c.in_default.not-WHILE_KW (c.current.ensures.sees true) and saw-not c.in_default.not-LOOP_KW (c.current.ensures.sees true) and saw-not c.in_default.not-FOR_KW (c.current.ensures.sees true) and saw-not c.in_default.not-MATCH_KW (c.current.ensures.sees true) and nothing) (c.requires.begins true) refl)) }
 
 pub expressions::control::block_like-returns-in_default-clause-gives : goal.expressions::control::block_like-returns-in_default-clause-gives
 unfolding look_of begins_below whole rule items statements expressions patterns types paths there_at shift passes is_silent begins in_mode anew row one_of any_of no_longer longest is_longer
-expressions::control::block_like-returns-in_default-clause-gives t c = λ cond. gives-anew (anew-after refl (reads-here (saw-not c.in_default.not-L_CURLY (c.current.ensures.sees cond) and saw-not c.in_default.not-UNSAFE_KW (c.current.ensures.sees cond) and saw-not c.in_default.not-IF_KW (c.current.ensures.sees cond) and saw-not c.in_default.not-WHILE_KW (c.current.ensures.sees cond) and saw-not c.in_default.not-LOOP_KW (c.current.ensures.sees cond) and saw-not c.in_default.not-FOR_KW (c.current.ensures.sees cond) and saw-not c.in_default.not-MATCH_KW (c.current.ensures.sees cond) and nothing) (after-look cond c.current.ensures.same (c.macro_block.ensures.reads cond))))
+expressions::control::block_like-returns-in_default-clause-gives t c = λ cond. gives-anew (anew-after refl (reads-here (saw-not c.in_default.not-L_CURLY (c.current.ensures.sees cond) and saw-not c.in_default.not-UNSAFE_KW (c.current.ensures.sees cond) and saw-not c.in_default.not-IF_KW (c.current.ensures.sees cond) and saw-not c.in_default.not-WHILE_KW (c.current.ensures.sees cond) and saw-not c.in_default.not-LOOP_KW (c.current.ensures.sees cond) and saw-not c.in_default.not-FOR_KW (c.current.ensures.sees cond) and saw-not c.in_default.not-MATCH_KW (c.current.ensures.sees cond) and nothing) (after-look cond c.current.ensures.peeks.same (c.macro_block.ensures.reads cond))))
 
 pub expressions::control::expect_statement_list-returns-then-at-clause-reads : goal.expressions::control::expect_statement_list-returns-then-at-clause-reads
 unfolding look_of begins_below whole rule items statements expressions patterns types paths there_at shift passes is_silent begins in_mode anew row one_of any_of no_longer longest is_longer
-expressions::control::expect_statement_list-returns-then-at-clause-reads t c = λ cond. reads-here (saw-so (c.at.ensures.sees cond) c.if-at.true and nothing) (after-look cond c.at.ensures.same (reads-call cond (c.statement_list.ensures.gives cond)))
+expressions::control::expect_statement_list-returns-then-at-clause-reads t c = λ cond. reads-here (saw-so (c.at.ensures.sees cond) c.if-at.true and nothing) (after-look cond c.at.ensures.peeks.same (reads-call cond (c.statement_list.ensures.gives cond)))
 
 pub expressions::control::expect_statement_list-returns-clause-reads : goal.expressions::control::expect_statement_list-returns-clause-reads
 unfolding look_of begins_below whole rule items statements expressions patterns types paths there_at shift passes is_silent begins in_mode anew row one_of any_of no_longer longest is_longer
-expressions::control::expect_statement_list-returns-clause-reads t c = λ cond. reads-here (saw-so (c.at.ensures.sees cond) c.if-at.false and nothing) (after-look cond c.at.ensures.same (c.error.ensures.reads cond))
+expressions::control::expect_statement_list-returns-clause-reads t c = λ cond. reads-here (saw-so (c.at.ensures.sees cond) c.if-at.false and nothing) (after-look cond c.at.ensures.peeks.same (c.error.ensures.reads cond))
 
 pub expressions::control::expect_block-returns-then-at-clause-reads : goal.expressions::control::expect_block-returns-then-at-clause-reads
 unfolding look_of begins_below whole rule items statements expressions patterns types paths there_at shift passes is_silent begins in_mode anew row one_of any_of no_longer longest is_longer
-expressions::control::expect_block-returns-then-at-clause-reads t c = λ cond. reads-here (saw-so (c.at.ensures.sees cond) c.if-at.true and nothing) (after-look cond c.at.ensures.same (reads-call cond (c.block.ensures.gives cond)))
+expressions::control::expect_block-returns-then-at-clause-reads t c = λ cond. reads-here (saw-so (c.at.ensures.sees cond) c.if-at.true and nothing) (after-look cond c.at.ensures.peeks.same (reads-call cond (c.block.ensures.gives cond)))
 
 pub expressions::control::expect_block-returns-clause-reads : goal.expressions::control::expect_block-returns-clause-reads
 unfolding look_of begins_below whole rule items statements expressions patterns types paths there_at shift passes is_silent begins in_mode anew row one_of any_of no_longer longest is_longer
-expressions::control::expect_block-returns-clause-reads t c = λ cond. reads-here (saw-so (c.at.ensures.sees cond) c.if-at.false and nothing) (after-look cond c.at.ensures.same (c.error.ensures.reads cond))
+expressions::control::expect_block-returns-clause-reads t c = λ cond. reads-here (saw-so (c.at.ensures.sees cond) c.if-at.false and nothing) (after-look cond c.at.ensures.peeks.same (c.error.ensures.reads cond))
 
 pub expressions::control::expect_match_arms-returns-then-at-clause-reads : goal.expressions::control::expect_match_arms-returns-then-at-clause-reads
 unfolding look_of begins_below whole rule items statements expressions patterns types paths there_at shift passes is_silent begins in_mode anew row one_of any_of no_longer longest is_longer
-expressions::control::expect_match_arms-returns-then-at-clause-reads t c = λ cond. reads-here (saw-so (c.at.ensures.sees cond) c.if-at.true and nothing) (after-look cond c.at.ensures.same (reads-call cond (c.match_arms.ensures.gives cond)))
+expressions::control::expect_match_arms-returns-then-at-clause-reads t c = λ cond. reads-here (saw-so (c.at.ensures.sees cond) c.if-at.true and nothing) (after-look cond c.at.ensures.peeks.same (reads-call cond (c.match_arms.ensures.gives cond)))
 
 pub expressions::control::expect_match_arms-returns-clause-reads : goal.expressions::control::expect_match_arms-returns-clause-reads
 unfolding look_of begins_below whole rule items statements expressions patterns types paths there_at shift passes is_silent begins in_mode anew row one_of any_of no_longer longest is_longer
-expressions::control::expect_match_arms-returns-clause-reads t c = λ cond. reads-here (saw-so (c.at.ensures.sees cond) c.if-at.false and nothing) (after-look cond c.at.ensures.same (c.error.ensures.reads cond))
+expressions::control::expect_match_arms-returns-clause-reads t c = λ cond. reads-here (saw-so (c.at.ensures.sees cond) c.if-at.false and nothing) (after-look cond c.at.ensures.peeks.same (c.error.ensures.reads cond))
 
 pub expressions::control::unsafe_block-complete-requires : goal.expressions::control::unsafe_block-complete-requires
 expressions::control::unsafe_block-complete-requires t c = (c.expect_statement_list.ensures.reads true).does.innermost _ ((c.take.ensures.reads true).does.innermost _ c.start-node.ensures.marker)
@@ -126,19 +126,19 @@ expressions::control::if_expr-returns-clause-gives t c = λ cond. gives-anew (an
 
 pub expressions::control::opt_else-returns-then-at-clause-reads : goal.expressions::control::opt_else-returns-then-at-clause-reads
 unfolding look_of begins_below whole rule items statements expressions patterns types paths there_at shift passes is_silent begins in_mode anew row one_of any_of no_longer longest is_longer
-expressions::control::opt_else-returns-then-at-clause-reads t c = λ cond. reads-here (saw-so (c.at.ensures.sees cond) c.if-at.true and nothing) (after-look cond c.at.ensures.same (reads-then cond (c.take.ensures.reads cond) (c.after_else.ensures.reads cond)))
+expressions::control::opt_else-returns-then-at-clause-reads t c = λ cond. reads-here (saw-so (c.at.ensures.sees cond) c.if-at.true and nothing) (after-look cond c.at.ensures.peeks.same (reads-then cond (c.take.ensures.reads cond) (c.after_else.ensures.reads cond)))
 
 pub expressions::control::opt_else-returns-else-at-clause-reads : goal.expressions::control::opt_else-returns-else-at-clause-reads
 unfolding look_of begins_below whole rule items statements expressions patterns types paths there_at shift passes is_silent begins in_mode anew row one_of any_of no_longer longest is_longer
-expressions::control::opt_else-returns-else-at-clause-reads t c = λ cond. reads-here (saw-so (c.at.ensures.sees cond) c.if-at.false and nothing) (reads-nothing cond c.at.ensures.same)
+expressions::control::opt_else-returns-else-at-clause-reads t c = λ cond. reads-here (saw-so (c.at.ensures.sees cond) c.if-at.false and nothing) (reads-nothing cond c.at.ensures.peeks.same)
 
 pub expressions::control::after_else-returns-then-at-clause-reads : goal.expressions::control::after_else-returns-then-at-clause-reads
 unfolding look_of begins_below whole rule items statements expressions patterns types paths there_at shift passes is_silent begins in_mode anew row one_of any_of no_longer longest is_longer
-expressions::control::after_else-returns-then-at-clause-reads t c = λ cond. reads-here (saw-so (c.at.ensures.sees cond) c.if-at.true and nothing) (after-look cond c.at.ensures.same (reads-call cond (c.if_expr.ensures.gives cond)))
+expressions::control::after_else-returns-then-at-clause-reads t c = λ cond. reads-here (saw-so (c.at.ensures.sees cond) c.if-at.true and nothing) (after-look cond c.at.ensures.peeks.same (reads-call cond (c.if_expr.ensures.gives cond)))
 
 pub expressions::control::after_else-returns-clause-reads : goal.expressions::control::after_else-returns-clause-reads
 unfolding look_of begins_below whole rule items statements expressions patterns types paths there_at shift passes is_silent begins in_mode anew row one_of any_of no_longer longest is_longer
-expressions::control::after_else-returns-clause-reads t c = λ cond. reads-here (saw-so (c.at.ensures.sees cond) c.if-at.false and nothing) (after-look cond c.at.ensures.same (c.expect_block.ensures.reads cond))
+expressions::control::after_else-returns-clause-reads t c = λ cond. reads-here (saw-so (c.at.ensures.sees cond) c.if-at.false and nothing) (after-look cond c.at.ensures.peeks.same (c.expect_block.ensures.reads cond))
 
 pub expressions::control::match_arms-complete-requires : goal.expressions::control::match_arms-complete-requires
 expressions::control::match_arms-complete-requires t c = (c.expect.ensures.reads true).does.innermost _ (c.arms.ensures.reads.does.innermost _ ((c.take.ensures.reads true).does.innermost _ c.start-list.ensures.marker))
@@ -149,10 +149,10 @@ expressions::control::match_arms-returns-clause-gives t c = λ cond. gives-anew 
 
 pub expressions::control::arms-turns-preserved : goal.expressions::control::arms-turns-preserved
 expressions::control::arms-turns-preserved t c = record {
-  innermost = λ n i. c.arm_turn.ensures.innermost n (c.turns.invariant.innermost n i);
-  goes = record { rest = λ end p. c.turns.invariant.goes.rest end ((c.arm_turn.ensures.goes c.turns-test.true).rest end p) };
-  left = omega (arith, c.turns.invariant.left, c.arm_turn.ensures.left);
-  looks = omega (arith, c.turns.invariant.looks, c.arm_turn.ensures.pays c.turns-test.true);
+  innermost = λ n i. c.arm_turn.ensures.keeps.innermost n (c.turns.invariant.innermost n i);
+  goes = record { rest = λ end p. c.turns.invariant.goes.rest end ((c.arm_turn.ensures.goes c.turns-test.true).turns.rest end p) };
+  left = omega (arith, c.turns.invariant.left, c.arm_turn.ensures.asks.left);
+  looks = omega (arith, c.turns.invariant.looks, (c.arm_turn.ensures.goes c.turns-test.true).takes.looks);
 }
 
 pub expressions::control::arms-returns-clause-reads : goal.expressions::control::arms-returns-clause-reads
@@ -160,38 +160,56 @@ expressions::control::arms-returns-clause-reads t c = c.turns.invariant.goes.res
 
 pub expressions::control::arm_turn-returns-then-at_list_end-clause-ends : goal.expressions::control::arm_turn-returns-then-at_list_end-clause-ends
 unfolding look_of begins_below whole rule items statements expressions patterns types paths there_at shift passes is_silent begins in_mode anew row one_of any_of no_longer longest is_longer
-expressions::control::arm_turn-returns-then-at_list_end-clause-ends t c = λ e. last-turn false (Unless (until 'r_curly') (MatchArm or Skip ExpectedMatchArm)) (ends-at-end false (Unless (until 'r_curly') (MatchArm or Skip ExpectedMatchArm)) refl) _ _ _ first-turn (starts-here (Unless (until 'r_curly') (MatchArm or Skip ExpectedMatchArm)) (saw-so (c.at_list_end.ensures.sees false) c.if-at_list_end.true and nothing) refl) c.at_list_end.ensures.same
+expressions::control::arm_turn-returns-then-at_list_end-clause-ends t c = λ e. last-turn false (Unless (until 'r_curly') (MatchArm or Skip ExpectedMatchArm)) (ends-at-end false (Unless (until 'r_curly') (MatchArm or Skip ExpectedMatchArm)) refl) _ _ _ first-turn (starts-here (Unless (until 'r_curly') (MatchArm or Skip ExpectedMatchArm)) (saw-so (c.at_list_end.ensures.sees false) c.if-at_list_end.true and nothing) refl) c.at_list_end.ensures.peeks.same
 
 pub expressions::control::arm_turn-match_arm-requires : goal.expressions::control::arm_turn-match_arm-requires
 unfolding look_of begins_below whole rule items statements expressions patterns types paths there_at shift passes is_silent begins in_mode anew row one_of any_of no_longer longest is_longer
 expressions::control::arm_turn-match_arm-requires t c =
-    (omega arith, ((λ d. saw-after c.at_pattern.ensures.same (saw-so (c.at_pattern.ensures.sees d) c.if-at_pattern.true)), omega (arith, c.at_pattern.ensures.some c.if-at_pattern.true, c.at_pattern.ensures.left)))
+    (omega arith, ((λ d. saw-after c.at_pattern.ensures.peeks.same (saw-so (c.at_pattern.ensures.sees d) c.if-at_pattern.true)), omega (arith, c.at_pattern.ensures.some c.if-at_pattern.true, c.at_pattern.ensures.peeks.left)))
 
 pub expressions::control::arm_turn-returns-then-at_pattern-clause-goes : goal.expressions::control::arm_turn-returns-then-at_pattern-clause-goes
-unfolding tokens look_of begins_below whole rule items statements expressions patterns types paths there_at shift passes is_silent begins in_mode anew row one_of any_of no_longer longest is_longer
-expressions::control::arm_turn-returns-then-at_pattern-clause-goes t c = λ e. next-turn false (Unless (until 'r_curly') (MatchArm or Skip ExpectedMatchArm)) (ends-at-end false (Unless (until 'r_curly') (MatchArm or Skip ExpectedMatchArm)) refl) _ _ _ first-turn (starts-here (Unless (until 'r_curly') (MatchArm or Skip ExpectedMatchArm)) (saw-so (c.at_list_end.ensures.sees false) c.if-at_list_end.false and begun-anew rules.match_arm (saw-before c.at_list_end.ensures.same (arm-there (saw-so (c.at_pattern.ensures.sees false) c.if-at_pattern.true))) nothing) refl) (reads-here (begun-anew rules.match_arm (saw-before c.at_list_end.ensures.same (arm-there (saw-so (c.at_pattern.ensures.sees false) c.if-at_pattern.true))) nothing) (after-look false c.at_list_end.ensures.same (after-look false c.at_pattern.ensures.same (reads-call false c.match_arm.ensures.gives)))) (omega (arith, c.match_arm.ensures.left, c.at_pattern.ensures.left, c.at_list_end.ensures.left))
+unfolding anew any_of begins begins_below expressions in_mode is_longer is_silent items longest look_of no_longer one_of passes paths patterns row rule shift statements there_at tokens types whole
+expressions::control::arm_turn-returns-then-at_pattern-clause-goes t c = λ e. record {
+  turns = (next-turn false (Unless (until 'r_curly') (MatchArm or Skip ExpectedMatchArm)) (ends-at-end false (Unless (until 'r_curly') (MatchArm or Skip ExpectedMatchArm)) refl) _ _ _ first-turn (starts-here (Unless (until 'r_curly') (MatchArm or Skip ExpectedMatchArm)) (saw-so (c.at_list_end.ensures.sees false) c.if-at_list_end.false and begun-anew rules.match_arm (saw-before c.at_list_end.ensures.peeks.same (arm-there (saw-so (c.at_pattern.ensures.sees false) c.if-at_pattern.true))) nothing) refl) (reads-here (begun-anew rules.match_arm (saw-before c.at_list_end.ensures.peeks.same (arm-there (saw-so (c.at_pattern.ensures.sees false) c.if-at_pattern.true))) nothing) (after-look false c.at_list_end.ensures.peeks.same (after-look false c.at_pattern.ensures.peeks.same (reads-call false c.match_arm.ensures.gives)))) (omega (arith, c.match_arm.ensures.takes.left, c.at_pattern.ensures.peeks.left, c.at_list_end.ensures.peeks.left)));
+  takes = record {
+    left = omega arith;
+    looks = omega (arith, c.at_pattern.ensures.peeks.looks, c.at_list_end.ensures.peeks.looks, c.match_arm.ensures.takes.looks);
+  };
+}
 
-pub expressions::control::arm_turn-returns-then-at_pattern-clause-innermost : goal.expressions::control::arm_turn-returns-then-at_pattern-clause-innermost
-expressions::control::arm_turn-returns-then-at_pattern-clause-innermost t c = λ n i. c.match_arm.ensures.gives.does.innermost n (c.at_pattern.ensures.same.innermost n (c.at_list_end.ensures.same.innermost n i))
+pub expressions::control::arm_turn-returns-then-at_pattern-clause-keeps : goal.expressions::control::arm_turn-returns-then-at_pattern-clause-keeps
+expressions::control::arm_turn-returns-then-at_pattern-clause-keeps t c = record {
+  input = c.match_arm.ensures.gives.does.input ∙ c.at_pattern.ensures.peeks.same.input ∙ c.at_list_end.ensures.peeks.same.input;
+  innermost = λ n i. c.match_arm.ensures.gives.does.innermost n (c.at_pattern.ensures.peeks.same.innermost n (c.at_list_end.ensures.peeks.same.innermost n i));
+}
 
-pub expressions::control::arm_turn-returns-then-at_pattern-clause-pays : goal.expressions::control::arm_turn-returns-then-at_pattern-clause-pays
-expressions::control::arm_turn-returns-then-at_pattern-clause-pays t c = λ e. omega (arith, c.at_pattern.ensures.looks, c.at_list_end.ensures.looks, c.match_arm.ensures.looks)
-
-pub expressions::control::arm_turn-returns-then-at_pattern-clause-looks : goal.expressions::control::arm_turn-returns-then-at_pattern-clause-looks
-expressions::control::arm_turn-returns-then-at_pattern-clause-looks t c = omega (arith, c.at_pattern.ensures.looks, c.at_list_end.ensures.looks, c.match_arm.ensures.looks)
+pub expressions::control::arm_turn-returns-then-at_pattern-clause-asks : goal.expressions::control::arm_turn-returns-then-at_pattern-clause-asks
+expressions::control::arm_turn-returns-then-at_pattern-clause-asks t c = record {
+  left = omega arith;
+  looks = omega (arith, c.at_pattern.ensures.peeks.looks, c.at_list_end.ensures.peeks.looks, c.match_arm.ensures.takes.looks);
+}
 
 pub expressions::control::arm_turn-skip-requires : goal.expressions::control::arm_turn-skip-requires
-expressions::control::arm_turn-skip-requires t c = omega (arith, some-left 'r_curly' (saw-so (c.at_list_end.ensures.sees false) c.if-at_list_end.false), c.at_list_end.ensures.left, c.at_pattern.ensures.left)
+expressions::control::arm_turn-skip-requires t c = omega (arith, some-left 'r_curly' (saw-so (c.at_list_end.ensures.sees false) c.if-at_list_end.false), c.at_list_end.ensures.peeks.left, c.at_pattern.ensures.peeks.left)
 
 pub expressions::control::arm_turn-returns-clause-goes : goal.expressions::control::arm_turn-returns-clause-goes
-unfolding tokens look_of begins_below whole rule items statements expressions patterns types paths there_at shift passes is_silent begins in_mode anew row one_of any_of no_longer longest is_longer
-expressions::control::arm_turn-returns-clause-goes t c = λ e. next-turn false (Unless (until 'r_curly') (MatchArm or Skip ExpectedMatchArm)) (ends-at-end false (Unless (until 'r_curly') (MatchArm or Skip ExpectedMatchArm)) refl) _ _ _ first-turn (starts-here (Unless (until 'r_curly') (MatchArm or Skip ExpectedMatchArm)) (saw-so (c.at_list_end.ensures.sees false) c.if-at_list_end.false and left-there 'r_curly' (saw-so (c.at_list_end.ensures.sees false) c.if-at_list_end.false) and begun-anew rules.match_arm (saw-before c.at_list_end.ensures.same (arm-there (saw-so (c.at_pattern.ensures.sees false) c.if-at_pattern.false))) nothing) refl) (reads-here (begun-anew rules.match_arm (saw-before c.at_list_end.ensures.same (arm-there (saw-so (c.at_pattern.ensures.sees false) c.if-at_pattern.false))) nothing) (after-look false c.at_list_end.ensures.same (after-look false c.at_pattern.ensures.same (c.skip.ensures.reads false)))) (omega (arith, c.skip.ensures.left, c.at_pattern.ensures.left, c.at_list_end.ensures.left))
+unfolding anew any_of begins begins_below expressions in_mode is_longer is_silent items longest look_of no_longer one_of passes paths patterns row rule shift statements there_at tokens types whole
+expressions::control::arm_turn-returns-clause-goes t c = λ e. record {
+  turns = (next-turn false (Unless (until 'r_curly') (MatchArm or Skip ExpectedMatchArm)) (ends-at-end false (Unless (until 'r_curly') (MatchArm or Skip ExpectedMatchArm)) refl) _ _ _ first-turn (starts-here (Unless (until 'r_curly') (MatchArm or Skip ExpectedMatchArm)) (saw-so (c.at_list_end.ensures.sees false) c.if-at_list_end.false and left-there 'r_curly' (saw-so (c.at_list_end.ensures.sees false) c.if-at_list_end.false) and begun-anew rules.match_arm (saw-before c.at_list_end.ensures.peeks.same (arm-there (saw-so (c.at_pattern.ensures.sees false) c.if-at_pattern.false))) nothing) refl) (reads-here (begun-anew rules.match_arm (saw-before c.at_list_end.ensures.peeks.same (arm-there (saw-so (c.at_pattern.ensures.sees false) c.if-at_pattern.false))) nothing) (after-look false c.at_list_end.ensures.peeks.same (after-look false c.at_pattern.ensures.peeks.same (c.skip.ensures.reads false)))) (omega (arith, c.skip.ensures.left, c.at_pattern.ensures.peeks.left, c.at_list_end.ensures.peeks.left)));
+  takes = record {
+    left = omega arith;
+    looks = omega (arith, c.at_pattern.ensures.peeks.looks, c.at_list_end.ensures.peeks.looks, c.skip.ensures.looks);
+  };
+}
 
-pub expressions::control::arm_turn-returns-clause-innermost : goal.expressions::control::arm_turn-returns-clause-innermost
-expressions::control::arm_turn-returns-clause-innermost t c = λ n i. (c.skip.ensures.reads false).does.innermost n (c.at_pattern.ensures.same.innermost n (c.at_list_end.ensures.same.innermost n i))
+pub expressions::control::arm_turn-returns-clause-keeps : goal.expressions::control::arm_turn-returns-clause-keeps
+expressions::control::arm_turn-returns-clause-keeps t c = record {
+  input = (c.skip.ensures.reads false).does.input ∙ c.at_pattern.ensures.peeks.same.input ∙ c.at_list_end.ensures.peeks.same.input;
+  innermost = λ n i. (c.skip.ensures.reads false).does.innermost n (c.at_pattern.ensures.peeks.same.innermost n (c.at_list_end.ensures.peeks.same.innermost n i));
+}
 
-pub expressions::control::arm_turn-returns-clause-pays : goal.expressions::control::arm_turn-returns-clause-pays
-expressions::control::arm_turn-returns-clause-pays t c = λ e. omega (arith, c.at_pattern.ensures.looks, c.at_list_end.ensures.looks, c.skip.ensures.looks)
-
-pub expressions::control::arm_turn-returns-clause-looks : goal.expressions::control::arm_turn-returns-clause-looks
-expressions::control::arm_turn-returns-clause-looks t c = omega (arith, c.at_pattern.ensures.looks, c.at_list_end.ensures.looks, c.skip.ensures.looks)
+pub expressions::control::arm_turn-returns-clause-asks : goal.expressions::control::arm_turn-returns-clause-asks
+expressions::control::arm_turn-returns-clause-asks t c = record {
+  left = omega arith;
+  looks = omega (arith, c.at_pattern.ensures.peeks.looks, c.at_list_end.ensures.peeks.looks, c.skip.ensures.looks);
+}

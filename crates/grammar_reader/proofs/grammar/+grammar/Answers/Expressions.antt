@@ -1,5 +1,5 @@
 -- Expressions, path by path.
-use Rattle.std.proofs.Common.{◌≡◌, ℕ, Bool, true, false, nat_eq, Option, refl, sym, subst, arith}
+use Rattle.std.proofs.Common.{◌≡◌, ℕ, Bool, true, false, nat_eq, Option, refl, sym, subst, arith, rules, ◌∙◌, true≢false}
 use Rattle.std.proofs.lemmas.Bool.{eq-eqb, eqb-true}
 use Rattle.parser_events.specs.Forest.{ExpectedExpression}
 use Rattle.rust_grammar.specs.Meaning.{read}
@@ -39,22 +39,22 @@ unfolding layer_at layers
 expressions::expect_expression-returns-in-Prefixed-clause-reads t c = subst (λ (l : Level). Reads c.args.condition (Want (Call (level_of l)) ExpectedExpression) c.args.p.now c.expect_layer-in-Prefixed.new.p) (sym c.in-Prefixed.is) c.expect_layer-in-Prefixed.ensures.reads
 
 pub expressions::expect_any-expression-requires : goal.expressions::expect_any-expression-requires
-expressions::expect_any-expression-requires t c = (omega arith, (saw-after c.at_expression.ensures.same (saw-so c.at_expression.ensures.sees c.if-at_expression.true), omega (arith, c.at_expression.ensures.some c.if-at_expression.true, c.at_expression.ensures.left)))
+expressions::expect_any-expression-requires t c = (omega arith, (saw-after c.at_expression.ensures.peeks.same (saw-so c.at_expression.ensures.sees c.if-at_expression.true), omega (arith, c.at_expression.ensures.some c.if-at_expression.true, c.at_expression.ensures.peeks.left)))
 
 pub expressions::expect_any-returns-then-at_expression-clause-reads : goal.expressions::expect_any-returns-then-at_expression-clause-reads
-expressions::expect_any-returns-then-at_expression-clause-reads t c = reads-want _ (begins-call rules.expression (saw-so c.at_expression.ensures.sees c.if-at_expression.true)) (after-look _ c.at_expression.ensures.same (reads-call _ c.expression.ensures.gives))
+expressions::expect_any-returns-then-at_expression-clause-reads t c = reads-want _ (begins-call rules.expression (saw-so c.at_expression.ensures.sees c.if-at_expression.true)) (after-look _ c.at_expression.ensures.peeks.same (reads-call _ c.expression.ensures.gives))
 
 pub expressions::expect_any-returns-clause-reads : goal.expressions::expect_any-returns-clause-reads
-expressions::expect_any-returns-clause-reads t c = reads-missing _ (begins-call rules.expression (saw-so c.at_expression.ensures.sees c.if-at_expression.false)) (after-look _ c.at_expression.ensures.same (c.error.ensures.reads _))
+expressions::expect_any-returns-clause-reads t c = reads-missing _ (begins-call rules.expression (saw-so c.at_expression.ensures.sees c.if-at_expression.false)) (after-look _ c.at_expression.ensures.peeks.same (c.error.ensures.reads _))
 
 pub expressions::expect_operation-operation-requires : goal.expressions::expect_operation-operation-requires
-expressions::expect_operation-operation-requires t c = (omega arith, (saw-after c.at_operation.ensures.same (saw-so c.at_operation.ensures.sees c.if-at_operation.true), omega (arith, c.at_operation.ensures.some c.if-at_operation.true, c.at_operation.ensures.left)))
+expressions::expect_operation-operation-requires t c = (omega arith, (saw-after c.at_operation.ensures.peeks.same (saw-so c.at_operation.ensures.sees c.if-at_operation.true), omega (arith, c.at_operation.ensures.some c.if-at_operation.true, c.at_operation.ensures.peeks.left)))
 
 pub expressions::expect_operation-returns-then-at_operation-clause-reads : goal.expressions::expect_operation-returns-then-at_operation-clause-reads
-expressions::expect_operation-returns-then-at_operation-clause-reads t c = reads-want _ (begins-call rules.operation (saw-so c.at_operation.ensures.sees c.if-at_operation.true)) (after-look _ c.at_operation.ensures.same (reads-call _ c.operation.ensures.gives))
+expressions::expect_operation-returns-then-at_operation-clause-reads t c = reads-want _ (begins-call rules.operation (saw-so c.at_operation.ensures.sees c.if-at_operation.true)) (after-look _ c.at_operation.ensures.peeks.same (reads-call _ c.operation.ensures.gives))
 
 pub expressions::expect_operation-returns-clause-reads : goal.expressions::expect_operation-returns-clause-reads
-expressions::expect_operation-returns-clause-reads t c = reads-missing _ (begins-call rules.operation (saw-so c.at_operation.ensures.sees c.if-at_operation.false)) (after-look _ c.at_operation.ensures.same (c.error.ensures.reads _))
+expressions::expect_operation-returns-clause-reads t c = reads-missing _ (begins-call rules.operation (saw-so c.at_operation.ensures.sees c.if-at_operation.false)) (after-look _ c.at_operation.ensures.peeks.same (c.error.ensures.reads _))
 
 pub expressions::expect_condition-returns-clause-reads : goal.expressions::expect_condition-returns-clause-reads
 expressions::expect_condition-returns-clause-reads t c = λ cond. reads-expected cond c.expect_expression.ensures.reads
@@ -66,70 +66,78 @@ pub expressions::expression-returns-clause-gives : goal.expressions::expression-
 expressions::expression-returns-clause-gives t c = gives-expression c.operation.ensures.gives
 
 pub expressions::operation-range-requires : goal.expressions::operation-range-requires
-expressions::operation-range-requires t c = (omega arith, mark-after c.range_mark.ensures.same (subst (λ (m : Option RangeMark). IsMark m c.args.p.now) c.in-Some.is c.range_mark.ensures.mark))
+expressions::operation-range-requires t c = (omega arith, mark-after c.range_mark.ensures.peeks.same (subst (λ (m : Option RangeMark). IsMark m c.args.p.now) c.in-Some.is c.range_mark.ensures.mark))
 
 pub expressions::operation-returns-in-Some-clause-gives : goal.expressions::operation-returns-in-Some-clause-gives
-expressions::operation-returns-in-Some-clause-gives t c = gives-look c.range_mark.ensures.same c.range.ensures.gives
+expressions::operation-returns-in-Some-clause-gives t c = gives-look c.range_mark.ensures.peeks.same c.range.ensures.gives
 
 pub expressions::operation-operands-requires : goal.expressions::operation-operands-requires
 expressions::operation-operands-requires t c =
     let unmarked = subst (λ (m : Option RangeMark). IsMark m c.args.p.now) c.in-None.is c.range_mark.ensures.mark in
-    (omega arith, (mark-after c.range_mark.ensures.same unmarked, (saw-after c.range_mark.ensures.same (operand-begun unmarked c.requires.begins), omega (arith, c.requires.some, c.range_mark.ensures.left))))
+    (omega arith, (mark-after c.range_mark.ensures.peeks.same unmarked, record { sees = saw-after c.range_mark.ensures.peeks.same (operand-begun unmarked c.requires.begins); some = omega (arith, c.requires.some, c.range_mark.ensures.peeks.left) }))
 
 pub expressions::operation-returns-in-None-clause-gives : goal.expressions::operation-returns-in-None-clause-gives
-expressions::operation-returns-in-None-clause-gives t c = gives-look c.range_mark.ensures.same c.operands.ensures.gives
+expressions::operation-returns-in-None-clause-gives t c = gives-look c.range_mark.ensures.peeks.same c.operands.ensures.gives
 
 pub expressions::operands-prefixed-requires : goal.expressions::operands-prefixed-requires
-expressions::operands-prefixed-requires t c = (omega arith, (saw-inside c.start-frame.ensures.opens c.requires.begins, omega arith))
+expressions::operands-prefixed-requires t c = (omega arith, (saw-inside c.start-frame.ensures.opens c.requires.begins.sees, omega arith))
 
 pub expressions::operands-climb-frame-requires : goal.expressions::operands-climb-frame-requires
 expressions::operands-climb-frame-requires t c = (omega arith, (omega arith, c.prefixed.ensures.gives.does.innermost _ c.start-frame.ensures.marker))
 
 pub expressions::operands-operation_tail-frame-requires : goal.expressions::operands-operation_tail-frame-requires
-expressions::operands-operation_tail-frame-requires t c = (omega arith, c.climb-frame.ensures.marker)
+expressions::operands-operation_tail-frame-requires t c = (omega arith, c.climb-frame.ensures.asks.marker)
 
 pub expressions::operands-returns-clause-gives : goal.expressions::operands-returns-clause-gives
-expressions::operands-returns-clause-gives t c = gives-operands c.requires.unmarked c.requires.begins c.start-frame.ensures.opens (reads-call _ c.prefixed.ensures.gives) c.climb-frame.ensures.reads c.operation_tail-frame.ensures.reads c.abandon.ensures.leaves
+expressions::operands-returns-clause-gives t c = gives-operands c.requires.unmarked c.requires.begins.sees c.start-frame.ensures.opens (reads-call _ c.prefixed.ensures.gives) c.climb-frame.ensures.reads c.operation_tail-frame.ensures.reads c.abandon.ensures.leaves
 
 pub expressions::range-range_end-more-requires : goal.expressions::range-range_end-more-requires
 expressions::range-range_end-more-requires t c = (omega arith, mark-inside c.start-range.ensures.opens (mark-inside c.start-frame.ensures.opens c.requires.marked))
 
 pub expressions::range-complete-requires : goal.expressions::range-complete-requires
-expressions::range-complete-requires t c = c.range_end-more.ensures.innermost _ c.start-range.ensures.marker
+expressions::range-complete-requires t c = c.range_end-more.ensures.keeps.innermost _ c.start-range.ensures.marker
 
 pub expressions::range-abandon-requires : goal.expressions::range-abandon-requires
-expressions::range-abandon-requires t c = c.complete.ensures.closes.innermost _ (c.range_end-more.ensures.innermost _ (c.start-range.ensures.opens.innermost _ c.start-frame.ensures.marker))
+expressions::range-abandon-requires t c = c.complete.ensures.closes.innermost _ (c.range_end-more.ensures.keeps.innermost _ (c.start-range.ensures.opens.innermost _ c.start-frame.ensures.marker))
 
 pub expressions::range-operation_tail-frame-requires : goal.expressions::range-operation_tail-frame-requires
-expressions::range-operation_tail-frame-requires t c = (omega arith, c.complete.ensures.closes.innermost _ (c.range_end-more.ensures.innermost _ (c.start-range.ensures.opens.innermost _ c.start-frame.ensures.marker)))
+expressions::range-operation_tail-frame-requires t c = (omega arith, c.complete.ensures.closes.innermost _ (c.range_end-more.ensures.keeps.innermost _ (c.start-range.ensures.opens.innermost _ c.start-frame.ensures.marker)))
 
 pub expressions::range-returns-then-not-more-clause-gives : goal.expressions::range-returns-then-not-more-clause-gives
-expressions::range-returns-then-not-more-clause-gives t c = gives-anew (anew-inside c.start-frame.ensures.opens (reads-range-alone c.args.mark (mark-inside c.start-frame.ensures.opens c.requires.marked) (saw-outside c.start-range.ensures.opens (saw-so c.range_end-more.ensures.near c.if-not-more.true)) (reads-node _ c.start-range.ensures.opens (c.range_end-more.ensures.alone c.if-not-more.true) c.complete.ensures.closes)) c.abandon.ensures.leaves)
+expressions::range-returns-then-not-more-clause-gives t c = gives-anew (anew-inside c.start-frame.ensures.opens (reads-range-alone c.args.mark (mark-inside c.start-frame.ensures.opens c.requires.marked) (saw-outside c.start-range.ensures.opens (saw-so c.range_end-more.ensures.ends.near c.if-not-more.true)) (reads-node _ c.start-range.ensures.opens (c.range_end-more.ensures.ends.alone c.if-not-more.true) c.complete.ensures.closes)) c.abandon.ensures.leaves)
 
 pub expressions::range-returns-clause-gives : goal.expressions::range-returns-clause-gives
-expressions::range-returns-clause-gives t c = gives-anew (anew-inside c.start-frame.ensures.opens (reads-range c.args.mark (mark-inside c.start-frame.ensures.opens c.requires.marked) (saw-outside c.start-range.ensures.opens (saw-so c.range_end-more.ensures.near c.if-not-more.false)) (reads-then _ (reads-node _ c.start-range.ensures.opens (c.range_end-more.ensures.to c.if-not-more.false) c.complete.ensures.closes) c.operation_tail-frame.ensures.reads)) c.abandon-2.ensures.leaves)
+expressions::range-returns-clause-gives t c = gives-anew (anew-inside c.start-frame.ensures.opens (reads-range c.args.mark (mark-inside c.start-frame.ensures.opens c.requires.marked) (saw-outside c.start-range.ensures.opens (saw-so c.range_end-more.ensures.ends.near c.if-not-more.false)) (reads-then _ (reads-node _ c.start-range.ensures.opens (c.range_end-more.ensures.ends.to c.if-not-more.false) c.complete.ensures.closes) c.operation_tail-frame.ensures.reads)) c.abandon-2.ensures.leaves)
 
 pub expressions::range_end-layers-requires : goal.expressions::range_end-layers-requires
-expressions::range_end-layers-requires t c = (omega arith, (saw-after c.at_range_operand.ensures.same (c.at_range_operand.ensures.operand c.if-at_range_operand.true), (omega (arith, c.at_range_operand.ensures.some c.if-at_range_operand.true, c.at_range_operand.ensures.left), omega arith)))
+expressions::range_end-layers-requires t c = (omega arith, (record { sees = saw-after c.at_range_operand.ensures.peeks.same (c.at_range_operand.ensures.operand c.if-at_range_operand.true); some = omega (arith, c.at_range_operand.ensures.some c.if-at_range_operand.true, c.at_range_operand.ensures.peeks.left) }, omega arith))
 
-pub expressions::range_end-returns-then-at_range_operand-clause-near : goal.expressions::range_end-returns-then-at_range_operand-clause-near
-expressions::range_end-returns-then-at_range_operand-clause-near t c = range-near c.args.mark c.requires.marked (c.take_mark.ensures.reads true) (saw-so c.at_range_operand.ensures.sees c.if-at_range_operand.true)
-
-pub expressions::range_end-returns-clause-near : goal.expressions::range_end-returns-clause-near
-expressions::range_end-returns-clause-near t c = range-near c.args.mark c.requires.marked (c.take_mark.ensures.reads true) (saw-so c.at_range_operand.ensures.sees c.if-at_range_operand.false)
-
-pub expressions::range_end-returns-then-at_range_operand-clause-to : goal.expressions::range_end-returns-then-at_range_operand-clause-to
+pub expressions::range_end-returns-then-at_range_operand-clause-ends : goal.expressions::range_end-returns-then-at_range_operand-clause-ends
 unfolding layer_at layers
-expressions::range_end-returns-then-at_range_operand-clause-to t c = λ is. reads-then _ (c.take_mark.ensures.reads _) (after-look _ c.at_range_operand.ensures.same (reads-unless _ (reads-call _ c.layers.ensures.gives)))
+expressions::range_end-returns-then-at_range_operand-clause-ends t c = record {
+  near = range-near c.args.mark c.requires.marked (c.take_mark.ensures.reads true) (saw-so c.at_range_operand.ensures.sees c.if-at_range_operand.true);
+  to = λ is. reads-then _ (c.take_mark.ensures.reads _) (after-look _ c.at_range_operand.ensures.peeks.same (reads-unless _ (reads-call _ c.layers.ensures.gives)));
+  alone = λ e. absurd (true≢false e);
+}
 
-pub expressions::range_end-returns-then-at_range_operand-clause-innermost : goal.expressions::range_end-returns-then-at_range_operand-clause-innermost
-expressions::range_end-returns-then-at_range_operand-clause-innermost t c = λ n i. c.layers.ensures.gives.does.innermost n (c.at_range_operand.ensures.same.innermost n ((c.take_mark.ensures.reads true).does.innermost n i))
+pub expressions::range_end-returns-clause-ends : goal.expressions::range_end-returns-clause-ends
+expressions::range_end-returns-clause-ends t c = record {
+  near = range-near c.args.mark c.requires.marked (c.take_mark.ensures.reads true) (saw-so c.at_range_operand.ensures.sees c.if-at_range_operand.false);
+  to = λ e. absurd (true≢false (sym e));
+  alone = λ is. reads-before-look (c.take_mark.ensures.reads _) c.at_range_operand.ensures.peeks.same;
+}
 
-pub expressions::range_end-returns-clause-alone : goal.expressions::range_end-returns-clause-alone
-expressions::range_end-returns-clause-alone t c = λ is. reads-before-look (c.take_mark.ensures.reads _) c.at_range_operand.ensures.same
+pub expressions::range_end-returns-then-at_range_operand-clause-keeps : goal.expressions::range_end-returns-then-at_range_operand-clause-keeps
+expressions::range_end-returns-then-at_range_operand-clause-keeps t c = record {
+  input = c.layers.ensures.gives.does.input ∙ c.at_range_operand.ensures.peeks.same.input ∙ (c.take_mark.ensures.reads true).does.input;
+  innermost = λ n i. c.layers.ensures.gives.does.innermost n (c.at_range_operand.ensures.peeks.same.innermost n ((c.take_mark.ensures.reads true).does.innermost n i));
+}
 
-pub expressions::range_end-returns-clause-innermost : goal.expressions::range_end-returns-clause-innermost
-expressions::range_end-returns-clause-innermost t c = λ n i. c.at_range_operand.ensures.same.innermost n ((c.take_mark.ensures.reads true).does.innermost n i)
+pub expressions::range_end-returns-clause-keeps : goal.expressions::range_end-returns-clause-keeps
+expressions::range_end-returns-clause-keeps t c = record {
+  input = c.at_range_operand.ensures.peeks.same.input ∙ (c.take_mark.ensures.reads true).does.input;
+  innermost = λ n i. c.at_range_operand.ensures.peeks.same.innermost n ((c.take_mark.ensures.reads true).does.innermost n i);
+}
 
 pub expressions::opt_assignment-wrap-requires : goal.expressions::opt_assignment-wrap-requires
 expressions::opt_assignment-wrap-requires t c = c.expect_operation.ensures.reads.does.innermost _ ((c.take_operator.ensures.reads true).does.innermost _ c.requires.innermost)
@@ -152,18 +160,18 @@ expressions::opt_assignment-returns-clause-reads t c =
     (reads-wrap _ (reads-then _ (subst (λ (h : ℕ). Reads c.args.condition (operators_at h) c.args.p.now c.take_operator.new.p) is (c.take_operator.ensures.reads _)) c.expect_operation.ensures.reads) c.wrap.ensures.wraps)
 
 pub expressions::pipe_tail-expect_expression-requires : goal.expressions::pipe_tail-expect_expression-requires
-expressions::pipe_tail-expect_expression-requires t c = omega (arith, c.pipes.invariant.left, c.take_operator.ensures.left, c.current_op-operator.ensures.left)
+expressions::pipe_tail-expect_expression-requires t c = omega (arith, c.pipes.invariant.left, c.take_operator.ensures.takes.left, c.current_op-operator.ensures.peeks.left)
 
 pub expressions::pipe_tail-wrap-frame-requires : goal.expressions::pipe_tail-wrap-frame-requires
 expressions::pipe_tail-wrap-frame-requires t c = c.expect_expression.ensures.reads.does.innermost _ ((c.take_operator.ensures.reads true).does.innermost _ c.pipes.invariant.marker)
 
 pub expressions::pipe_tail-opt_assignment-requires : goal.expressions::pipe_tail-opt_assignment-requires
-expressions::pipe_tail-opt_assignment-requires t c = (omega (arith, c.pipes.invariant.left, c.current_op-operator.ensures.left), (c.pipes.invariant.next, c.pipes.invariant.marker))
+expressions::pipe_tail-opt_assignment-requires t c = (omega (arith, c.pipes.invariant.left, c.current_op-operator.ensures.peeks.left), (c.pipes.invariant.next, c.pipes.invariant.marker))
 
 pub expressions::pipe_tail-pipes-init : goal.expressions::pipe_tail-pipes-init
 expressions::pipe_tail-pipes-init t c = record {
-  marker = c.current_op-operator.ensures.same.innermost _ c.requires.innermost;
-  next = next-after c.current_op-operator.ensures.same c.current_op-operator.ensures.next;
+  marker = c.current_op-operator.ensures.peeks.same.innermost _ c.requires.innermost;
+  next = next-after c.current_op-operator.ensures.peeks.same c.current_op-operator.ensures.next;
   goes = record { rest = λ end p. p };
   left = omega arith;
   looks = omega arith;
@@ -173,29 +181,33 @@ pub expressions::pipe_tail-pipes-preserved : goal.expressions::pipe_tail-pipes-p
 expressions::pipe_tail-pipes-preserved t c =
     let is : c.pipes.operator.height ≡ 11 = omega arith in
     record {
-      marker = c.current_op-operator-in-pipes.ensures.same.innermost _ c.wrap-frame.ensures.marker;
-      next = next-after c.current_op-operator-in-pipes.ensures.same c.current_op-operator-in-pipes.ensures.next;
+      marker = c.current_op-operator-in-pipes.ensures.peeks.same.innermost _ c.wrap-frame.ensures.marker;
+      next = next-after c.current_op-operator-in-pipes.ensures.peeks.same c.current_op-operator-in-pipes.ensures.next;
       goes = record {
         rest = λ end p.
             c.pipes.invariant.goes.rest end (goes _ _ (reads-pipe (saw-so (c.pipes.invariant.next.sees _ 11 (omega arith) (omega arith)) (eq-eqb c.pipes.operator.height 11 is))
-            (reads-then _ (reads-wrap _ (reads-then _ (subst (λ (h : ℕ). Reads c.args.condition (operators_at h) c.pipes.p c.take_operator.new.p) is (c.take_operator.ensures.reads _)) c.expect_expression.ensures.reads) c.wrap-frame.ensures.wraps) (after-look _ c.current_op-operator-in-pipes.ensures.same (reads-more _ p)))));
+            (reads-then _ (reads-wrap _ (reads-then _ (subst (λ (h : ℕ). Reads c.args.condition (operators_at h) c.pipes.p c.take_operator.new.p) is (c.take_operator.ensures.reads _)) c.expect_expression.ensures.reads) c.wrap-frame.ensures.wraps) (after-look _ c.current_op-operator-in-pipes.ensures.peeks.same (reads-more _ p)))));
       };
-      left = omega (arith, c.pipes.invariant.left, c.take_operator.ensures.left, c.expect_expression.ensures.left, c.wrap-frame.ensures.left, c.current_op-operator-in-pipes.ensures.left);
-      looks = omega (arith, c.pipes.invariant.looks, c.take_operator.ensures.looks, c.expect_expression.ensures.looks, c.wrap-frame.ensures.looks, c.current_op-operator-in-pipes.ensures.looks);
+      left = omega (arith, c.pipes.invariant.left, c.take_operator.ensures.takes.left, c.expect_expression.ensures.asks.left, c.wrap-frame.ensures.stays.left, c.current_op-operator-in-pipes.ensures.peeks.left);
+      looks = omega (arith, c.pipes.invariant.looks, c.take_operator.ensures.takes.looks, c.expect_expression.ensures.asks.looks, c.wrap-frame.ensures.stays.looks, c.current_op-operator-in-pipes.ensures.peeks.looks);
     }
 
 pub expressions::pipe_tail-returns-clause-reads : goal.expressions::pipe_tail-returns-clause-reads
 expressions::pipe_tail-returns-clause-reads t c =
-    after-look _ c.current_op-operator.ensures.same (reads-more _ (c.pipes.invariant.goes.rest _ (goes _ _ (reads-no-pipe
+    after-look _ c.current_op-operator.ensures.peeks.same (reads-more _ (c.pipes.invariant.goes.rest _ (goes _ _ (reads-no-pipe
     (saw-so (c.pipes.invariant.next.sees _ 11 (omega arith) (omega arith)) (is-other 11 c.pipes.operator.height (λ e. omega (arith, e)))) c.opt_assignment.ensures.reads))))
 
-pub expressions::pipe_tail-returns-clause-looks : goal.expressions::pipe_tail-returns-clause-looks
-expressions::pipe_tail-returns-clause-looks t c = omega (arith, c.pipes.invariant.looks, c.opt_assignment.ensures.looks, c.current_op-operator.ensures.looks)
+pub expressions::pipe_tail-returns-clause-asks : goal.expressions::pipe_tail-returns-clause-asks
+expressions::pipe_tail-returns-clause-asks t c = record {
+  left = omega arith;
+  looks = omega (arith, c.pipes.invariant.looks, c.opt_assignment.ensures.asks.looks, c.current_op-operator.ensures.peeks.looks);
+  marker = search rules;
+}
 
 pub expressions::operation_tail-ranges-2-init : goal.expressions::operation_tail-ranges-2-init
 expressions::operation_tail-ranges-2-init t c = record {
-  marker = c.range_mark-mark.ensures.same.innermost _ c.requires.innermost;
-  mark = mark-after c.range_mark-mark.ensures.same c.range_mark-mark.ensures.mark;
+  marker = c.range_mark-mark.ensures.peeks.same.innermost _ c.requires.innermost;
+  mark = mark-after c.range_mark-mark.ensures.peeks.same c.range_mark-mark.ensures.mark;
   goes = record { rest = λ end p. p };
   left = omega arith;
   looks = omega arith;
@@ -205,25 +217,29 @@ pub expressions::operation_tail-ranges-2-preserved : goal.expressions::operation
 expressions::operation_tail-ranges-2-preserved t c =
     let marked = subst (λ (m : Option RangeMark). IsMark m c.ranges-2.p) c.in-Some.is c.ranges-2.invariant.mark in
     record {
-      marker = c.range_mark-mark-in-Some.ensures.same.innermost _ c.wrap-frame.ensures.marker;
-      mark = mark-after c.range_mark-mark-in-Some.ensures.same c.range_mark-mark-in-Some.ensures.mark;
+      marker = c.range_mark-mark-in-Some.ensures.peeks.same.innermost _ c.wrap-frame.ensures.marker;
+      mark = mark-after c.range_mark-mark-in-Some.ensures.peeks.same c.range_mark-mark-in-Some.ensures.mark;
       goes = record {
         rest = λ end p.
-            c.ranges-2.invariant.goes.rest end (goes _ _ (reads-range-on c.in-Some.found marked (saw-so c.range_end-more.ensures.near c.if-not-more.false)
-            (reads-then _ (reads-wrap _ (c.range_end-more.ensures.to c.if-not-more.false) c.wrap-frame.ensures.wraps) (after-look _ c.range_mark-mark-in-Some.ensures.same (reads-more _ p)))));
+            c.ranges-2.invariant.goes.rest end (goes _ _ (reads-range-on c.in-Some.found marked (saw-so c.range_end-more.ensures.ends.near c.if-not-more.false)
+            (reads-then _ (reads-wrap _ (c.range_end-more.ensures.ends.to c.if-not-more.false) c.wrap-frame.ensures.wraps) (after-look _ c.range_mark-mark-in-Some.ensures.peeks.same (reads-more _ p)))));
       };
-      left = omega (arith, c.ranges-2.invariant.left, c.range_end-more.ensures.left, c.wrap-frame.ensures.left, c.range_mark-mark-in-Some.ensures.left);
-      looks = omega (arith, c.ranges-2.invariant.looks, c.range_end-more.ensures.looks, c.wrap-frame.ensures.looks, c.range_mark-mark-in-Some.ensures.looks);
+      left = omega (arith, c.ranges-2.invariant.left, c.range_end-more.ensures.takes.left, c.wrap-frame.ensures.stays.left, c.range_mark-mark-in-Some.ensures.peeks.left);
+      looks = omega (arith, c.ranges-2.invariant.looks, c.range_end-more.ensures.takes.looks, c.wrap-frame.ensures.stays.looks, c.range_mark-mark-in-Some.ensures.peeks.looks);
     }
 
 pub expressions::operation_tail-returns-then-not-more-clause-reads : goal.expressions::operation_tail-returns-then-not-more-clause-reads
 expressions::operation_tail-returns-then-not-more-clause-reads t c =
     let marked = subst (λ (m : Option RangeMark). IsMark m c.ranges-2.p) c.in-Some.is c.ranges-2.invariant.mark in
-    after-look _ c.range_mark-mark.ensures.same (reads-more _ (c.ranges-2.invariant.goes.rest _ (goes _ _ (reads-range-end c.in-Some.found marked (saw-so c.range_end-more.ensures.near c.if-not-more.true) (reads-wrap _ (c.range_end-more.ensures.alone c.if-not-more.true) c.wrap-frame.ensures.wraps)))))
+    after-look _ c.range_mark-mark.ensures.peeks.same (reads-more _ (c.ranges-2.invariant.goes.rest _ (goes _ _ (reads-range-end c.in-Some.found marked (saw-so c.range_end-more.ensures.ends.near c.if-not-more.true) (reads-wrap _ (c.range_end-more.ensures.ends.alone c.if-not-more.true) c.wrap-frame.ensures.wraps)))))
 
 pub expressions::operation_tail-returns-clause-reads : goal.expressions::operation_tail-returns-clause-reads
 unfolding read
-expressions::operation_tail-returns-clause-reads t c = after-look _ c.range_mark-mark.ensures.same (reads-more _ (c.ranges-2.invariant.goes.rest _ (goes _ _ (unranged (subst (λ (m : Option RangeMark). IsMark m c.ranges-2.p) c.in_default.is c.ranges-2.invariant.mark) c.pipe_tail.ensures.reads))))
+expressions::operation_tail-returns-clause-reads t c = after-look _ c.range_mark-mark.ensures.peeks.same (reads-more _ (c.ranges-2.invariant.goes.rest _ (goes _ _ (unranged (subst (λ (m : Option RangeMark). IsMark m c.ranges-2.p) c.in_default.is c.ranges-2.invariant.mark) c.pipe_tail.ensures.reads))))
 
-pub expressions::operation_tail-returns-clause-looks : goal.expressions::operation_tail-returns-clause-looks
-expressions::operation_tail-returns-clause-looks t c = omega (arith, c.ranges-2.invariant.looks, c.pipe_tail.ensures.looks, c.range_mark-mark.ensures.looks)
+pub expressions::operation_tail-returns-clause-asks : goal.expressions::operation_tail-returns-clause-asks
+expressions::operation_tail-returns-clause-asks t c = record {
+  left = omega arith;
+  looks = omega (arith, c.ranges-2.invariant.looks, c.pipe_tail.ensures.asks.looks, c.range_mark-mark.ensures.peeks.looks);
+  marker = search rules;
+}

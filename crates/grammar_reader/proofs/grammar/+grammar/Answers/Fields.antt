@@ -25,26 +25,26 @@ use Rattle.rust_productions.proofs.Seen.{begins-else, saw-after, saw-before, saw
 use Rattle.grammar_reader.proofs.grammar.+grammar.Goals as goal
 
 pub fields::field_value-named_value-requires : goal.fields::field_value-named_value-requires
-fields::field_value-named_value-requires t c = (omega arith, omega (arith, c.at_named_field.ensures.some c.if-at_named_field.true, c.at_named_field.ensures.left))
+fields::field_value-named_value-requires t c = (omega arith, omega (arith, c.at_named_field.ensures.some c.if-at_named_field.true, c.at_named_field.ensures.peeks.left))
 
 pub fields::field_value-returns-then-at_named_field-clause-gives : goal.fields::field_value-returns-then-at_named_field-clause-gives
 unfolding look_of begins_below whole rule items statements expressions patterns types paths there_at shift passes is_silent begins in_mode anew row one_of any_of no_longer longest is_longer
-fields::field_value-returns-then-at_named_field-clause-gives t c = gives-anew (anew-after refl (reads-here (saw-so (c.at_named_field.ensures.sees c.args.condition) c.if-at_named_field.true and nothing) (after-look _ c.at_named_field.ensures.same c.named_value.ensures.reads)))
+fields::field_value-returns-then-at_named_field-clause-gives t c = gives-anew (anew-after refl (reads-here (saw-so (c.at_named_field.ensures.sees c.args.condition) c.if-at_named_field.true and nothing) (after-look _ c.at_named_field.ensures.peeks.same c.named_value.ensures.reads)))
 
 pub fields::field_value-other_fields-requires : goal.fields::field_value-other_fields-requires
-fields::field_value-other_fields-requires t c = (omega arith, omega (arith, c.at_pair.ensures.some c.if-at_pair.true (λ e. absurd (omega (arith, e))), c.at_pair.ensures.left, c.at_named_field.ensures.left))
+fields::field_value-other_fields-requires t c = (omega arith, omega (arith, c.at_pair.ensures.some c.if-at_pair.true (λ e. absurd (omega (arith, e))), c.at_pair.ensures.peeks.left, c.at_named_field.ensures.peeks.left))
 
 pub fields::field_value-returns-then-at_pair-clause-gives : goal.fields::field_value-returns-then-at_pair-clause-gives
 unfolding look_of begins_below whole rule items statements expressions patterns types paths there_at shift passes is_silent begins in_mode anew row one_of any_of no_longer longest is_longer
-fields::field_value-returns-then-at_pair-clause-gives t c = gives-anew (anew-after refl (reads-here (saw-so (c.at_named_field.ensures.sees c.args.condition) c.if-at_named_field.false and saw-left (saw-before c.at_named_field.ensures.same (saw-so (c.at_pair.ensures.sees c.args.condition) c.if-at_pair.true)) and saw-before c.at_named_field.ensures.same (saw-so (c.at_pair.ensures.sees c.args.condition) c.if-at_pair.true) and nothing) (after-look _ c.at_named_field.ensures.same (after-look _ c.at_pair.ensures.same c.other_fields.ensures.reads))))
+fields::field_value-returns-then-at_pair-clause-gives t c = gives-anew (anew-after refl (reads-here (saw-so (c.at_named_field.ensures.sees c.args.condition) c.if-at_named_field.false and saw-left (saw-before c.at_named_field.ensures.peeks.same (saw-so (c.at_pair.ensures.sees c.args.condition) c.if-at_pair.true)) and saw-before c.at_named_field.ensures.peeks.same (saw-so (c.at_pair.ensures.sees c.args.condition) c.if-at_pair.true) and nothing) (after-look _ c.at_named_field.ensures.peeks.same (after-look _ c.at_pair.ensures.peeks.same c.other_fields.ensures.reads))))
 
 pub fields::field_value-path_value-requires : goal.fields::field_value-path_value-requires
 unfolding look_of begins_below whole rule items statements expressions patterns types paths there_at shift passes is_silent begins in_mode anew row one_of any_of no_longer longest is_longer
-fields::field_value-path_value-requires t c = (omega arith, ((λ d. saw-after c.at_pair.ensures.same (saw-after c.at_named_field.ensures.same (any-mode (subst (λ (l : Look). Saw c.args.condition l c.args.p.now true) (paths-begin modes.Expr) (begins-else rules.expr_path rules.field_value refl (saw-so (c.at_named_field.ensures.sees c.args.condition) c.if-at_named_field.false and saw-before c.at_named_field.ensures.same (saw-so (c.at_pair.ensures.sees c.args.condition) c.if-at_pair.false) and nothing) c.requires.begins refl))))), omega arith))
+fields::field_value-path_value-requires t c = (omega arith, ((λ d. saw-after c.at_pair.ensures.peeks.same (saw-after c.at_named_field.ensures.peeks.same (any-mode (subst (λ (l : Look). Saw c.args.condition l c.args.p.now true) (paths-begin modes.Expr) (begins-else rules.expr_path rules.field_value refl (saw-so (c.at_named_field.ensures.sees c.args.condition) c.if-at_named_field.false and saw-before c.at_named_field.ensures.peeks.same (saw-so (c.at_pair.ensures.sees c.args.condition) c.if-at_pair.false) and nothing) c.requires.begins refl))))), omega arith))
 
 pub fields::field_value-returns-clause-gives : goal.fields::field_value-returns-clause-gives
 unfolding look_of begins_below whole rule items statements expressions patterns types paths there_at shift passes is_silent begins in_mode anew row one_of any_of no_longer longest is_longer
-fields::field_value-returns-clause-gives t c = gives-anew (anew-after refl (reads-here (saw-so (c.at_named_field.ensures.sees c.args.condition) c.if-at_named_field.false and saw-before c.at_named_field.ensures.same (saw-so (c.at_pair.ensures.sees c.args.condition) c.if-at_pair.false) and begun rules.expr_path (begins-else rules.expr_path rules.field_value refl (saw-so (c.at_named_field.ensures.sees c.args.condition) c.if-at_named_field.false and saw-before c.at_named_field.ensures.same (saw-so (c.at_pair.ensures.sees c.args.condition) c.if-at_pair.false) and nothing) c.requires.begins refl) nothing) (after-look _ c.at_named_field.ensures.same (after-look _ c.at_pair.ensures.same (c.path_value.ensures.reads c.args.condition)))))
+fields::field_value-returns-clause-gives t c = gives-anew (anew-after refl (reads-here (saw-so (c.at_named_field.ensures.sees c.args.condition) c.if-at_named_field.false and saw-before c.at_named_field.ensures.peeks.same (saw-so (c.at_pair.ensures.sees c.args.condition) c.if-at_pair.false) and begun rules.expr_path (begins-else rules.expr_path rules.field_value refl (saw-so (c.at_named_field.ensures.sees c.args.condition) c.if-at_named_field.false and saw-before c.at_named_field.ensures.peeks.same (saw-so (c.at_pair.ensures.sees c.args.condition) c.if-at_pair.false) and nothing) c.requires.begins refl) nothing) (after-look _ c.at_named_field.ensures.peeks.same (after-look _ c.at_pair.ensures.peeks.same (c.path_value.ensures.reads c.args.condition)))))
 
 pub fields::named_value-complete-requires : goal.fields::named_value-complete-requires
 fields::named_value-complete-requires t c = c.expect_expression.ensures.reads.does.innermost _ ((c.take.ensures.reads true).does.innermost _ ((c.name_of_field.ensures.reads true).does.innermost _ c.start-node.ensures.marker))
@@ -56,15 +56,15 @@ pub fields::other_fields-returns-clause-reads : goal.fields::other_fields-return
 fields::other_fields-returns-clause-reads t c = (reads-then _ (c.take_pair.ensures.reads c.args.condition _ _) c.opt_expression.ensures.reads)
 
 pub fields::opt_expression-expression-requires : goal.fields::opt_expression-expression-requires
-fields::opt_expression-expression-requires t c = (omega arith, (saw-after c.at_expression.ensures.same (saw-so c.at_expression.ensures.sees c.if-at_expression.true), omega (arith, c.at_expression.ensures.some c.if-at_expression.true, c.at_expression.ensures.left)))
+fields::opt_expression-expression-requires t c = (omega arith, (saw-after c.at_expression.ensures.peeks.same (saw-so c.at_expression.ensures.sees c.if-at_expression.true), omega (arith, c.at_expression.ensures.some c.if-at_expression.true, c.at_expression.ensures.peeks.left)))
 
 pub fields::opt_expression-returns-then-at_expression-clause-reads : goal.fields::opt_expression-returns-then-at_expression-clause-reads
 unfolding look_of begins_below whole rule items statements expressions patterns types paths there_at shift passes is_silent begins in_mode anew row one_of any_of no_longer longest is_longer
-fields::opt_expression-returns-then-at_expression-clause-reads t c = reads-here (begun rules.expression (saw-so c.at_expression.ensures.sees c.if-at_expression.true) nothing) (after-look _ c.at_expression.ensures.same (reads-call _ c.expression.ensures.gives))
+fields::opt_expression-returns-then-at_expression-clause-reads t c = reads-here (begun rules.expression (saw-so c.at_expression.ensures.sees c.if-at_expression.true) nothing) (after-look _ c.at_expression.ensures.peeks.same (reads-call _ c.expression.ensures.gives))
 
 pub fields::opt_expression-returns-else-at_expression-clause-reads : goal.fields::opt_expression-returns-else-at_expression-clause-reads
 unfolding look_of begins_below whole rule items statements expressions patterns types paths there_at shift passes is_silent begins in_mode anew row one_of any_of no_longer longest is_longer
-fields::opt_expression-returns-else-at_expression-clause-reads t c = reads-here (begun rules.expression (saw-so c.at_expression.ensures.sees c.if-at_expression.false) nothing) (reads-nothing _ c.at_expression.ensures.same)
+fields::opt_expression-returns-else-at_expression-clause-reads t c = reads-here (begun rules.expression (saw-so c.at_expression.ensures.sees c.if-at_expression.false) nothing) (reads-nothing _ c.at_expression.ensures.peeks.same)
 
 pub fields::path_value-path_with_args-requires : goal.fields::path_value-path_with_args-requires
 fields::path_value-path_with_args-requires t c = (omega arith, ((λ d. saw-inside c.start-value.ensures.opens (saw-inside c.start-node.ensures.opens (c.requires.begins d))), omega arith))
@@ -80,22 +80,22 @@ fields::path_value-returns-clause-reads t c = λ cond. reads-node cond c.start-n
 
 pub fields::pattern_field-returns-then-at_pair-clause-gives : goal.fields::pattern_field-returns-then-at_pair-clause-gives
 unfolding look_of begins_below whole rule items statements expressions patterns types paths there_at shift passes is_silent begins in_mode anew row one_of any_of no_longer longest is_longer
-fields::pattern_field-returns-then-at_pair-clause-gives t c = λ cond. gives-anew (anew-after refl (reads-here (saw-so (c.at_pair.ensures.sees cond) c.if-at_pair.true and nothing) (after-look cond c.at_pair.ensures.same (c.rest_pat.ensures.reads cond))))
+fields::pattern_field-returns-then-at_pair-clause-gives t c = λ cond. gives-anew (anew-after refl (reads-here (saw-so (c.at_pair.ensures.sees cond) c.if-at_pair.true and nothing) (after-look cond c.at_pair.ensures.peeks.same (c.rest_pat.ensures.reads cond))))
 
 pub fields::pattern_field-named_pattern-requires : goal.fields::pattern_field-named_pattern-requires
-fields::pattern_field-named_pattern-requires t c = (omega arith, omega (arith, c.at_named_field.ensures.some c.if-at_named_field.true, c.at_named_field.ensures.left, c.at_pair.ensures.left))
+fields::pattern_field-named_pattern-requires t c = (omega arith, omega (arith, c.at_named_field.ensures.some c.if-at_named_field.true, c.at_named_field.ensures.peeks.left, c.at_pair.ensures.peeks.left))
 
 pub fields::pattern_field-returns-then-at_named_field-clause-gives : goal.fields::pattern_field-returns-then-at_named_field-clause-gives
 unfolding look_of begins_below whole rule items statements expressions patterns types paths there_at shift passes is_silent begins in_mode anew row one_of any_of no_longer longest is_longer
-fields::pattern_field-returns-then-at_named_field-clause-gives t c = λ cond. gives-anew (anew-after refl (reads-here (saw-so (c.at_pair.ensures.sees cond) c.if-at_pair.false and saw-before c.at_pair.ensures.same (saw-so (c.at_named_field.ensures.sees cond) c.if-at_named_field.true) and nothing) (after-look cond c.at_pair.ensures.same (after-look cond c.at_named_field.ensures.same (c.named_pattern.ensures.reads cond)))))
+fields::pattern_field-returns-then-at_named_field-clause-gives t c = λ cond. gives-anew (anew-after refl (reads-here (saw-so (c.at_pair.ensures.sees cond) c.if-at_pair.false and saw-before c.at_pair.ensures.peeks.same (saw-so (c.at_named_field.ensures.sees cond) c.if-at_named_field.true) and nothing) (after-look cond c.at_pair.ensures.peeks.same (after-look cond c.at_named_field.ensures.peeks.same (c.named_pattern.ensures.reads cond)))))
 
 pub fields::pattern_field-shorthand-requires-clause-begins : goal.fields::pattern_field-shorthand-requires-clause-begins
 unfolding look_of begins_below whole rule items statements expressions patterns types paths there_at shift passes is_silent begins in_mode anew row one_of any_of no_longer longest is_longer
-fields::pattern_field-shorthand-requires-clause-begins t c = λ cond. saw-after c.at_named_field.ensures.same (saw-after c.at_pair.ensures.same (saw-else (begins looks (⁅ One 'ref' ⁆ ▸ ⁅ One 'mut' ⁆ ▸ Name !)) (looks rules.pattern_field) (saw-so (c.at_pair.ensures.sees cond) c.if-at_pair.false and saw-before c.at_pair.ensures.same (saw-so (c.at_named_field.ensures.sees cond) c.if-at_named_field.false) and nothing) (c.requires.begins cond) refl))
+fields::pattern_field-shorthand-requires-clause-begins t c = λ cond. saw-after c.at_named_field.ensures.peeks.same (saw-after c.at_pair.ensures.peeks.same (saw-else (begins looks (⁅ One 'ref' ⁆ ▸ ⁅ One 'mut' ⁆ ▸ Name !)) (looks rules.pattern_field) (saw-so (c.at_pair.ensures.sees cond) c.if-at_pair.false and saw-before c.at_pair.ensures.peeks.same (saw-so (c.at_named_field.ensures.sees cond) c.if-at_named_field.false) and nothing) (c.requires.begins cond) refl))
 
 pub fields::pattern_field-returns-clause-gives : goal.fields::pattern_field-returns-clause-gives
 unfolding look_of begins_below whole rule items statements expressions patterns types paths there_at shift passes is_silent begins in_mode anew row one_of any_of no_longer longest is_longer
-fields::pattern_field-returns-clause-gives t c = λ cond. gives-anew (anew-after refl (reads-here (saw-so (c.at_pair.ensures.sees cond) c.if-at_pair.false and saw-before c.at_pair.ensures.same (saw-so (c.at_named_field.ensures.sees cond) c.if-at_named_field.false) and nothing) (after-look cond c.at_pair.ensures.same (after-look cond c.at_named_field.ensures.same (c.shorthand.ensures.reads cond)))))
+fields::pattern_field-returns-clause-gives t c = λ cond. gives-anew (anew-after refl (reads-here (saw-so (c.at_pair.ensures.sees cond) c.if-at_pair.false and saw-before c.at_pair.ensures.peeks.same (saw-so (c.at_named_field.ensures.sees cond) c.if-at_named_field.false) and nothing) (after-look cond c.at_pair.ensures.peeks.same (after-look cond c.at_named_field.ensures.peeks.same (c.shorthand.ensures.reads cond)))))
 
 pub fields::named_pattern-complete-requires : goal.fields::named_pattern-complete-requires
 fields::named_pattern-complete-requires t c = (c.expect_pattern.ensures.reads true).does.innermost _ ((c.take.ensures.reads true).does.innermost _ ((c.name_of_field.ensures.reads true).does.innermost _ c.start-node.ensures.marker))

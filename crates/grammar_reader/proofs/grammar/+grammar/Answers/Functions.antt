@@ -17,7 +17,7 @@ use Rattle.rust_productions.proofs.Given.{reads-three}
 use Rattle.grammar_reader.proofs.grammar.+grammar.Goals as goal
 
 pub items::functions::fn_item-fn_words-requires : goal.items::functions::fn_item-fn_words-requires
-items::functions::fn_item-fn_words-requires t c = record { begins = c.requires.begins; some = c.requires.some }
+items::functions::fn_item-fn_words-requires t c = record { begins = c.requires.begins.sees; some = c.requires.begins.some }
 
 pub items::functions::fn_item-complete-requires : goal.items::functions::fn_item-complete-requires
 items::functions::fn_item-complete-requires t c = (c.fn_body.ensures.reads true).does.innermost _ (c.opt_where_clause.ensures.reads.does.innermost _ (c.opt_ret_type.ensures.reads.does.innermost _ ((c.expect_params.ensures.reads true).does.innermost _ ((c.opt_generic_params.ensures.reads true).does.innermost _ ((c.expect_name.ensures.reads true).does.innermost _ ((c.fn_words.ensures.reads true).does.innermost _ c.requires.innermost))))))
@@ -27,24 +27,24 @@ items::functions::fn_item-returns-clause-completes t c = completes-wrap (reads-t
 
 pub items::functions::expect_params-returns-then-at-clause-reads : goal.items::functions::expect_params-returns-then-at-clause-reads
 unfolding look_of begins_below whole rule items statements expressions patterns types paths there_at shift passes is_silent begins in_mode anew row one_of any_of no_longer longest is_longer
-items::functions::expect_params-returns-then-at-clause-reads t c = λ cond. reads-here (saw-so (c.at.ensures.sees cond) c.if-at.true and nothing) (after-look cond c.at.ensures.same (reads-call cond (c.params.ensures.gives cond)))
+items::functions::expect_params-returns-then-at-clause-reads t c = λ cond. reads-here (saw-so (c.at.ensures.sees cond) c.if-at.true and nothing) (after-look cond c.at.ensures.peeks.same (reads-call cond (c.params.ensures.gives cond)))
 
 pub items::functions::expect_params-returns-clause-reads : goal.items::functions::expect_params-returns-clause-reads
 unfolding look_of begins_below whole rule items statements expressions patterns types paths there_at shift passes is_silent begins in_mode anew row one_of any_of no_longer longest is_longer
-items::functions::expect_params-returns-clause-reads t c = λ cond. reads-here (saw-so (c.at.ensures.sees cond) c.if-at.false and nothing) (after-look cond c.at.ensures.same (c.error.ensures.reads cond))
+items::functions::expect_params-returns-clause-reads t c = λ cond. reads-here (saw-so (c.at.ensures.sees cond) c.if-at.false and nothing) (after-look cond c.at.ensures.peeks.same (c.error.ensures.reads cond))
 
 pub items::functions::opt_ret_type-returns-then-at_pair-clause-reads : goal.items::functions::opt_ret_type-returns-then-at_pair-clause-reads
 unfolding look_of begins_below whole rule items statements expressions patterns types paths there_at shift passes is_silent begins in_mode anew row one_of any_of no_longer longest is_longer
-items::functions::opt_ret_type-returns-then-at_pair-clause-reads t c = reads-here (saw-so (c.at_pair.ensures.sees c.args.condition) c.if-at_pair.true and nothing) (after-look _ c.at_pair.ensures.same (reads-call _ c.ret_type.ensures.gives))
+items::functions::opt_ret_type-returns-then-at_pair-clause-reads t c = reads-here (saw-so (c.at_pair.ensures.sees c.args.condition) c.if-at_pair.true and nothing) (after-look _ c.at_pair.ensures.peeks.same (reads-call _ c.ret_type.ensures.gives))
 
 pub items::functions::opt_ret_type-returns-else-at_pair-clause-reads : goal.items::functions::opt_ret_type-returns-else-at_pair-clause-reads
 unfolding look_of begins_below whole rule items statements expressions patterns types paths there_at shift passes is_silent begins in_mode anew row one_of any_of no_longer longest is_longer
-items::functions::opt_ret_type-returns-else-at_pair-clause-reads t c = reads-here (saw-so (c.at_pair.ensures.sees c.args.condition) c.if-at_pair.false and nothing) (reads-nothing _ c.at_pair.ensures.same)
+items::functions::opt_ret_type-returns-else-at_pair-clause-reads t c = reads-here (saw-so (c.at_pair.ensures.sees c.args.condition) c.if-at_pair.false and nothing) (reads-nothing _ c.at_pair.ensures.peeks.same)
 
 pub items::functions::fn_body-returns-then-at-clause-reads : goal.items::functions::fn_body-returns-then-at-clause-reads
 unfolding look_of begins_below whole rule items statements expressions patterns types paths there_at shift passes is_silent begins in_mode anew row one_of any_of no_longer longest is_longer
-items::functions::fn_body-returns-then-at-clause-reads t c = λ cond. reads-here (saw-so (c.at.ensures.sees cond) c.if-at.true and nothing) (after-look cond c.at.ensures.same (reads-call cond (c.block.ensures.gives cond)))
+items::functions::fn_body-returns-then-at-clause-reads t c = λ cond. reads-here (saw-so (c.at.ensures.sees cond) c.if-at.true and nothing) (after-look cond c.at.ensures.peeks.same (reads-call cond (c.block.ensures.gives cond)))
 
 pub items::functions::fn_body-returns-clause-reads : goal.items::functions::fn_body-returns-clause-reads
 unfolding look_of begins_below whole rule items statements expressions patterns types paths there_at shift passes is_silent begins in_mode anew row one_of any_of no_longer longest is_longer
-items::functions::fn_body-returns-clause-reads t c = λ cond. reads-here (saw-so (c.at.ensures.sees cond) c.if-at.false and nothing) (after-look cond c.at.ensures.same (c.expect.ensures.reads cond))
+items::functions::fn_body-returns-clause-reads t c = λ cond. reads-here (saw-so (c.at.ensures.sees cond) c.if-at.false and nothing) (after-look cond c.at.ensures.peeks.same (c.expect.ensures.reads cond))

@@ -20,45 +20,45 @@ use Rattle.grammar_reader.proofs.grammar.+grammar.Goals as goal
 
 pub generic_args::generic_arg-returns-in-LIFETIME_IDENT-clause-gives : goal.generic_args::generic_arg-returns-in-LIFETIME_IDENT-clause-gives
 unfolding look_of begins_below whole rule items statements expressions patterns types paths there_at shift passes is_silent begins in_mode anew row one_of any_of no_longer longest is_longer
-generic_args::generic_arg-returns-in-LIFETIME_IDENT-clause-gives t c = gives-anew (anew-after refl (reads-here (saw-arm c.in-LIFETIME_IDENT.is (c.current.ensures.sees c.args.condition) and nothing) (after-look _ c.current.ensures.same (c.lifetime_arg.ensures.reads c.args.condition))))
+generic_args::generic_arg-returns-in-LIFETIME_IDENT-clause-gives t c = gives-anew (anew-after refl (reads-here (saw-arm c.in-LIFETIME_IDENT.is (c.current.ensures.sees c.args.condition) and nothing) (after-look _ c.current.ensures.peeks.same (c.lifetime_arg.ensures.reads c.args.condition))))
 
 pub generic_args::generic_arg-returns-in-MINUS-clause-gives : goal.generic_args::generic_arg-returns-in-MINUS-clause-gives
 unfolding look_of begins_below whole rule items statements expressions patterns types paths there_at shift passes is_silent begins in_mode anew row one_of any_of no_longer longest is_longer
-generic_args::generic_arg-returns-in-MINUS-clause-gives t c = gives-anew (anew-after refl (reads-here (saw-arm c.in-MINUS.is (c.current.ensures.sees c.args.condition) and nothing) (after-look _ c.current.ensures.same (c.negative_arg.ensures.reads c.args.condition))))
+generic_args::generic_arg-returns-in-MINUS-clause-gives t c = gives-anew (anew-after refl (reads-here (saw-arm c.in-MINUS.is (c.current.ensures.sees c.args.condition) and nothing) (after-look _ c.current.ensures.peeks.same (c.negative_arg.ensures.reads c.args.condition))))
 
 pub generic_args::generic_arg-word_arg-requires : goal.generic_args::generic_arg-word_arg-requires
-generic_args::generic_arg-word_arg-requires t c = (omega arith, (saw-after c.current.ensures.same (saw-arm c.in-IDENT.is (c.current.ensures.sees c.args.condition)), omega arith))
+generic_args::generic_arg-word_arg-requires t c = (omega arith, (saw-after c.current.ensures.peeks.same (saw-arm c.in-IDENT.is (c.current.ensures.sees c.args.condition)), omega arith))
 
 pub generic_args::generic_arg-returns-in-IDENT-clause-gives : goal.generic_args::generic_arg-returns-in-IDENT-clause-gives
 unfolding look_of begins_below whole rule items statements expressions patterns types paths there_at shift passes is_silent begins in_mode anew row one_of any_of no_longer longest is_longer
-generic_args::generic_arg-returns-in-IDENT-clause-gives t c = gives-anew (anew-after refl (after-look _ c.current.ensures.same c.word_arg.ensures.reads))
+generic_args::generic_arg-returns-in-IDENT-clause-gives t c = gives-anew (anew-after refl (after-look _ c.current.ensures.peeks.same c.word_arg.ensures.reads))
 
 pub generic_args::generic_arg-returns-then-at_literal-clause-gives : goal.generic_args::generic_arg-returns-then-at_literal-clause-gives
 unfolding look_of begins_below whole rule items statements expressions patterns types paths there_at shift passes is_silent begins in_mode anew row one_of any_of no_longer longest is_longer
-generic_args::generic_arg-returns-then-at_literal-clause-gives t c = gives-anew (anew-after refl (reads-here (saw-not c.in_default.not-LIFETIME_IDENT (c.current.ensures.sees c.args.condition) and saw-not c.in_default.not-MINUS (c.current.ensures.sees c.args.condition) and saw-not c.in_default.not-IDENT (c.current.ensures.sees c.args.condition) and begun rules.literal (saw-before c.current.ensures.same (saw-so (c.at_literal.ensures.sees c.args.condition) c.if-at_literal.true)) nothing) (after-look _ c.current.ensures.same (after-look _ c.at_literal.ensures.same (c.literal_arg.ensures.reads c.args.condition)))))
+generic_args::generic_arg-returns-then-at_literal-clause-gives t c = gives-anew (anew-after refl (reads-here (saw-not c.in_default.not-LIFETIME_IDENT (c.current.ensures.sees c.args.condition) and saw-not c.in_default.not-MINUS (c.current.ensures.sees c.args.condition) and saw-not c.in_default.not-IDENT (c.current.ensures.sees c.args.condition) and begun rules.literal (saw-before c.current.ensures.peeks.same (saw-so (c.at_literal.ensures.sees c.args.condition) c.if-at_literal.true)) nothing) (after-look _ c.current.ensures.peeks.same (after-look _ c.at_literal.ensures.peeks.same (c.literal_arg.ensures.reads c.args.condition)))))
 
 pub generic_args::generic_arg-type_arg-requires : goal.generic_args::generic_arg-type_arg-requires
 unfolding look_of begins_below whole rule items statements expressions patterns types paths there_at shift passes is_silent begins in_mode anew row one_of any_of no_longer longest is_longer
-generic_args::generic_arg-type_arg-requires t c = (omega arith, (saw-after c.at_literal.ensures.same (saw-after c.current.ensures.same (begins-else rules.any_type rules.generic_arg refl (saw-not c.in_default.not-LIFETIME_IDENT (c.current.ensures.sees c.args.condition) and saw-not c.in_default.not-MINUS (c.current.ensures.sees c.args.condition) and saw-not c.in_default.not-IDENT (c.current.ensures.sees c.args.condition) and begun rules.literal (saw-before c.current.ensures.same (saw-so (c.at_literal.ensures.sees c.args.condition) c.if-at_literal.false)) nothing) c.requires.begins refl)), omega arith))
+generic_args::generic_arg-type_arg-requires t c = (omega arith, (saw-after c.at_literal.ensures.peeks.same (saw-after c.current.ensures.peeks.same (begins-else rules.any_type rules.generic_arg refl (saw-not c.in_default.not-LIFETIME_IDENT (c.current.ensures.sees c.args.condition) and saw-not c.in_default.not-MINUS (c.current.ensures.sees c.args.condition) and saw-not c.in_default.not-IDENT (c.current.ensures.sees c.args.condition) and begun rules.literal (saw-before c.current.ensures.peeks.same (saw-so (c.at_literal.ensures.sees c.args.condition) c.if-at_literal.false)) nothing) c.requires.begins refl)), omega arith))
 
 pub generic_args::generic_arg-returns-else-at_literal-clause-gives : goal.generic_args::generic_arg-returns-else-at_literal-clause-gives
 unfolding look_of begins_below whole rule items statements expressions patterns types paths there_at shift passes is_silent begins in_mode anew row one_of any_of no_longer longest is_longer
-generic_args::generic_arg-returns-else-at_literal-clause-gives t c = gives-anew (anew-after refl (reads-here (saw-not c.in_default.not-LIFETIME_IDENT (c.current.ensures.sees c.args.condition) and saw-not c.in_default.not-MINUS (c.current.ensures.sees c.args.condition) and saw-not c.in_default.not-IDENT (c.current.ensures.sees c.args.condition) and begun rules.literal (saw-before c.current.ensures.same (saw-so (c.at_literal.ensures.sees c.args.condition) c.if-at_literal.false)) nothing) (after-look _ c.current.ensures.same (after-look _ c.at_literal.ensures.same c.type_arg.ensures.reads))))
+generic_args::generic_arg-returns-else-at_literal-clause-gives t c = gives-anew (anew-after refl (reads-here (saw-not c.in_default.not-LIFETIME_IDENT (c.current.ensures.sees c.args.condition) and saw-not c.in_default.not-MINUS (c.current.ensures.sees c.args.condition) and saw-not c.in_default.not-IDENT (c.current.ensures.sees c.args.condition) and begun rules.literal (saw-before c.current.ensures.peeks.same (saw-so (c.at_literal.ensures.sees c.args.condition) c.if-at_literal.false)) nothing) (after-look _ c.current.ensures.peeks.same (after-look _ c.at_literal.ensures.peeks.same c.type_arg.ensures.reads))))
 
 pub generic_args::word_arg-assoc_type_arg-requires : goal.generic_args::word_arg-assoc_type_arg-requires
-generic_args::word_arg-assoc_type_arg-requires t c = (omega arith, omega (arith, c.at_second.ensures.some c.if-at_second.true (λ e. absurd (omega (arith, e))), c.at_second.ensures.left))
+generic_args::word_arg-assoc_type_arg-requires t c = (omega arith, omega (arith, c.at_second.ensures.some c.if-at_second.true (λ e. absurd (omega (arith, e))), c.at_second.ensures.peeks.left))
 
 pub generic_args::word_arg-returns-then-at_second-clause-reads : goal.generic_args::word_arg-returns-then-at_second-clause-reads
 unfolding look_of begins_below whole rule items statements expressions patterns types paths there_at shift passes is_silent begins in_mode anew row one_of any_of no_longer longest is_longer
-generic_args::word_arg-returns-then-at_second-clause-reads t c = reads-here (c.requires.word and saw-so (c.at_second.ensures.sees c.args.condition) c.if-at_second.true and nothing) (after-look _ c.at_second.ensures.same c.assoc_type_arg.ensures.reads)
+generic_args::word_arg-returns-then-at_second-clause-reads t c = reads-here (c.requires.word and saw-so (c.at_second.ensures.sees c.args.condition) c.if-at_second.true and nothing) (after-look _ c.at_second.ensures.peeks.same c.assoc_type_arg.ensures.reads)
 
 pub generic_args::word_arg-type_arg-requires : goal.generic_args::word_arg-type_arg-requires
 unfolding look_of begins_below whole rule items statements expressions patterns types paths there_at shift passes is_silent begins in_mode anew row one_of any_of no_longer longest is_longer
-generic_args::word_arg-type_arg-requires t c = (omega arith, (saw-after c.at_second.ensures.same (begins-here rules.any_type refl (c.requires.word and nothing) refl), omega arith))
+generic_args::word_arg-type_arg-requires t c = (omega arith, (saw-after c.at_second.ensures.peeks.same (begins-here rules.any_type refl (c.requires.word and nothing) refl), omega arith))
 
 pub generic_args::word_arg-returns-clause-reads : goal.generic_args::word_arg-returns-clause-reads
 unfolding look_of begins_below whole rule items statements expressions patterns types paths there_at shift passes is_silent begins in_mode anew row one_of any_of no_longer longest is_longer
-generic_args::word_arg-returns-clause-reads t c = reads-here (c.requires.word and saw-so (c.at_second.ensures.sees c.args.condition) c.if-at_second.false and nothing) (after-look _ c.at_second.ensures.same c.type_arg.ensures.reads)
+generic_args::word_arg-returns-clause-reads t c = reads-here (c.requires.word and saw-so (c.at_second.ensures.sees c.args.condition) c.if-at_second.false and nothing) (after-look _ c.at_second.ensures.peeks.same c.type_arg.ensures.reads)
 
 pub generic_args::assoc_type_arg-complete-requires : goal.generic_args::assoc_type_arg-complete-requires
 generic_args::assoc_type_arg-complete-requires t c = c.expect_type.ensures.reads.does.innermost _ ((c.take.ensures.reads true).does.innermost _ ((c.word_type.ensures.reads true).does.innermost _ c.start-node.ensures.marker))

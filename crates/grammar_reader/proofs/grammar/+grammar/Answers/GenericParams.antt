@@ -39,33 +39,33 @@ generic_params::bound-returns-clause-gives t c = λ cond. gives-anew (anew-after
 
 pub generic_params::lifetime_or_path-returns-in-LIFETIME_IDENT-clause-reads : goal.generic_params::lifetime_or_path-returns-in-LIFETIME_IDENT-clause-reads
 unfolding look_of begins_below whole rule items statements expressions patterns types paths there_at shift passes is_silent begins in_mode anew row one_of any_of no_longer longest is_longer
-generic_params::lifetime_or_path-returns-in-LIFETIME_IDENT-clause-reads t c = λ cond. reads-here (saw-arm c.in-LIFETIME_IDENT.is (c.current.ensures.sees cond) and nothing) (after-look cond c.current.ensures.same (reads-call cond (c.lifetime.ensures.gives cond)))
+generic_params::lifetime_or_path-returns-in-LIFETIME_IDENT-clause-reads t c = λ cond. reads-here (saw-arm c.in-LIFETIME_IDENT.is (c.current.ensures.sees cond) and nothing) (after-look cond c.current.ensures.peeks.same (reads-call cond (c.lifetime.ensures.gives cond)))
 
 pub generic_params::lifetime_or_path-returns-in-QUESTION-clause-reads : goal.generic_params::lifetime_or_path-returns-in-QUESTION-clause-reads
 unfolding look_of begins_below whole rule items statements expressions patterns types paths there_at shift passes is_silent begins in_mode anew row one_of any_of no_longer longest is_longer
-generic_params::lifetime_or_path-returns-in-QUESTION-clause-reads t c = λ cond. reads-here (saw-arm c.in-QUESTION.is (c.current.ensures.sees cond) and nothing) (after-look cond c.current.ensures.same (c.path_after_question.ensures.reads cond))
+generic_params::lifetime_or_path-returns-in-QUESTION-clause-reads t c = λ cond. reads-here (saw-arm c.in-QUESTION.is (c.current.ensures.sees cond) and nothing) (after-look cond c.current.ensures.peeks.same (c.path_after_question.ensures.reads cond))
 
 pub generic_params::lifetime_or_path-path_type-requires : goal.generic_params::lifetime_or_path-path_type-requires
 unfolding look_of begins_below whole rule items statements expressions patterns types paths there_at shift passes is_silent begins in_mode anew row one_of any_of no_longer longest is_longer
-generic_params::lifetime_or_path-path_type-requires t c = (omega arith, ((λ d. saw-after c.current.ensures.same (subst (λ (l : Look). Saw d l c.args.p.now true) (paths-begin modes.Type) (begins-else rules.type_path rules.bound refl (saw-not c.in_default.not-LIFETIME_IDENT (c.current.ensures.sees d) and saw-not c.in_default.not-QUESTION (c.current.ensures.sees d) and nothing) (c.requires.begins d) refl))), omega arith))
+generic_params::lifetime_or_path-path_type-requires t c = (omega arith, ((λ d. saw-after c.current.ensures.peeks.same (subst (λ (l : Look). Saw d l c.args.p.now true) (paths-begin modes.Type) (begins-else rules.type_path rules.bound refl (saw-not c.in_default.not-LIFETIME_IDENT (c.current.ensures.sees d) and saw-not c.in_default.not-QUESTION (c.current.ensures.sees d) and nothing) (c.requires.begins d) refl))), omega arith))
 
 pub generic_params::lifetime_or_path-returns-in_default-clause-reads : goal.generic_params::lifetime_or_path-returns-in_default-clause-reads
 unfolding look_of begins_below whole rule items statements expressions patterns types paths there_at shift passes is_silent begins in_mode anew row one_of any_of no_longer longest is_longer
-generic_params::lifetime_or_path-returns-in_default-clause-reads t c = λ cond. reads-here (saw-not c.in_default.not-LIFETIME_IDENT (c.current.ensures.sees cond) and saw-not c.in_default.not-QUESTION (c.current.ensures.sees cond) and (begun rules.type_path (begins-else rules.type_path rules.bound refl (saw-not c.in_default.not-LIFETIME_IDENT (c.current.ensures.sees cond) and saw-not c.in_default.not-QUESTION (c.current.ensures.sees cond) and nothing) (c.requires.begins cond) refl) nothing)) (after-look cond c.current.ensures.same (c.path_type.ensures.reads cond))
+generic_params::lifetime_or_path-returns-in_default-clause-reads t c = λ cond. reads-here (saw-not c.in_default.not-LIFETIME_IDENT (c.current.ensures.sees cond) and saw-not c.in_default.not-QUESTION (c.current.ensures.sees cond) and (begun rules.type_path (begins-else rules.type_path rules.bound refl (saw-not c.in_default.not-LIFETIME_IDENT (c.current.ensures.sees cond) and saw-not c.in_default.not-QUESTION (c.current.ensures.sees cond) and nothing) (c.requires.begins cond) refl) nothing)) (after-look cond c.current.ensures.peeks.same (c.path_type.ensures.reads cond))
 
 pub generic_params::path_after_question-returns-clause-reads : goal.generic_params::path_after_question-returns-clause-reads
 generic_params::path_after_question-returns-clause-reads t c = λ cond. (reads-then cond (c.take.ensures.reads cond) (c.expect_path_type.ensures.reads cond))
 
 pub generic_params::expect_path_type-path_type-requires : goal.generic_params::expect_path_type-path_type-requires
-generic_params::expect_path_type-path_type-requires t c = (omega arith, ((λ d. saw-after c.at_path.ensures.same (saw-so (c.at_path.ensures.sees d) c.if-at_path.true)), omega (arith, c.at_path.ensures.some c.if-at_path.true, c.at_path.ensures.left)))
+generic_params::expect_path_type-path_type-requires t c = (omega arith, ((λ d. saw-after c.at_path.ensures.peeks.same (saw-so (c.at_path.ensures.sees d) c.if-at_path.true)), omega (arith, c.at_path.ensures.some c.if-at_path.true, c.at_path.ensures.peeks.left)))
 
 pub generic_params::expect_path_type-returns-then-at_path-clause-reads : goal.generic_params::expect_path_type-returns-then-at_path-clause-reads
 unfolding look_of begins_below whole rule items statements expressions patterns types paths there_at shift passes is_silent begins in_mode anew row one_of any_of no_longer longest is_longer
-generic_params::expect_path_type-returns-then-at_path-clause-reads t c = λ cond. reads-here (begun rules.type_path (subst (λ (l : Look). Saw cond l c.args.p.now true) (sym (paths-begin modes.Type)) (saw-so (c.at_path.ensures.sees cond) c.if-at_path.true)) nothing) (after-look cond c.at_path.ensures.same (c.path_type.ensures.reads cond))
+generic_params::expect_path_type-returns-then-at_path-clause-reads t c = λ cond. reads-here (begun rules.type_path (subst (λ (l : Look). Saw cond l c.args.p.now true) (sym (paths-begin modes.Type)) (saw-so (c.at_path.ensures.sees cond) c.if-at_path.true)) nothing) (after-look cond c.at_path.ensures.peeks.same (c.path_type.ensures.reads cond))
 
 pub generic_params::expect_path_type-returns-clause-reads : goal.generic_params::expect_path_type-returns-clause-reads
 unfolding look_of begins_below whole rule items statements expressions patterns types paths there_at shift passes is_silent begins in_mode anew row one_of any_of no_longer longest is_longer
-generic_params::expect_path_type-returns-clause-reads t c = λ cond. reads-here (begun rules.type_path (subst (λ (l : Look). Saw cond l c.args.p.now false) (sym (paths-begin modes.Type)) (saw-so (c.at_path.ensures.sees cond) c.if-at_path.false)) nothing) (after-look cond c.at_path.ensures.same (c.error.ensures.reads cond))
+generic_params::expect_path_type-returns-clause-reads t c = λ cond. reads-here (begun rules.type_path (subst (λ (l : Look). Saw cond l c.args.p.now false) (sym (paths-begin modes.Type)) (saw-so (c.at_path.ensures.sees cond) c.if-at_path.false)) nothing) (after-look cond c.at_path.ensures.peeks.same (c.error.ensures.reads cond))
 
 pub generic_params::bounds-complete-requires : goal.generic_params::bounds-complete-requires
 generic_params::bounds-complete-requires t c = (c.opt_bounds.ensures.reads true).does.innermost _ c.start-list.ensures.marker
@@ -75,50 +75,50 @@ unfolding look_of begins_below whole rule items statements expressions patterns 
 generic_params::bounds-returns-clause-gives t c = λ cond. gives-anew (anew-after refl (reads-node cond c.start-list.ensures.opens (c.opt_bounds.ensures.reads cond) c.complete.ensures.closes))
 
 pub generic_params::opt_bounds-bound-requires : goal.generic_params::opt_bounds-bound-requires
-generic_params::opt_bounds-bound-requires t c = (omega arith, ((λ d. saw-after c.at_bound.ensures.same (saw-so (c.at_bound.ensures.sees d) c.if-at_bound.true)), omega (arith, c.at_bound.ensures.some c.if-at_bound.true, c.at_bound.ensures.left)))
+generic_params::opt_bounds-bound-requires t c = (omega arith, ((λ d. saw-after c.at_bound.ensures.peeks.same (saw-so (c.at_bound.ensures.sees d) c.if-at_bound.true)), omega (arith, c.at_bound.ensures.some c.if-at_bound.true, c.at_bound.ensures.peeks.left)))
 
 pub generic_params::opt_bounds-returns-then-at_bound-clause-reads : goal.generic_params::opt_bounds-returns-then-at_bound-clause-reads
 unfolding look_of begins_below whole rule items statements expressions patterns types paths there_at shift passes is_silent begins in_mode anew row one_of any_of no_longer longest is_longer
-generic_params::opt_bounds-returns-then-at_bound-clause-reads t c = λ cond. reads-here (begun rules.bound (saw-so (c.at_bound.ensures.sees cond) c.if-at_bound.true) nothing) (after-look cond c.at_bound.ensures.same (reads-then cond (reads-call cond (c.bound.ensures.gives cond)) (c.further_bounds.ensures.reads cond)))
+generic_params::opt_bounds-returns-then-at_bound-clause-reads t c = λ cond. reads-here (begun rules.bound (saw-so (c.at_bound.ensures.sees cond) c.if-at_bound.true) nothing) (after-look cond c.at_bound.ensures.peeks.same (reads-then cond (reads-call cond (c.bound.ensures.gives cond)) (c.further_bounds.ensures.reads cond)))
 
 pub generic_params::opt_bounds-returns-else-at_bound-clause-reads : goal.generic_params::opt_bounds-returns-else-at_bound-clause-reads
 unfolding look_of begins_below whole rule items statements expressions patterns types paths there_at shift passes is_silent begins in_mode anew row one_of any_of no_longer longest is_longer
-generic_params::opt_bounds-returns-else-at_bound-clause-reads t c = λ cond. reads-here (begun rules.bound (saw-so (c.at_bound.ensures.sees cond) c.if-at_bound.false) nothing) (reads-nothing cond c.at_bound.ensures.same)
+generic_params::opt_bounds-returns-else-at_bound-clause-reads t c = λ cond. reads-here (begun rules.bound (saw-so (c.at_bound.ensures.sees cond) c.if-at_bound.false) nothing) (reads-nothing cond c.at_bound.ensures.peeks.same)
 
 pub generic_params::further_bounds-turns-preserved : goal.generic_params::further_bounds-turns-preserved
 unfolding tokens look_of begins_below whole rule items statements expressions patterns types paths there_at shift passes is_silent begins in_mode anew row one_of any_of no_longer longest is_longer
 generic_params::further_bounds-turns-preserved t c = record {
   goes = λ cond. next-turn cond (One '+' ▸ ⁅ Bound ⁆) (ends-at-end cond (One '+' ▸ ⁅ Bound ⁆) refl) _ _ _ (c.turns.invariant.goes cond) (saw-so (c.at.ensures.sees cond) c.turns-test.true)
-      (after-look cond c.at.ensures.same (c.further_bound.ensures.reads cond)) (omega (arith, c.further_bound.ensures.left, c.at.ensures.left));
-  left = omega (arith, c.turns.invariant.left, c.further_bound.ensures.left, c.at.ensures.left);
-  looks = omega (arith, c.turns.invariant.looks, c.further_bound.ensures.looks, c.at.ensures.looks);
+      (after-look cond c.at.ensures.peeks.same (c.further_bound.ensures.reads cond)) (omega (arith, c.further_bound.ensures.takes.left, c.at.ensures.peeks.left));
+  left = omega (arith, c.turns.invariant.left, c.further_bound.ensures.takes.left, c.at.ensures.peeks.left);
+  looks = omega (arith, c.turns.invariant.looks, c.further_bound.ensures.takes.looks, c.at.ensures.peeks.looks);
 }
 
 pub generic_params::further_bounds-returns-clause-reads : goal.generic_params::further_bounds-returns-clause-reads
 unfolding look_of begins_below whole rule items statements expressions patterns types paths there_at shift passes is_silent begins in_mode anew row one_of any_of no_longer longest is_longer
-generic_params::further_bounds-returns-clause-reads t c = λ cond. last-turn cond (One '+' ▸ ⁅ Bound ⁆) (ends-at-end cond (One '+' ▸ ⁅ Bound ⁆) refl) _ _ _ (c.turns.invariant.goes cond) (saw-so (c.at.ensures.sees cond) c.turns-test.false) c.at.ensures.same
+generic_params::further_bounds-returns-clause-reads t c = λ cond. last-turn cond (One '+' ▸ ⁅ Bound ⁆) (ends-at-end cond (One '+' ▸ ⁅ Bound ⁆) refl) _ _ _ (c.turns.invariant.goes cond) (saw-so (c.at.ensures.sees cond) c.turns-test.false) c.at.ensures.peeks.same
 
 pub generic_params::further_bound-returns-clause-reads : goal.generic_params::further_bound-returns-clause-reads
 generic_params::further_bound-returns-clause-reads t c = λ cond. (reads-then cond (c.take.ensures.reads cond) (c.opt_bound.ensures.reads cond))
 
 pub generic_params::opt_bound-bound-requires : goal.generic_params::opt_bound-bound-requires
-generic_params::opt_bound-bound-requires t c = (omega arith, ((λ d. saw-after c.at_bound.ensures.same (saw-so (c.at_bound.ensures.sees d) c.if-at_bound.true)), omega (arith, c.at_bound.ensures.some c.if-at_bound.true, c.at_bound.ensures.left)))
+generic_params::opt_bound-bound-requires t c = (omega arith, ((λ d. saw-after c.at_bound.ensures.peeks.same (saw-so (c.at_bound.ensures.sees d) c.if-at_bound.true)), omega (arith, c.at_bound.ensures.some c.if-at_bound.true, c.at_bound.ensures.peeks.left)))
 
 pub generic_params::opt_bound-returns-then-at_bound-clause-reads : goal.generic_params::opt_bound-returns-then-at_bound-clause-reads
 unfolding look_of begins_below whole rule items statements expressions patterns types paths there_at shift passes is_silent begins in_mode anew row one_of any_of no_longer longest is_longer
-generic_params::opt_bound-returns-then-at_bound-clause-reads t c = λ cond. reads-here (begun rules.bound (saw-so (c.at_bound.ensures.sees cond) c.if-at_bound.true) nothing) (after-look cond c.at_bound.ensures.same (reads-call cond (c.bound.ensures.gives cond)))
+generic_params::opt_bound-returns-then-at_bound-clause-reads t c = λ cond. reads-here (begun rules.bound (saw-so (c.at_bound.ensures.sees cond) c.if-at_bound.true) nothing) (after-look cond c.at_bound.ensures.peeks.same (reads-call cond (c.bound.ensures.gives cond)))
 
 pub generic_params::opt_bound-returns-else-at_bound-clause-reads : goal.generic_params::opt_bound-returns-else-at_bound-clause-reads
 unfolding look_of begins_below whole rule items statements expressions patterns types paths there_at shift passes is_silent begins in_mode anew row one_of any_of no_longer longest is_longer
-generic_params::opt_bound-returns-else-at_bound-clause-reads t c = λ cond. reads-here (begun rules.bound (saw-so (c.at_bound.ensures.sees cond) c.if-at_bound.false) nothing) (reads-nothing cond c.at_bound.ensures.same)
+generic_params::opt_bound-returns-else-at_bound-clause-reads t c = λ cond. reads-here (begun rules.bound (saw-so (c.at_bound.ensures.sees cond) c.if-at_bound.false) nothing) (reads-nothing cond c.at_bound.ensures.peeks.same)
 
 pub generic_params::bounds_after_colon-returns-then-at-clause-reads : goal.generic_params::bounds_after_colon-returns-then-at-clause-reads
 unfolding look_of begins_below whole rule items statements expressions patterns types paths there_at shift passes is_silent begins in_mode anew row one_of any_of no_longer longest is_longer
-generic_params::bounds_after_colon-returns-then-at-clause-reads t c = λ cond. reads-here (saw-so (c.at.ensures.sees cond) c.if-at.true and nothing) (after-look cond c.at.ensures.same (reads-then cond (c.take.ensures.reads cond) (reads-call cond (c.bounds.ensures.gives cond))))
+generic_params::bounds_after_colon-returns-then-at-clause-reads t c = λ cond. reads-here (saw-so (c.at.ensures.sees cond) c.if-at.true and nothing) (after-look cond c.at.ensures.peeks.same (reads-then cond (c.take.ensures.reads cond) (reads-call cond (c.bounds.ensures.gives cond))))
 
 pub generic_params::bounds_after_colon-returns-else-at-clause-reads : goal.generic_params::bounds_after_colon-returns-else-at-clause-reads
 unfolding look_of begins_below whole rule items statements expressions patterns types paths there_at shift passes is_silent begins in_mode anew row one_of any_of no_longer longest is_longer
-generic_params::bounds_after_colon-returns-else-at-clause-reads t c = λ cond. reads-here (saw-so (c.at.ensures.sees cond) c.if-at.false and nothing) (reads-nothing cond c.at.ensures.same)
+generic_params::bounds_after_colon-returns-else-at-clause-reads t c = λ cond. reads-here (saw-so (c.at.ensures.sees cond) c.if-at.false and nothing) (reads-nothing cond c.at.ensures.peeks.same)
 
 pub generic_params::lifetime_param-complete-requires : goal.generic_params::lifetime_param-complete-requires
 generic_params::lifetime_param-complete-requires t c = (c.bounds_after_colon.ensures.reads true).does.innermost _ ((c.lifetime.ensures.gives true).does.innermost _ c.start-node.ensures.marker)
@@ -134,23 +134,23 @@ generic_params::type_param-returns-clause-reads t c = reads-node _ c.start-node.
 
 pub generic_params::generic_param-returns-then-at-clause-gives : goal.generic_params::generic_param-returns-then-at-clause-gives
 unfolding look_of begins_below whole rule items statements expressions patterns types paths there_at shift passes is_silent begins in_mode anew row one_of any_of no_longer longest is_longer
-generic_params::generic_param-returns-then-at-clause-gives t c = gives-anew (anew-after refl (reads-here (saw-so (c.at.ensures.sees c.args.condition) c.if-at.true and nothing) (after-look _ c.at.ensures.same (c.lifetime_param.ensures.reads c.args.condition))))
+generic_params::generic_param-returns-then-at-clause-gives t c = gives-anew (anew-after refl (reads-here (saw-so (c.at.ensures.sees c.args.condition) c.if-at.true and nothing) (after-look _ c.at.ensures.peeks.same (c.lifetime_param.ensures.reads c.args.condition))))
 
 pub generic_params::generic_param-returns-clause-gives : goal.generic_params::generic_param-returns-clause-gives
 unfolding look_of begins_below whole rule items statements expressions patterns types paths there_at shift passes is_silent begins in_mode anew row one_of any_of no_longer longest is_longer
-generic_params::generic_param-returns-clause-gives t c = gives-anew (anew-after refl (reads-here (saw-so (c.at.ensures.sees c.args.condition) c.if-at.false and nothing) (after-look _ c.at.ensures.same c.type_param.ensures.reads)))
+generic_params::generic_param-returns-clause-gives t c = gives-anew (anew-after refl (reads-here (saw-so (c.at.ensures.sees c.args.condition) c.if-at.false and nothing) (after-look _ c.at.ensures.peeks.same c.type_param.ensures.reads)))
 
 pub generic_params::lifetime_or_type-any_type-requires : goal.generic_params::lifetime_or_type-any_type-requires
 unfolding look_of begins_below whole rule items statements expressions patterns types paths there_at shift passes is_silent begins in_mode anew row one_of any_of no_longer longest is_longer
-generic_params::lifetime_or_type-any_type-requires t c = (omega arith, (saw-after c.at.ensures.same (begins-else rules.any_type rules.where_pred refl (saw-so (c.at.ensures.sees c.args.condition) c.if-at.false and nothing) c.requires.begins refl), omega arith))
+generic_params::lifetime_or_type-any_type-requires t c = (omega arith, (saw-after c.at.ensures.peeks.same (begins-else rules.any_type rules.where_pred refl (saw-so (c.at.ensures.sees c.args.condition) c.if-at.false and nothing) c.requires.begins refl), omega arith))
 
 pub generic_params::lifetime_or_type-returns-then-at-clause-reads : goal.generic_params::lifetime_or_type-returns-then-at-clause-reads
 unfolding look_of begins_below whole rule items statements expressions patterns types paths there_at shift passes is_silent begins in_mode anew row one_of any_of no_longer longest is_longer
-generic_params::lifetime_or_type-returns-then-at-clause-reads t c = reads-here (saw-so (c.at.ensures.sees c.args.condition) c.if-at.true and nothing) (after-look _ c.at.ensures.same (reads-call _ (c.lifetime.ensures.gives c.args.condition)))
+generic_params::lifetime_or_type-returns-then-at-clause-reads t c = reads-here (saw-so (c.at.ensures.sees c.args.condition) c.if-at.true and nothing) (after-look _ c.at.ensures.peeks.same (reads-call _ (c.lifetime.ensures.gives c.args.condition)))
 
 pub generic_params::lifetime_or_type-returns-clause-reads : goal.generic_params::lifetime_or_type-returns-clause-reads
 unfolding look_of begins_below whole rule items statements expressions patterns types paths there_at shift passes is_silent begins in_mode anew row one_of any_of no_longer longest is_longer
-generic_params::lifetime_or_type-returns-clause-reads t c = reads-here (saw-so (c.at.ensures.sees c.args.condition) c.if-at.false and nothing) (after-look _ c.at.ensures.same (reads-call _ c.any_type.ensures.gives))
+generic_params::lifetime_or_type-returns-clause-reads t c = reads-here (saw-so (c.at.ensures.sees c.args.condition) c.if-at.false and nothing) (after-look _ c.at.ensures.peeks.same (reads-call _ c.any_type.ensures.gives))
 
 pub generic_params::where_pred-lifetime_or_type-requires : goal.generic_params::where_pred-lifetime_or_type-requires
 generic_params::where_pred-lifetime_or_type-requires t c = (omega arith, (saw-inside c.start-node.ensures.opens c.requires.begins, omega arith))
@@ -170,39 +170,39 @@ unfolding look_of begins_below whole rule items statements expressions patterns 
 generic_params::where_clause-returns-clause-gives t c = gives-anew (anew-after refl (reads-node _ c.start-node.ensures.opens (reads-then _ (c.take.ensures.reads c.args.condition) c.opt_preds.ensures.reads) c.complete.ensures.closes))
 
 pub generic_params::opt_preds-where_pred-requires : goal.generic_params::opt_preds-where_pred-requires
-generic_params::opt_preds-where_pred-requires t c = (omega arith, ((saw-after c.at_where_pred.ensures.same (saw-so (c.at_where_pred.ensures.sees c.args.condition) c.if-at_where_pred.true)), omega (arith, c.at_where_pred.ensures.some c.if-at_where_pred.true, c.at_where_pred.ensures.left)))
+generic_params::opt_preds-where_pred-requires t c = (omega arith, ((saw-after c.at_where_pred.ensures.peeks.same (saw-so (c.at_where_pred.ensures.sees c.args.condition) c.if-at_where_pred.true)), omega (arith, c.at_where_pred.ensures.some c.if-at_where_pred.true, c.at_where_pred.ensures.peeks.left)))
 
 pub generic_params::opt_preds-returns-then-at_where_pred-clause-reads : goal.generic_params::opt_preds-returns-then-at_where_pred-clause-reads
 unfolding look_of begins_below whole rule items statements expressions patterns types paths there_at shift passes is_silent begins in_mode anew row one_of any_of no_longer longest is_longer
-generic_params::opt_preds-returns-then-at_where_pred-clause-reads t c = reads-here (begun rules.where_pred (saw-so (c.at_where_pred.ensures.sees c.args.condition) c.if-at_where_pred.true) nothing) (after-look _ c.at_where_pred.ensures.same (reads-then _ (reads-call _ c.where_pred.ensures.gives) c.further_preds.ensures.reads))
+generic_params::opt_preds-returns-then-at_where_pred-clause-reads t c = reads-here (begun rules.where_pred (saw-so (c.at_where_pred.ensures.sees c.args.condition) c.if-at_where_pred.true) nothing) (after-look _ c.at_where_pred.ensures.peeks.same (reads-then _ (reads-call _ c.where_pred.ensures.gives) c.further_preds.ensures.reads))
 
 pub generic_params::opt_preds-returns-else-at_where_pred-clause-reads : goal.generic_params::opt_preds-returns-else-at_where_pred-clause-reads
 unfolding look_of begins_below whole rule items statements expressions patterns types paths there_at shift passes is_silent begins in_mode anew row one_of any_of no_longer longest is_longer
-generic_params::opt_preds-returns-else-at_where_pred-clause-reads t c = reads-here (begun rules.where_pred (saw-so (c.at_where_pred.ensures.sees c.args.condition) c.if-at_where_pred.false) nothing) (reads-nothing _ c.at_where_pred.ensures.same)
+generic_params::opt_preds-returns-else-at_where_pred-clause-reads t c = reads-here (begun rules.where_pred (saw-so (c.at_where_pred.ensures.sees c.args.condition) c.if-at_where_pred.false) nothing) (reads-nothing _ c.at_where_pred.ensures.peeks.same)
 
 pub generic_params::further_preds-turns-preserved : goal.generic_params::further_preds-turns-preserved
 unfolding tokens look_of begins_below whole rule items statements expressions patterns types paths there_at shift passes is_silent begins in_mode anew row one_of any_of no_longer longest is_longer
 generic_params::further_preds-turns-preserved t c = record {
   goes = next-turn c.args.condition (One 'comma' ▸ ⁅ WherePred ⁆) (ends-at-end c.args.condition (One 'comma' ▸ ⁅ WherePred ⁆) refl) _ _ _ c.turns.invariant.goes (saw-so (c.at.ensures.sees c.args.condition) c.turns-test.true)
-      (after-look c.args.condition c.at.ensures.same c.further_pred.ensures.reads) (omega (arith, c.further_pred.ensures.left, c.at.ensures.left));
-  left = omega (arith, c.turns.invariant.left, c.further_pred.ensures.left, c.at.ensures.left);
-  looks = omega (arith, c.turns.invariant.looks, c.further_pred.ensures.looks, c.at.ensures.looks);
+      (after-look c.args.condition c.at.ensures.peeks.same c.further_pred.ensures.reads) (omega (arith, c.further_pred.ensures.takes.left, c.at.ensures.peeks.left));
+  left = omega (arith, c.turns.invariant.left, c.further_pred.ensures.takes.left, c.at.ensures.peeks.left);
+  looks = omega (arith, c.turns.invariant.looks, c.further_pred.ensures.takes.looks, c.at.ensures.peeks.looks);
 }
 
 pub generic_params::further_preds-returns-clause-reads : goal.generic_params::further_preds-returns-clause-reads
 unfolding look_of begins_below whole rule items statements expressions patterns types paths there_at shift passes is_silent begins in_mode anew row one_of any_of no_longer longest is_longer
-generic_params::further_preds-returns-clause-reads t c = last-turn c.args.condition (One 'comma' ▸ ⁅ WherePred ⁆) (ends-at-end c.args.condition (One 'comma' ▸ ⁅ WherePred ⁆) refl) _ _ _ c.turns.invariant.goes (saw-so (c.at.ensures.sees c.args.condition) c.turns-test.false) c.at.ensures.same
+generic_params::further_preds-returns-clause-reads t c = last-turn c.args.condition (One 'comma' ▸ ⁅ WherePred ⁆) (ends-at-end c.args.condition (One 'comma' ▸ ⁅ WherePred ⁆) refl) _ _ _ c.turns.invariant.goes (saw-so (c.at.ensures.sees c.args.condition) c.turns-test.false) c.at.ensures.peeks.same
 
 pub generic_params::further_pred-returns-clause-reads : goal.generic_params::further_pred-returns-clause-reads
 generic_params::further_pred-returns-clause-reads t c = (reads-then _ (c.take.ensures.reads c.args.condition) c.opt_pred.ensures.reads)
 
 pub generic_params::opt_pred-where_pred-requires : goal.generic_params::opt_pred-where_pred-requires
-generic_params::opt_pred-where_pred-requires t c = (omega arith, ((saw-after c.at_where_pred.ensures.same (saw-so (c.at_where_pred.ensures.sees c.args.condition) c.if-at_where_pred.true)), omega (arith, c.at_where_pred.ensures.some c.if-at_where_pred.true, c.at_where_pred.ensures.left)))
+generic_params::opt_pred-where_pred-requires t c = (omega arith, ((saw-after c.at_where_pred.ensures.peeks.same (saw-so (c.at_where_pred.ensures.sees c.args.condition) c.if-at_where_pred.true)), omega (arith, c.at_where_pred.ensures.some c.if-at_where_pred.true, c.at_where_pred.ensures.peeks.left)))
 
 pub generic_params::opt_pred-returns-then-at_where_pred-clause-reads : goal.generic_params::opt_pred-returns-then-at_where_pred-clause-reads
 unfolding look_of begins_below whole rule items statements expressions patterns types paths there_at shift passes is_silent begins in_mode anew row one_of any_of no_longer longest is_longer
-generic_params::opt_pred-returns-then-at_where_pred-clause-reads t c = reads-here (begun rules.where_pred (saw-so (c.at_where_pred.ensures.sees c.args.condition) c.if-at_where_pred.true) nothing) (after-look _ c.at_where_pred.ensures.same (reads-call _ c.where_pred.ensures.gives))
+generic_params::opt_pred-returns-then-at_where_pred-clause-reads t c = reads-here (begun rules.where_pred (saw-so (c.at_where_pred.ensures.sees c.args.condition) c.if-at_where_pred.true) nothing) (after-look _ c.at_where_pred.ensures.peeks.same (reads-call _ c.where_pred.ensures.gives))
 
 pub generic_params::opt_pred-returns-else-at_where_pred-clause-reads : goal.generic_params::opt_pred-returns-else-at_where_pred-clause-reads
 unfolding look_of begins_below whole rule items statements expressions patterns types paths there_at shift passes is_silent begins in_mode anew row one_of any_of no_longer longest is_longer
-generic_params::opt_pred-returns-else-at_where_pred-clause-reads t c = reads-here (begun rules.where_pred (saw-so (c.at_where_pred.ensures.sees c.args.condition) c.if-at_where_pred.false) nothing) (reads-nothing _ c.at_where_pred.ensures.same)
+generic_params::opt_pred-returns-else-at_where_pred-clause-reads t c = reads-here (begun rules.where_pred (saw-so (c.at_where_pred.ensures.sees c.args.condition) c.if-at_where_pred.false) nothing) (reads-nothing _ c.at_where_pred.ensures.peeks.same)

@@ -31,22 +31,29 @@ use Rattle.grammar_reader.proofs.grammar.+grammar.Goals as goal
 
 pub items::item-attributed_item-requires : goal.items::item-attributed_item-requires
 unfolding look_of begins_below whole rule items statements expressions patterns types paths there_at shift passes is_silent begins in_mode anew row one_of any_of no_longer longest is_longer
-items::item-attributed_item-requires t c = (omega arith, ((λ d. saw-after c.current.ensures.same (saw-told (saw-arm c.in-POUND.is (c.current.ensures.sees d) and nothing) refl)), omega arith))
+items::item-attributed_item-requires t c = (omega arith, ((λ d. saw-after c.current.ensures.peeks.same (saw-told (saw-arm c.in-POUND.is (c.current.ensures.sees d) and nothing) refl)), omega arith))
 
 pub items::item-visible_item-requires : goal.items::item-visible_item-requires
-items::item-visible_item-requires t c = (omega arith, ((λ d. saw-after c.current.ensures.same (saw-arm c.in-PUB_KW.is (c.current.ensures.sees d))), omega arith))
+items::item-visible_item-requires t c = (omega arith, ((λ d. saw-after c.current.ensures.peeks.same (saw-arm c.in-PUB_KW.is (c.current.ensures.sees d))), omega arith))
 
 pub items::item-bare_item-requires : goal.items::item-bare_item-requires
-items::item-bare_item-requires t c = (omega arith, ((λ d. saw-after c.current.ensures.same (saw-not c.in_default.not-POUND (c.current.ensures.sees d))), ((λ d. saw-after c.current.ensures.same (saw-not c.in_default.not-PUB_KW (c.current.ensures.sees d))), omega arith)))
+items::item-bare_item-requires t c = (
+  omega arith,
+  record {
+    plain = λ d. saw-after c.current.ensures.peeks.same (saw-not c.in_default.not-POUND (c.current.ensures.sees d));
+    hidden = λ d. saw-after c.current.ensures.peeks.same (saw-not c.in_default.not-PUB_KW (c.current.ensures.sees d));
+    some = omega arith;
+  },
+)
 
 pub items::item-returns-in-POUND-clause-gives : goal.items::item-returns-in-POUND-clause-gives
-items::item-returns-in-POUND-clause-gives t c = gives-anew (anew-look c.current.ensures.same c.attributed_item.ensures.anew)
+items::item-returns-in-POUND-clause-gives t c = gives-anew (anew-look c.current.ensures.peeks.same c.attributed_item.ensures.anew)
 
 pub items::item-returns-in-PUB_KW-clause-gives : goal.items::item-returns-in-PUB_KW-clause-gives
-items::item-returns-in-PUB_KW-clause-gives t c = gives-anew (anew-look c.current.ensures.same c.visible_item.ensures.anew)
+items::item-returns-in-PUB_KW-clause-gives t c = gives-anew (anew-look c.current.ensures.peeks.same c.visible_item.ensures.anew)
 
 pub items::item-returns-in_default-clause-gives : goal.items::item-returns-in_default-clause-gives
-items::item-returns-in_default-clause-gives t c = gives-anew (anew-look c.current.ensures.same c.bare_item.ensures.anew)
+items::item-returns-in_default-clause-gives t c = gives-anew (anew-look c.current.ensures.peeks.same c.bare_item.ensures.anew)
 
 pub items::attributed_item-attributes_and_visibility-requires : goal.items::attributed_item-attributes_and_visibility-requires
 items::attributed_item-attributes_and_visibility-requires t c = (omega arith, ((λ d. saw-inside c.start-item.ensures.opens (c.requires.begins d)), omega arith))
@@ -58,12 +65,12 @@ pub items::attributed_item-returns-clause-anew : goal.items::attributed_item-ret
 unfolding tokens fresh read look_of begins_below whole rule items statements expressions patterns types paths there_at shift passes is_silent begins in_mode anew row one_of any_of no_longer longest is_longer
 items::attributed_item-returns-clause-anew t c =
     let seen : Saw c.args.condition (begins looks (Call rules.attribute)) c.start-item.new.p true = saw-inside c.start-item.ensures.opens (c.requires.begins c.args.condition) in
-    anew-apart (anew-given c.start-item.ensures.opens (c.attributes_and_visibility.ensures.reads c.args.condition) (λ s e. option-keeps rules.visibility c.args.condition refl (reads c.args.condition (Star (Call rules.attribute)) (fresh s)) (turns-give rules.attribute c.args.condition refl (fresh s) (omega (arith, c.requires.some, c.start-item.ensures.left, ap (λ (ts : List Token). length ts) e)) (seen.at (fresh s) e))) (where-more c.body.ensures.completes))
+    anew-apart (anew-given c.start-item.ensures.opens (c.attributes_and_visibility.ensures.reads c.args.condition) (λ s e. option-keeps rules.visibility c.args.condition refl (reads c.args.condition (Star (Call rules.attribute)) (fresh s)) (turns-give rules.attribute c.args.condition refl (fresh s) (omega (arith, c.requires.some, c.start-item.ensures.stays.left, ap (λ (ts : List Token). length ts) e)) (seen.at (fresh s) e))) (where-more c.body.ensures.completes))
 
 pub items::attributes_and_visibility-returns-clause-reads : goal.items::attributes_and_visibility-returns-clause-reads
 unfolding tokens look_of begins_below whole rule items statements expressions patterns types paths there_at shift passes is_silent begins in_mode anew row one_of any_of no_longer longest is_longer
 items::attributes_and_visibility-returns-clause-reads t c = λ cond.
-    let first = next-turn cond (Call rules.attribute) (ends-at-end cond (Call rules.attribute) refl) _ _ _ first-turn (c.requires.begins cond) (reads-call cond (c.attribute.ensures.gives cond)) (omega (arith, c.attribute.ensures.left)) in
+    let first = next-turn cond (Call rules.attribute) (ends-at-end cond (Call rules.attribute) refl) _ _ _ first-turn (c.requires.begins cond) (reads-call cond (c.attribute.ensures.gives cond)) (omega (arith, c.attribute.ensures.takes.left)) in
     reads-then cond (first.rest _ (c.attributes.ensures.reads cond)) (c.opt_visibility.ensures.reads cond)
 
 pub items::visible_item-body-requires : goal.items::visible_item-body-requires
@@ -74,125 +81,129 @@ unfolding look_of begins_below whole rule items statements expressions patterns 
 items::visible_item-returns-clause-anew t c = anew-here (c.requires.begins c.args.condition and nothing) (anew-given c.start-item.ensures.opens (reads-call _ (c.visibility.ensures.gives c.args.condition)) (λ s e. call-gives rules.visibility c.args.condition refl (fresh s)) (where-more c.body.ensures.completes))
 
 pub items::bare_item-body-requires : goal.items::bare_item-body-requires
-items::bare_item-body-requires t c = (omega arith, ((λ e. omega (arith, c.requires.some, c.start-item.ensures.left)), c.start-item.ensures.marker))
+items::bare_item-body-requires t c = (omega arith, ((λ e. omega (arith, c.requires.bare.some, c.start-item.ensures.stays.left)), c.start-item.ensures.marker))
 
 pub items::bare_item-returns-clause-anew : goal.items::bare_item-returns-clause-anew
 unfolding look_of begins_below whole rule items statements expressions patterns types paths there_at shift passes is_silent begins in_mode anew row one_of any_of no_longer longest is_longer
-items::bare_item-returns-clause-anew t c = anew-here (c.requires.plain c.args.condition and c.requires.hidden c.args.condition and nothing) (anew-nothing c.start-item.ensures.opens (where-more c.body.ensures.completes))
+items::bare_item-returns-clause-anew t c = anew-here (c.requires.bare.plain c.args.condition and c.requires.bare.hidden c.args.condition and nothing) (anew-nothing c.start-item.ensures.opens (where-more c.body.ensures.completes))
 
-pub items::bare_item-returns-clause-left : goal.items::bare_item-returns-clause-left
-items::bare_item-returns-clause-left t c = omega (arith, c.start-item.ensures.left, c.body.ensures.takes refl)
-
-pub items::bare_item-returns-clause-looks : goal.items::bare_item-returns-clause-looks
-items::bare_item-returns-clause-looks t c = omega (arith, c.start-item.ensures.looks, c.body.ensures.pays refl)
+pub items::bare_item-returns-clause-takes : goal.items::bare_item-returns-clause-takes
+items::bare_item-returns-clause-takes t c = record {
+  left = omega (arith, c.start-item.ensures.stays.left, (c.body.ensures.takes.takes refl).left);
+  looks = omega (arith, c.start-item.ensures.stays.looks, (c.body.ensures.takes.takes refl).looks);
+}
 
 pub items::attributes-turns-preserved : goal.items::attributes-turns-preserved
 unfolding tokens look_of begins_below whole rule items statements expressions patterns types paths there_at shift passes is_silent begins in_mode anew row one_of any_of no_longer longest is_longer
 items::attributes-turns-preserved t c = record {
-  innermost = λ n i. (c.attribute.ensures.gives true).does.innermost n (c.at.ensures.same.innermost n (c.turns.invariant.innermost n i));
+  innermost = λ n i. (c.attribute.ensures.gives true).does.innermost n (c.at.ensures.peeks.same.innermost n (c.turns.invariant.innermost n i));
   goes = λ cond.
       next-turn cond (Call rules.attribute) (ends-at-end cond (Call rules.attribute) refl) _ _ _ (c.turns.invariant.goes cond) (saw-told (saw-so (c.at.ensures.sees cond) c.turns-test.true and nothing) refl)
-      (after-look cond c.at.ensures.same (reads-call cond (c.attribute.ensures.gives cond))) (omega (arith, c.attribute.ensures.left, c.at.ensures.left));
-  left = omega (arith, c.turns.invariant.left, c.attribute.ensures.left, c.at.ensures.left);
-  looks = omega (arith, c.turns.invariant.looks, c.attribute.ensures.looks, c.at.ensures.looks);
+      (after-look cond c.at.ensures.peeks.same (reads-call cond (c.attribute.ensures.gives cond))) (omega (arith, c.attribute.ensures.takes.left, c.at.ensures.peeks.left));
+  left = omega (arith, c.turns.invariant.left, c.attribute.ensures.takes.left, c.at.ensures.peeks.left);
+  looks = omega (arith, c.turns.invariant.looks, c.attribute.ensures.takes.looks, c.at.ensures.peeks.looks);
 }
 
 pub items::attributes-returns-clause-reads : goal.items::attributes-returns-clause-reads
 unfolding look_of begins_below whole rule items statements expressions patterns types paths there_at shift passes is_silent begins in_mode anew row one_of any_of no_longer longest is_longer
-items::attributes-returns-clause-reads t c = λ cond. last-turn cond (Call rules.attribute) (ends-at-end cond (Call rules.attribute) refl) _ _ _ (c.turns.invariant.goes cond) (saw-told (saw-so (c.at.ensures.sees cond) c.turns-test.false and nothing) refl) c.at.ensures.same
+items::attributes-returns-clause-reads t c = λ cond. last-turn cond (Call rules.attribute) (ends-at-end cond (Call rules.attribute) refl) _ _ _ (c.turns.invariant.goes cond) (saw-told (saw-so (c.at.ensures.sees cond) c.turns-test.false and nothing) refl) c.at.ensures.peeks.same
 
 pub items::body-module-requires : goal.items::body-module-requires
-items::body-module-requires t c = (omega arith, (omega (arith, c.current.ensures.left, c.current.ensures.some (λ e. absurd (omega (arith, sym (ap raw_of c.in-MOD_KW.is) ∙ e)))), c.current.ensures.same.innermost _ c.requires.innermost))
+items::body-module-requires t c = (omega arith, (omega (arith, c.current.ensures.peeks.left, c.current.ensures.some (λ e. absurd (omega (arith, sym (ap raw_of c.in-MOD_KW.is) ∙ e)))), c.current.ensures.peeks.same.innermost _ c.requires.innermost))
 
 pub items::body-returns-in-MOD_KW-clause-completes : goal.items::body-returns-in-MOD_KW-clause-completes
 unfolding look_of begins_below whole rule items statements expressions patterns types paths there_at shift passes is_silent begins in_mode anew row one_of any_of no_longer longest is_longer
-items::body-returns-in-MOD_KW-clause-completes t c = where-here (saw-arm c.in-MOD_KW.is (c.current.ensures.sees c.args.condition) and nothing) (where-look c.current.ensures.same (where-any (c.module.ensures.completes c.args.condition)))
+items::body-returns-in-MOD_KW-clause-completes t c = where-here (saw-arm c.in-MOD_KW.is (c.current.ensures.sees c.args.condition) and nothing) (where-look c.current.ensures.peeks.same (where-any (c.module.ensures.completes c.args.condition)))
 
 pub items::body-use_item-requires : goal.items::body-use_item-requires
-items::body-use_item-requires t c = record { some = omega (arith, c.current.ensures.left, c.current.ensures.some (λ e. absurd (omega (arith, sym (ap raw_of c.in-USE_KW.is) ∙ e)))); innermost = c.current.ensures.same.innermost _ c.requires.innermost }
+items::body-use_item-requires t c = record { some = omega (arith, c.current.ensures.peeks.left, c.current.ensures.some (λ e. absurd (omega (arith, sym (ap raw_of c.in-USE_KW.is) ∙ e)))); innermost = c.current.ensures.peeks.same.innermost _ c.requires.innermost }
 
 pub items::body-returns-in-USE_KW-clause-completes : goal.items::body-returns-in-USE_KW-clause-completes
 unfolding look_of begins_below whole rule items statements expressions patterns types paths there_at shift passes is_silent begins in_mode anew row one_of any_of no_longer longest is_longer
-items::body-returns-in-USE_KW-clause-completes t c = where-here (saw-arm c.in-USE_KW.is (c.current.ensures.sees c.args.condition) and nothing) (where-look c.current.ensures.same (where-any (c.use_item.ensures.completes c.args.condition)))
+items::body-returns-in-USE_KW-clause-completes t c = where-here (saw-arm c.in-USE_KW.is (c.current.ensures.sees c.args.condition) and nothing) (where-look c.current.ensures.peeks.same (where-any (c.use_item.ensures.completes c.args.condition)))
 
 pub items::body-struct_item-requires : goal.items::body-struct_item-requires
-items::body-struct_item-requires t c = (omega arith, (omega (arith, c.current.ensures.left, c.current.ensures.some (λ e. absurd (omega (arith, sym (ap raw_of c.in-STRUCT_KW.is) ∙ e)))), c.current.ensures.same.innermost _ c.requires.innermost))
+items::body-struct_item-requires t c = (omega arith, (omega (arith, c.current.ensures.peeks.left, c.current.ensures.some (λ e. absurd (omega (arith, sym (ap raw_of c.in-STRUCT_KW.is) ∙ e)))), c.current.ensures.peeks.same.innermost _ c.requires.innermost))
 
 pub items::body-returns-in-STRUCT_KW-clause-completes : goal.items::body-returns-in-STRUCT_KW-clause-completes
 unfolding look_of begins_below whole rule items statements expressions patterns types paths there_at shift passes is_silent begins in_mode anew row one_of any_of no_longer longest is_longer
-items::body-returns-in-STRUCT_KW-clause-completes t c = where-here (saw-arm c.in-STRUCT_KW.is (c.current.ensures.sees c.args.condition) and nothing) (where-look c.current.ensures.same (where-any c.struct_item.ensures.completes))
+items::body-returns-in-STRUCT_KW-clause-completes t c = where-here (saw-arm c.in-STRUCT_KW.is (c.current.ensures.sees c.args.condition) and nothing) (where-look c.current.ensures.peeks.same (where-any c.struct_item.ensures.completes))
 
 pub items::body-enum_item-requires : goal.items::body-enum_item-requires
-items::body-enum_item-requires t c = (omega arith, (omega (arith, c.current.ensures.left, c.current.ensures.some (λ e. absurd (omega (arith, sym (ap raw_of c.in-ENUM_KW.is) ∙ e)))), c.current.ensures.same.innermost _ c.requires.innermost))
+items::body-enum_item-requires t c = (omega arith, (omega (arith, c.current.ensures.peeks.left, c.current.ensures.some (λ e. absurd (omega (arith, sym (ap raw_of c.in-ENUM_KW.is) ∙ e)))), c.current.ensures.peeks.same.innermost _ c.requires.innermost))
 
 pub items::body-returns-in-ENUM_KW-clause-completes : goal.items::body-returns-in-ENUM_KW-clause-completes
 unfolding look_of begins_below whole rule items statements expressions patterns types paths there_at shift passes is_silent begins in_mode anew row one_of any_of no_longer longest is_longer
-items::body-returns-in-ENUM_KW-clause-completes t c = where-here (saw-arm c.in-ENUM_KW.is (c.current.ensures.sees c.args.condition) and nothing) (where-look c.current.ensures.same (where-any c.enum_item.ensures.completes))
+items::body-returns-in-ENUM_KW-clause-completes t c = where-here (saw-arm c.in-ENUM_KW.is (c.current.ensures.sees c.args.condition) and nothing) (where-look c.current.ensures.peeks.same (where-any c.enum_item.ensures.completes))
 
 pub items::body-static_item-requires : goal.items::body-static_item-requires
-items::body-static_item-requires t c = (omega arith, (omega (arith, c.current.ensures.left, c.current.ensures.some (λ e. absurd (omega (arith, sym (ap raw_of c.in-STATIC_KW.is) ∙ e)))), c.current.ensures.same.innermost _ c.requires.innermost))
+items::body-static_item-requires t c = (omega arith, (omega (arith, c.current.ensures.peeks.left, c.current.ensures.some (λ e. absurd (omega (arith, sym (ap raw_of c.in-STATIC_KW.is) ∙ e)))), c.current.ensures.peeks.same.innermost _ c.requires.innermost))
 
 pub items::body-returns-in-STATIC_KW-clause-completes : goal.items::body-returns-in-STATIC_KW-clause-completes
 unfolding look_of begins_below whole rule items statements expressions patterns types paths there_at shift passes is_silent begins in_mode anew row one_of any_of no_longer longest is_longer
-items::body-returns-in-STATIC_KW-clause-completes t c = where-here (saw-arm c.in-STATIC_KW.is (c.current.ensures.sees c.args.condition) and nothing) (where-look c.current.ensures.same (where-any c.static_item.ensures.completes))
+items::body-returns-in-STATIC_KW-clause-completes t c = where-here (saw-arm c.in-STATIC_KW.is (c.current.ensures.sees c.args.condition) and nothing) (where-look c.current.ensures.peeks.same (where-any c.static_item.ensures.completes))
 
 pub items::body-type_alias-requires : goal.items::body-type_alias-requires
-items::body-type_alias-requires t c = (omega arith, (omega (arith, c.current.ensures.left, c.current.ensures.some (λ e. absurd (omega (arith, sym (ap raw_of c.in-TYPE_KW.is) ∙ e)))), c.current.ensures.same.innermost _ c.requires.innermost))
+items::body-type_alias-requires t c = (omega arith, (omega (arith, c.current.ensures.peeks.left, c.current.ensures.some (λ e. absurd (omega (arith, sym (ap raw_of c.in-TYPE_KW.is) ∙ e)))), c.current.ensures.peeks.same.innermost _ c.requires.innermost))
 
 pub items::body-returns-in-TYPE_KW-clause-completes : goal.items::body-returns-in-TYPE_KW-clause-completes
 unfolding look_of begins_below whole rule items statements expressions patterns types paths there_at shift passes is_silent begins in_mode anew row one_of any_of no_longer longest is_longer
-items::body-returns-in-TYPE_KW-clause-completes t c = where-here (saw-arm c.in-TYPE_KW.is (c.current.ensures.sees c.args.condition) and nothing) (where-look c.current.ensures.same (where-any c.type_alias.ensures.completes))
+items::body-returns-in-TYPE_KW-clause-completes t c = where-here (saw-arm c.in-TYPE_KW.is (c.current.ensures.sees c.args.condition) and nothing) (where-look c.current.ensures.peeks.same (where-any c.type_alias.ensures.completes))
 
 pub items::body-returns-then-at_fn-clause-completes : goal.items::body-returns-then-at_fn-clause-completes
 unfolding look_of begins_below whole rule items statements expressions patterns types paths there_at shift passes is_silent begins in_mode anew row one_of any_of no_longer longest is_longer
-items::body-returns-then-at_fn-clause-completes t c = where-here (saw-not c.in_default.not-MOD_KW (c.current.ensures.sees c.args.condition) and saw-not c.in_default.not-USE_KW (c.current.ensures.sees c.args.condition) and saw-not c.in_default.not-STRUCT_KW (c.current.ensures.sees c.args.condition) and saw-not c.in_default.not-ENUM_KW (c.current.ensures.sees c.args.condition) and saw-not c.in_default.not-STATIC_KW (c.current.ensures.sees c.args.condition) and saw-not c.in_default.not-TYPE_KW (c.current.ensures.sees c.args.condition) and saw-before c.current.ensures.same (saw-so (c.at_fn.ensures.sees c.args.condition) c.if-at_fn.true) and nothing) (where-look c.current.ensures.same (where-look c.at_fn.ensures.same (where-any c.fn_item.ensures.completes)))
+items::body-returns-then-at_fn-clause-completes t c = where-here (saw-not c.in_default.not-MOD_KW (c.current.ensures.sees c.args.condition) and saw-not c.in_default.not-USE_KW (c.current.ensures.sees c.args.condition) and saw-not c.in_default.not-STRUCT_KW (c.current.ensures.sees c.args.condition) and saw-not c.in_default.not-ENUM_KW (c.current.ensures.sees c.args.condition) and saw-not c.in_default.not-STATIC_KW (c.current.ensures.sees c.args.condition) and saw-not c.in_default.not-TYPE_KW (c.current.ensures.sees c.args.condition) and saw-before c.current.ensures.peeks.same (saw-so (c.at_fn.ensures.sees c.args.condition) c.if-at_fn.true) and nothing) (where-look c.current.ensures.peeks.same (where-look c.at_fn.ensures.peeks.same (where-any c.fn_item.ensures.completes)))
 
 pub items::body-fn_item-requires : goal.items::body-fn_item-requires
 unfolding look_of begins_below whole rule items statements expressions patterns types paths there_at shift passes is_silent begins in_mode anew row one_of any_of no_longer longest is_longer
-items::body-fn_item-requires t c = (omega arith, ((λ d. saw-after c.at_fn.ensures.same (saw-so (c.at_fn.ensures.sees d) c.if-at_fn.true)), (omega (arith, c.current.ensures.left, c.at_fn.ensures.left, c.at_fn.ensures.some c.if-at_fn.true), c.at_fn.ensures.same.innermost _ (c.current.ensures.same.innermost _ c.requires.innermost))))
+items::body-fn_item-requires t c = (omega arith, (record { sees = λ d. saw-after c.at_fn.ensures.peeks.same (saw-so (c.at_fn.ensures.sees d) c.if-at_fn.true); some = omega (arith, c.current.ensures.peeks.left, c.at_fn.ensures.peeks.left, c.at_fn.ensures.some c.if-at_fn.true) }, c.at_fn.ensures.peeks.same.innermost _ (c.current.ensures.peeks.same.innermost _ c.requires.innermost)))
 
 pub items::body-returns-then-at-clause-completes : goal.items::body-returns-then-at-clause-completes
 unfolding look_of begins_below whole rule items statements expressions patterns types paths there_at shift passes is_silent begins in_mode anew row one_of any_of no_longer longest is_longer
-items::body-returns-then-at-clause-completes t c = where-here (saw-not c.in_default.not-MOD_KW (c.current.ensures.sees c.args.condition) and saw-not c.in_default.not-USE_KW (c.current.ensures.sees c.args.condition) and saw-not c.in_default.not-STRUCT_KW (c.current.ensures.sees c.args.condition) and saw-not c.in_default.not-ENUM_KW (c.current.ensures.sees c.args.condition) and saw-not c.in_default.not-STATIC_KW (c.current.ensures.sees c.args.condition) and saw-not c.in_default.not-TYPE_KW (c.current.ensures.sees c.args.condition) and saw-before c.current.ensures.same (saw-so (c.at_fn.ensures.sees c.args.condition) c.if-at_fn.false) and saw-before c.current.ensures.same (saw-before c.at_fn.ensures.same (saw-so (c.at.ensures.sees c.args.condition) c.if-at.true)) and nothing) (where-look c.current.ensures.same (where-look c.at_fn.ensures.same (where-look c.at.ensures.same (where-any c.const_item.ensures.completes))))
+items::body-returns-then-at-clause-completes t c = where-here (saw-not c.in_default.not-MOD_KW (c.current.ensures.sees c.args.condition) and saw-not c.in_default.not-USE_KW (c.current.ensures.sees c.args.condition) and saw-not c.in_default.not-STRUCT_KW (c.current.ensures.sees c.args.condition) and saw-not c.in_default.not-ENUM_KW (c.current.ensures.sees c.args.condition) and saw-not c.in_default.not-STATIC_KW (c.current.ensures.sees c.args.condition) and saw-not c.in_default.not-TYPE_KW (c.current.ensures.sees c.args.condition) and saw-before c.current.ensures.peeks.same (saw-so (c.at_fn.ensures.sees c.args.condition) c.if-at_fn.false) and saw-before c.current.ensures.peeks.same (saw-before c.at_fn.ensures.peeks.same (saw-so (c.at.ensures.sees c.args.condition) c.if-at.true)) and nothing) (where-look c.current.ensures.peeks.same (where-look c.at_fn.ensures.peeks.same (where-look c.at.ensures.peeks.same (where-any c.const_item.ensures.completes))))
 
 pub items::body-const_item-requires : goal.items::body-const_item-requires
-items::body-const_item-requires t c = (omega arith, (omega (arith, c.current.ensures.left, c.at_fn.ensures.left, c.at.ensures.left, c.at.ensures.some c.if-at.true (λ e. absurd (omega (arith, e)))), c.at.ensures.same.innermost _ (c.at_fn.ensures.same.innermost _ (c.current.ensures.same.innermost _ c.requires.innermost))))
+items::body-const_item-requires t c = (omega arith, (omega (arith, c.current.ensures.peeks.left, c.at_fn.ensures.peeks.left, c.at.ensures.peeks.left, c.at.ensures.some c.if-at.true (λ e. absurd (omega (arith, e)))), c.at.ensures.peeks.same.innermost _ (c.at_fn.ensures.peeks.same.innermost _ (c.current.ensures.peeks.same.innermost _ c.requires.innermost))))
 
 pub items::body-returns-then-at_unsafe-clause-completes : goal.items::body-returns-then-at_unsafe-clause-completes
 unfolding look_of begins_below whole rule items statements expressions patterns types paths there_at shift passes is_silent begins in_mode anew row one_of any_of no_longer longest is_longer
-items::body-returns-then-at_unsafe-clause-completes t c = where-here (saw-not c.in_default.not-MOD_KW (c.current.ensures.sees c.args.condition) and saw-not c.in_default.not-USE_KW (c.current.ensures.sees c.args.condition) and saw-not c.in_default.not-STRUCT_KW (c.current.ensures.sees c.args.condition) and saw-not c.in_default.not-ENUM_KW (c.current.ensures.sees c.args.condition) and saw-not c.in_default.not-STATIC_KW (c.current.ensures.sees c.args.condition) and saw-not c.in_default.not-TYPE_KW (c.current.ensures.sees c.args.condition) and saw-before c.current.ensures.same (saw-so (c.at_fn.ensures.sees c.args.condition) c.if-at_fn.false) and saw-before c.current.ensures.same (saw-before c.at_fn.ensures.same (saw-so (c.at.ensures.sees c.args.condition) c.if-at.false)) and saw-before c.current.ensures.same (saw-before c.at_fn.ensures.same (saw-before c.at.ensures.same (saw-so (c.at_unsafe.ensures.sees c.args.condition) c.if-at_unsafe.true))) and nothing) (where-look c.current.ensures.same (where-look c.at_fn.ensures.same (where-look c.at.ensures.same (where-look c.at_unsafe.ensures.same (where-any c.impl_item.ensures.completes)))))
+items::body-returns-then-at_unsafe-clause-completes t c = where-here (saw-not c.in_default.not-MOD_KW (c.current.ensures.sees c.args.condition) and saw-not c.in_default.not-USE_KW (c.current.ensures.sees c.args.condition) and saw-not c.in_default.not-STRUCT_KW (c.current.ensures.sees c.args.condition) and saw-not c.in_default.not-ENUM_KW (c.current.ensures.sees c.args.condition) and saw-not c.in_default.not-STATIC_KW (c.current.ensures.sees c.args.condition) and saw-not c.in_default.not-TYPE_KW (c.current.ensures.sees c.args.condition) and saw-before c.current.ensures.peeks.same (saw-so (c.at_fn.ensures.sees c.args.condition) c.if-at_fn.false) and saw-before c.current.ensures.peeks.same (saw-before c.at_fn.ensures.peeks.same (saw-so (c.at.ensures.sees c.args.condition) c.if-at.false)) and saw-before c.current.ensures.peeks.same (saw-before c.at_fn.ensures.peeks.same (saw-before c.at.ensures.peeks.same (saw-so (c.at_unsafe.ensures.sees c.args.condition) c.if-at_unsafe.true))) and nothing) (where-look c.current.ensures.peeks.same (where-look c.at_fn.ensures.peeks.same (where-look c.at.ensures.peeks.same (where-look c.at_unsafe.ensures.peeks.same (where-any c.impl_item.ensures.completes)))))
 
 pub items::body-impl_item-requires : goal.items::body-impl_item-requires
 unfolding look_of begins_below whole rule items statements expressions patterns types paths there_at shift passes is_silent begins in_mode anew row one_of any_of no_longer longest is_longer
-items::body-impl_item-requires t c = (omega arith, ((λ d. saw-after c.at_unsafe.ensures.same (saw-so (c.at_unsafe.ensures.sees d) c.if-at_unsafe.true)), (omega (arith, c.current.ensures.left, c.at_fn.ensures.left, c.at.ensures.left, c.at_unsafe.ensures.left, c.at_unsafe.ensures.some c.if-at_unsafe.true (λ e. absurd (omega (arith, e)))), c.at_unsafe.ensures.same.innermost _ (c.at.ensures.same.innermost _ (c.at_fn.ensures.same.innermost _ (c.current.ensures.same.innermost _ c.requires.innermost))))))
+items::body-impl_item-requires t c = (omega arith, (record { sees = λ d. saw-after c.at_unsafe.ensures.peeks.same (saw-so (c.at_unsafe.ensures.sees d) c.if-at_unsafe.true); some = omega (arith, c.current.ensures.peeks.left, c.at_fn.ensures.peeks.left, c.at.ensures.peeks.left, c.at_unsafe.ensures.peeks.left, c.at_unsafe.ensures.some c.if-at_unsafe.true (λ e. absurd (omega (arith, e)))) }, c.at_unsafe.ensures.peeks.same.innermost _ (c.at.ensures.peeks.same.innermost _ (c.at_fn.ensures.peeks.same.innermost _ (c.current.ensures.peeks.same.innermost _ c.requires.innermost)))))
 
 pub items::body-returns-then-at_unsafe-2-clause-completes : goal.items::body-returns-then-at_unsafe-2-clause-completes
 unfolding look_of begins_below whole rule items statements expressions patterns types paths there_at shift passes is_silent begins in_mode anew row one_of any_of no_longer longest is_longer
-items::body-returns-then-at_unsafe-2-clause-completes t c = where-here (saw-not c.in_default.not-MOD_KW (c.current.ensures.sees c.args.condition) and saw-not c.in_default.not-USE_KW (c.current.ensures.sees c.args.condition) and saw-not c.in_default.not-STRUCT_KW (c.current.ensures.sees c.args.condition) and saw-not c.in_default.not-ENUM_KW (c.current.ensures.sees c.args.condition) and saw-not c.in_default.not-STATIC_KW (c.current.ensures.sees c.args.condition) and saw-not c.in_default.not-TYPE_KW (c.current.ensures.sees c.args.condition) and saw-before c.current.ensures.same (saw-so (c.at_fn.ensures.sees c.args.condition) c.if-at_fn.false) and saw-before c.current.ensures.same (saw-before c.at_fn.ensures.same (saw-so (c.at.ensures.sees c.args.condition) c.if-at.false)) and saw-before c.current.ensures.same (saw-before c.at_fn.ensures.same (saw-before c.at.ensures.same (saw-so (c.at_unsafe.ensures.sees c.args.condition) c.if-at_unsafe.false))) and saw-before c.current.ensures.same (saw-before c.at_fn.ensures.same (saw-before c.at.ensures.same (saw-before c.at_unsafe.ensures.same (saw-so (c.at_unsafe-in_default.ensures.sees c.args.condition) c.if-at_unsafe-2.true)))) and nothing) (where-look c.current.ensures.same (where-look c.at_fn.ensures.same (where-look c.at.ensures.same (where-look c.at_unsafe.ensures.same (where-look c.at_unsafe-in_default.ensures.same (where-any c.trait_item.ensures.completes))))))
+items::body-returns-then-at_unsafe-2-clause-completes t c = where-here (saw-not c.in_default.not-MOD_KW (c.current.ensures.sees c.args.condition) and saw-not c.in_default.not-USE_KW (c.current.ensures.sees c.args.condition) and saw-not c.in_default.not-STRUCT_KW (c.current.ensures.sees c.args.condition) and saw-not c.in_default.not-ENUM_KW (c.current.ensures.sees c.args.condition) and saw-not c.in_default.not-STATIC_KW (c.current.ensures.sees c.args.condition) and saw-not c.in_default.not-TYPE_KW (c.current.ensures.sees c.args.condition) and saw-before c.current.ensures.peeks.same (saw-so (c.at_fn.ensures.sees c.args.condition) c.if-at_fn.false) and saw-before c.current.ensures.peeks.same (saw-before c.at_fn.ensures.peeks.same (saw-so (c.at.ensures.sees c.args.condition) c.if-at.false)) and saw-before c.current.ensures.peeks.same (saw-before c.at_fn.ensures.peeks.same (saw-before c.at.ensures.peeks.same (saw-so (c.at_unsafe.ensures.sees c.args.condition) c.if-at_unsafe.false))) and saw-before c.current.ensures.peeks.same (saw-before c.at_fn.ensures.peeks.same (saw-before c.at.ensures.peeks.same (saw-before c.at_unsafe.ensures.peeks.same (saw-so (c.at_unsafe-in_default.ensures.sees c.args.condition) c.if-at_unsafe-2.true)))) and nothing) (where-look c.current.ensures.peeks.same (where-look c.at_fn.ensures.peeks.same (where-look c.at.ensures.peeks.same (where-look c.at_unsafe.ensures.peeks.same (where-look c.at_unsafe-in_default.ensures.peeks.same (where-any c.trait_item.ensures.completes))))))
 
 pub items::body-trait_item-requires : goal.items::body-trait_item-requires
 unfolding look_of begins_below whole rule items statements expressions patterns types paths there_at shift passes is_silent begins in_mode anew row one_of any_of no_longer longest is_longer
-items::body-trait_item-requires t c = (omega arith, ((λ d. saw-after c.at_unsafe-in_default.ensures.same (saw-so (c.at_unsafe-in_default.ensures.sees d) c.if-at_unsafe-2.true)), (omega (arith, c.current.ensures.left, c.at_fn.ensures.left, c.at.ensures.left, c.at_unsafe.ensures.left, c.at_unsafe-in_default.ensures.left, c.at_unsafe-in_default.ensures.some c.if-at_unsafe-2.true (λ e. absurd (omega (arith, e)))), c.at_unsafe-in_default.ensures.same.innermost _ (c.at_unsafe.ensures.same.innermost _ (c.at.ensures.same.innermost _ (c.at_fn.ensures.same.innermost _ (c.current.ensures.same.innermost _ c.requires.innermost)))))))
+items::body-trait_item-requires t c = (omega arith, (record { sees = λ d. saw-after c.at_unsafe-in_default.ensures.peeks.same (saw-so (c.at_unsafe-in_default.ensures.sees d) c.if-at_unsafe-2.true); some = omega (arith, c.current.ensures.peeks.left, c.at_fn.ensures.peeks.left, c.at.ensures.peeks.left, c.at_unsafe.ensures.peeks.left, c.at_unsafe-in_default.ensures.peeks.left, c.at_unsafe-in_default.ensures.some c.if-at_unsafe-2.true (λ e. absurd (omega (arith, e)))) }, c.at_unsafe-in_default.ensures.peeks.same.innermost _ (c.at_unsafe.ensures.peeks.same.innermost _ (c.at.ensures.peeks.same.innermost _ (c.at_fn.ensures.peeks.same.innermost _ (c.current.ensures.peeks.same.innermost _ c.requires.innermost))))))
 
 pub items::body-returns-then-at_path-clause-completes : goal.items::body-returns-then-at_path-clause-completes
 unfolding look_of begins_below whole rule items statements expressions patterns types paths there_at shift passes is_silent begins in_mode anew row one_of any_of no_longer longest is_longer
-items::body-returns-then-at_path-clause-completes t c = where-here (saw-not c.in_default.not-MOD_KW (c.current.ensures.sees c.args.condition) and saw-not c.in_default.not-USE_KW (c.current.ensures.sees c.args.condition) and saw-not c.in_default.not-STRUCT_KW (c.current.ensures.sees c.args.condition) and saw-not c.in_default.not-ENUM_KW (c.current.ensures.sees c.args.condition) and saw-not c.in_default.not-STATIC_KW (c.current.ensures.sees c.args.condition) and saw-not c.in_default.not-TYPE_KW (c.current.ensures.sees c.args.condition) and saw-before c.current.ensures.same (saw-so (c.at_fn.ensures.sees c.args.condition) c.if-at_fn.false) and saw-before c.current.ensures.same (saw-before c.at_fn.ensures.same (saw-so (c.at.ensures.sees c.args.condition) c.if-at.false)) and saw-before c.current.ensures.same (saw-before c.at_fn.ensures.same (saw-before c.at.ensures.same (saw-so (c.at_unsafe.ensures.sees c.args.condition) c.if-at_unsafe.false))) and saw-before c.current.ensures.same (saw-before c.at_fn.ensures.same (saw-before c.at.ensures.same (saw-before c.at_unsafe.ensures.same (saw-so (c.at_unsafe-in_default.ensures.sees c.args.condition) c.if-at_unsafe-2.false)))) and begun rules.path (saw-before c.current.ensures.same (saw-before c.at_fn.ensures.same (saw-before c.at.ensures.same (saw-before c.at_unsafe.ensures.same (saw-before c.at_unsafe-in_default.ensures.same (saw-so (c.at_path.ensures.sees c.args.condition) c.if-at_path.true)))))) nothing) (where-look c.current.ensures.same (where-look c.at_fn.ensures.same (where-look c.at.ensures.same (where-look c.at_unsafe.ensures.same (where-look c.at_unsafe-in_default.ensures.same (where-look c.at_path.ensures.same (where-any (c.path_item.ensures.completes c.args.condition))))))))
+items::body-returns-then-at_path-clause-completes t c = where-here (saw-not c.in_default.not-MOD_KW (c.current.ensures.sees c.args.condition) and saw-not c.in_default.not-USE_KW (c.current.ensures.sees c.args.condition) and saw-not c.in_default.not-STRUCT_KW (c.current.ensures.sees c.args.condition) and saw-not c.in_default.not-ENUM_KW (c.current.ensures.sees c.args.condition) and saw-not c.in_default.not-STATIC_KW (c.current.ensures.sees c.args.condition) and saw-not c.in_default.not-TYPE_KW (c.current.ensures.sees c.args.condition) and saw-before c.current.ensures.peeks.same (saw-so (c.at_fn.ensures.sees c.args.condition) c.if-at_fn.false) and saw-before c.current.ensures.peeks.same (saw-before c.at_fn.ensures.peeks.same (saw-so (c.at.ensures.sees c.args.condition) c.if-at.false)) and saw-before c.current.ensures.peeks.same (saw-before c.at_fn.ensures.peeks.same (saw-before c.at.ensures.peeks.same (saw-so (c.at_unsafe.ensures.sees c.args.condition) c.if-at_unsafe.false))) and saw-before c.current.ensures.peeks.same (saw-before c.at_fn.ensures.peeks.same (saw-before c.at.ensures.peeks.same (saw-before c.at_unsafe.ensures.peeks.same (saw-so (c.at_unsafe-in_default.ensures.sees c.args.condition) c.if-at_unsafe-2.false)))) and begun rules.path (saw-before c.current.ensures.peeks.same (saw-before c.at_fn.ensures.peeks.same (saw-before c.at.ensures.peeks.same (saw-before c.at_unsafe.ensures.peeks.same (saw-before c.at_unsafe-in_default.ensures.peeks.same (saw-so (c.at_path.ensures.sees c.args.condition) c.if-at_path.true)))))) nothing) (where-look c.current.ensures.peeks.same (where-look c.at_fn.ensures.peeks.same (where-look c.at.ensures.peeks.same (where-look c.at_unsafe.ensures.peeks.same (where-look c.at_unsafe-in_default.ensures.peeks.same (where-look c.at_path.ensures.peeks.same (where-any (c.path_item.ensures.completes c.args.condition))))))))
 
 pub items::body-path_item-requires : goal.items::body-path_item-requires
-items::body-path_item-requires t c = record { begins = (λ d. saw-after c.at_path.ensures.same (saw-so (c.at_path.ensures.sees d) c.if-at_path.true)); some = omega (arith, c.current.ensures.left, c.at_fn.ensures.left, c.at.ensures.left, c.at_unsafe.ensures.left, c.at_unsafe-in_default.ensures.left, c.at_path.ensures.left, c.at_path.ensures.some c.if-at_path.true); innermost = c.at_path.ensures.same.innermost _ (c.at_unsafe-in_default.ensures.same.innermost _ (c.at_unsafe.ensures.same.innermost _ (c.at.ensures.same.innermost _ (c.at_fn.ensures.same.innermost _ (c.current.ensures.same.innermost _ c.requires.innermost))))) }
+items::body-path_item-requires t c = record { begins = record { sees = λ d. saw-after c.at_path.ensures.peeks.same (saw-so (c.at_path.ensures.sees d) c.if-at_path.true); some = omega (arith, c.current.ensures.peeks.left, c.at_fn.ensures.peeks.left, c.at.ensures.peeks.left, c.at_unsafe.ensures.peeks.left, c.at_unsafe-in_default.ensures.peeks.left, c.at_path.ensures.peeks.left, c.at_path.ensures.some c.if-at_path.true) }; innermost = c.at_path.ensures.peeks.same.innermost _ (c.at_unsafe-in_default.ensures.peeks.same.innermost _ (c.at_unsafe.ensures.peeks.same.innermost _ (c.at.ensures.peeks.same.innermost _ (c.at_fn.ensures.peeks.same.innermost _ (c.current.ensures.peeks.same.innermost _ c.requires.innermost))))) }
 
 pub items::body-returns-else-at_path-clause-completes : goal.items::body-returns-else-at_path-clause-completes
 unfolding look_of begins_below whole rule items statements expressions patterns types paths there_at shift passes is_silent begins in_mode anew row one_of any_of no_longer longest is_longer
-items::body-returns-else-at_path-clause-completes t c = where-here (saw-not c.in_default.not-MOD_KW (c.current.ensures.sees c.args.condition) and saw-not c.in_default.not-USE_KW (c.current.ensures.sees c.args.condition) and saw-not c.in_default.not-STRUCT_KW (c.current.ensures.sees c.args.condition) and saw-not c.in_default.not-ENUM_KW (c.current.ensures.sees c.args.condition) and saw-not c.in_default.not-STATIC_KW (c.current.ensures.sees c.args.condition) and saw-not c.in_default.not-TYPE_KW (c.current.ensures.sees c.args.condition) and saw-before c.current.ensures.same (saw-so (c.at_fn.ensures.sees c.args.condition) c.if-at_fn.false) and saw-before c.current.ensures.same (saw-before c.at_fn.ensures.same (saw-so (c.at.ensures.sees c.args.condition) c.if-at.false)) and saw-before c.current.ensures.same (saw-before c.at_fn.ensures.same (saw-before c.at.ensures.same (saw-so (c.at_unsafe.ensures.sees c.args.condition) c.if-at_unsafe.false))) and saw-before c.current.ensures.same (saw-before c.at_fn.ensures.same (saw-before c.at.ensures.same (saw-before c.at_unsafe.ensures.same (saw-so (c.at_unsafe-in_default.ensures.sees c.args.condition) c.if-at_unsafe-2.false)))) and begun rules.path (saw-before c.current.ensures.same (saw-before c.at_fn.ensures.same (saw-before c.at.ensures.same (saw-before c.at_unsafe.ensures.same (saw-before c.at_unsafe-in_default.ensures.same (saw-so (c.at_path.ensures.sees c.args.condition) c.if-at_path.false)))))) nothing) (where-look c.current.ensures.same (where-look c.at_fn.ensures.same (where-look c.at.ensures.same (where-look c.at_unsafe.ensures.same (where-look c.at_unsafe-in_default.ensures.same (where-look c.at_path.ensures.same (c.no_item.ensures.completes c.args.condition)))))))
+items::body-returns-else-at_path-clause-completes t c = where-here (saw-not c.in_default.not-MOD_KW (c.current.ensures.sees c.args.condition) and saw-not c.in_default.not-USE_KW (c.current.ensures.sees c.args.condition) and saw-not c.in_default.not-STRUCT_KW (c.current.ensures.sees c.args.condition) and saw-not c.in_default.not-ENUM_KW (c.current.ensures.sees c.args.condition) and saw-not c.in_default.not-STATIC_KW (c.current.ensures.sees c.args.condition) and saw-not c.in_default.not-TYPE_KW (c.current.ensures.sees c.args.condition) and saw-before c.current.ensures.peeks.same (saw-so (c.at_fn.ensures.sees c.args.condition) c.if-at_fn.false) and saw-before c.current.ensures.peeks.same (saw-before c.at_fn.ensures.peeks.same (saw-so (c.at.ensures.sees c.args.condition) c.if-at.false)) and saw-before c.current.ensures.peeks.same (saw-before c.at_fn.ensures.peeks.same (saw-before c.at.ensures.peeks.same (saw-so (c.at_unsafe.ensures.sees c.args.condition) c.if-at_unsafe.false))) and saw-before c.current.ensures.peeks.same (saw-before c.at_fn.ensures.peeks.same (saw-before c.at.ensures.peeks.same (saw-before c.at_unsafe.ensures.peeks.same (saw-so (c.at_unsafe-in_default.ensures.sees c.args.condition) c.if-at_unsafe-2.false)))) and begun rules.path (saw-before c.current.ensures.peeks.same (saw-before c.at_fn.ensures.peeks.same (saw-before c.at.ensures.peeks.same (saw-before c.at_unsafe.ensures.peeks.same (saw-before c.at_unsafe-in_default.ensures.peeks.same (saw-so (c.at_path.ensures.sees c.args.condition) c.if-at_path.false)))))) nothing) (where-look c.current.ensures.peeks.same (where-look c.at_fn.ensures.peeks.same (where-look c.at.ensures.peeks.same (where-look c.at_unsafe.ensures.peeks.same (where-look c.at_unsafe-in_default.ensures.peeks.same (where-look c.at_path.ensures.peeks.same (c.no_item.ensures.completes c.args.condition)))))))
 
 pub items::body-no_item-requires : goal.items::body-no_item-requires
-items::body-no_item-requires t c = record { some = λ e. omega (arith, c.current.ensures.left, c.at_fn.ensures.left, c.at.ensures.left, c.at_unsafe.ensures.left, c.at_unsafe-in_default.ensures.left, c.at_path.ensures.left, c.requires.some e); innermost = c.at_path.ensures.same.innermost _ (c.at_unsafe-in_default.ensures.same.innermost _ (c.at_unsafe.ensures.same.innermost _ (c.at.ensures.same.innermost _ (c.at_fn.ensures.same.innermost _ (c.current.ensures.same.innermost _ c.requires.innermost))))) }
+items::body-no_item-requires t c = record { some = λ e. omega (arith, c.current.ensures.peeks.left, c.at_fn.ensures.peeks.left, c.at.ensures.peeks.left, c.at_unsafe.ensures.peeks.left, c.at_unsafe-in_default.ensures.peeks.left, c.at_path.ensures.peeks.left, c.requires.some e); innermost = c.at_path.ensures.peeks.same.innermost _ (c.at_unsafe-in_default.ensures.peeks.same.innermost _ (c.at_unsafe.ensures.peeks.same.innermost _ (c.at.ensures.peeks.same.innermost _ (c.at_fn.ensures.peeks.same.innermost _ (c.current.ensures.peeks.same.innermost _ c.requires.innermost))))) }
 
 pub items::body-returns-else-at_path-clause-takes : goal.items::body-returns-else-at_path-clause-takes
-items::body-returns-else-at_path-clause-takes t c = λ e. omega (arith, c.current.ensures.left, c.at_fn.ensures.left, c.at.ensures.left, c.at_unsafe.ensures.left, c.at_unsafe-in_default.ensures.left, c.at_path.ensures.left, c.no_item.ensures.takes e)
-
-pub items::body-returns-else-at_path-clause-pays : goal.items::body-returns-else-at_path-clause-pays
-items::body-returns-else-at_path-clause-pays t c = λ e. omega (arith, c.current.ensures.looks, c.at_fn.ensures.looks, c.at.ensures.looks, c.at_unsafe.ensures.looks, c.at_unsafe-in_default.ensures.looks, c.at_path.ensures.looks, c.no_item.ensures.pays e)
+items::body-returns-else-at_path-clause-takes t c = record {
+  takes = λ e. record {
+    left = omega (arith, c.current.ensures.peeks.left, c.at_fn.ensures.peeks.left, c.at.ensures.peeks.left, c.at_unsafe.ensures.peeks.left, c.at_unsafe-in_default.ensures.peeks.left, c.at_path.ensures.peeks.left, (c.no_item.ensures.takes.takes e).left);
+    looks = omega (arith, c.current.ensures.peeks.looks, c.at_fn.ensures.peeks.looks, c.at.ensures.peeks.looks, c.at_unsafe.ensures.peeks.looks, c.at_unsafe-in_default.ensures.peeks.looks, c.at_path.ensures.peeks.looks, (c.no_item.ensures.takes.takes e).looks);
+  };
+  left = omega arith;
+  looks = omega arith;
+}
 
 pub items::module-complete-requires : goal.items::module-complete-requires
 items::module-complete-requires t c = (c.module_items.ensures.reads true).does.innermost _ ((c.expect_name.ensures.reads true).does.innermost _ ((c.take.ensures.reads true).does.innermost _ c.requires.innermost))
@@ -202,11 +213,11 @@ items::module-returns-clause-completes t c = λ cond. completes-wrap (reads-then
 
 pub items::module_items-returns-then-at-clause-reads : goal.items::module_items-returns-then-at-clause-reads
 unfolding look_of begins_below whole rule items statements expressions patterns types paths there_at shift passes is_silent begins in_mode anew row one_of any_of no_longer longest is_longer
-items::module_items-returns-then-at-clause-reads t c = λ cond. reads-here (saw-so (c.at.ensures.sees cond) c.if-at.true and nothing) (after-look cond c.at.ensures.same (c.item_list.ensures.reads cond))
+items::module_items-returns-then-at-clause-reads t c = λ cond. reads-here (saw-so (c.at.ensures.sees cond) c.if-at.true and nothing) (after-look cond c.at.ensures.peeks.same (c.item_list.ensures.reads cond))
 
 pub items::module_items-returns-clause-reads : goal.items::module_items-returns-clause-reads
 unfolding look_of begins_below whole rule items statements expressions patterns types paths there_at shift passes is_silent begins in_mode anew row one_of any_of no_longer longest is_longer
-items::module_items-returns-clause-reads t c = λ cond. reads-here (saw-so (c.at.ensures.sees cond) c.if-at.false and nothing) (after-look cond c.at.ensures.same (c.expect.ensures.reads cond))
+items::module_items-returns-clause-reads t c = λ cond. reads-here (saw-so (c.at.ensures.sees cond) c.if-at.false and nothing) (after-look cond c.at.ensures.peeks.same (c.expect.ensures.reads cond))
 
 pub items::item_list-complete-requires : goal.items::item_list-complete-requires
 items::item_list-complete-requires t c = (c.expect.ensures.reads true).does.innermost _ (c.items.ensures.reads.does.innermost _ ((c.take.ensures.reads true).does.innermost _ c.start-list.ensures.marker))
@@ -223,58 +234,74 @@ items::assoc_items-returns-clause-gives t c = λ cond. gives-anew (anew-after re
 
 pub items::opt_generic_params-returns-then-at-clause-reads : goal.items::opt_generic_params-returns-then-at-clause-reads
 unfolding look_of begins_below whole rule items statements expressions patterns types paths there_at shift passes is_silent begins in_mode anew row one_of any_of no_longer longest is_longer
-items::opt_generic_params-returns-then-at-clause-reads t c = λ cond. reads-here (saw-so (c.at.ensures.sees cond) c.if-at.true and nothing) (after-look cond c.at.ensures.same (reads-call cond (c.generic_params.ensures.gives cond)))
+items::opt_generic_params-returns-then-at-clause-reads t c = λ cond. reads-here (saw-so (c.at.ensures.sees cond) c.if-at.true and nothing) (after-look cond c.at.ensures.peeks.same (reads-call cond (c.generic_params.ensures.gives cond)))
 
 pub items::opt_generic_params-returns-else-at-clause-reads : goal.items::opt_generic_params-returns-else-at-clause-reads
 unfolding look_of begins_below whole rule items statements expressions patterns types paths there_at shift passes is_silent begins in_mode anew row one_of any_of no_longer longest is_longer
-items::opt_generic_params-returns-else-at-clause-reads t c = λ cond. reads-here (saw-so (c.at.ensures.sees cond) c.if-at.false and nothing) (reads-nothing cond c.at.ensures.same)
+items::opt_generic_params-returns-else-at-clause-reads t c = λ cond. reads-here (saw-so (c.at.ensures.sees cond) c.if-at.false and nothing) (reads-nothing cond c.at.ensures.peeks.same)
 
 pub items::opt_where_clause-returns-then-at-clause-reads : goal.items::opt_where_clause-returns-then-at-clause-reads
 unfolding look_of begins_below whole rule items statements expressions patterns types paths there_at shift passes is_silent begins in_mode anew row one_of any_of no_longer longest is_longer
-items::opt_where_clause-returns-then-at-clause-reads t c = reads-here (saw-so (c.at.ensures.sees c.args.condition) c.if-at.true and nothing) (after-look _ c.at.ensures.same (reads-call _ c.where_clause.ensures.gives))
+items::opt_where_clause-returns-then-at-clause-reads t c = reads-here (saw-so (c.at.ensures.sees c.args.condition) c.if-at.true and nothing) (after-look _ c.at.ensures.peeks.same (reads-call _ c.where_clause.ensures.gives))
 
 pub items::opt_where_clause-returns-else-at-clause-reads : goal.items::opt_where_clause-returns-else-at-clause-reads
 unfolding look_of begins_below whole rule items statements expressions patterns types paths there_at shift passes is_silent begins in_mode anew row one_of any_of no_longer longest is_longer
-items::opt_where_clause-returns-else-at-clause-reads t c = reads-here (saw-so (c.at.ensures.sees c.args.condition) c.if-at.false and nothing) (reads-nothing _ c.at.ensures.same)
+items::opt_where_clause-returns-else-at-clause-reads t c = reads-here (saw-so (c.at.ensures.sees c.args.condition) c.if-at.false and nothing) (reads-nothing _ c.at.ensures.peeks.same)
 
 pub items::item_turn-returns-then-at_end_of-clause-ends : goal.items::item_turn-returns-then-at_end_of-clause-ends
-items::item_turn-returns-then-at_end_of-clause-ends t c = λ e. last-turn false _ (over-at-end c.args.end _) _ _ _ first-turn (over item_or_attribute (saw-so (c.at_end_of.ensures.sees false) c.if-at_end_of.true)) c.at_end_of.ensures.same
+items::item_turn-returns-then-at_end_of-clause-ends t c = λ e. last-turn false _ (over-at-end c.args.end _) _ _ _ first-turn (over item_or_attribute (saw-so (c.at_end_of.ensures.sees false) c.if-at_end_of.true)) c.at_end_of.ensures.peeks.same
 
 pub items::item_turn-attribute-requires : goal.items::item_turn-attribute-requires
-items::item_turn-attribute-requires t c = (omega arith, omega (arith, c.at_inner_attribute.ensures.left, c.at_inner_attribute.ensures.some c.if-at_inner_attribute.true))
+items::item_turn-attribute-requires t c = (omega arith, omega (arith, c.at_inner_attribute.ensures.peeks.left, c.at_inner_attribute.ensures.some c.if-at_inner_attribute.true))
 
 pub items::item_turn-returns-then-at_inner_attribute-clause-goes : goal.items::item_turn-returns-then-at_inner_attribute-clause-goes
-unfolding tokens look_of begins_below whole rule items statements expressions patterns types paths there_at shift passes is_silent begins in_mode anew row one_of any_of no_longer longest is_longer
-items::item_turn-returns-then-at_inner_attribute-clause-goes t c = λ e.
-    let seen = saw-before c.at_end_of.ensures.same (saw-so (c.at_inner_attribute.ensures.sees false) c.if-at_inner_attribute.true) in
-    next-turn false _ (over-at-end c.args.end item_or_attribute) _ _ _ first-turn (within item_or_attribute (saw-so (c.at_end_of.ensures.sees false) c.if-at_end_of.false) (starts-here item_or_attribute (seen and nothing) refl))
-    (reads-unless false (reads-here (seen and nothing) (after-look false c.at_end_of.ensures.same (after-look false c.at_inner_attribute.ensures.same (reads-call false (c.attribute.ensures.gives false))))))
-    (omega (arith, c.attribute.ensures.left, c.at_inner_attribute.ensures.left, c.at_end_of.ensures.left))
+unfolding anew any_of begins begins_below expressions in_mode is_longer is_silent items longest look_of no_longer one_of passes paths patterns row rule shift statements there_at tokens types whole
+items::item_turn-returns-then-at_inner_attribute-clause-goes t c = λ e. record {
+  turns = (let seen = saw-before c.at_end_of.ensures.peeks.same (saw-so (c.at_inner_attribute.ensures.sees false) c.if-at_inner_attribute.true) in
+      next-turn false _ (over-at-end c.args.end item_or_attribute) _ _ _ first-turn (within item_or_attribute (saw-so (c.at_end_of.ensures.sees false) c.if-at_end_of.false) (starts-here item_or_attribute (seen and nothing) refl))
+      (reads-unless false (reads-here (seen and nothing) (after-look false c.at_end_of.ensures.peeks.same (after-look false c.at_inner_attribute.ensures.peeks.same (reads-call false (c.attribute.ensures.gives false))))))
+      (omega (arith, c.attribute.ensures.takes.left, c.at_inner_attribute.ensures.peeks.left, c.at_end_of.ensures.peeks.left)));
+  takes = record {
+    left = omega arith;
+    looks = omega arith;
+  };
+}
 
-pub items::item_turn-returns-then-at_inner_attribute-clause-innermost : goal.items::item_turn-returns-then-at_inner_attribute-clause-innermost
-items::item_turn-returns-then-at_inner_attribute-clause-innermost t c = λ n i. (c.attribute.ensures.gives true).does.innermost n (c.at_inner_attribute.ensures.same.innermost n (c.at_end_of.ensures.same.innermost n i))
+pub items::item_turn-returns-then-at_inner_attribute-clause-keeps : goal.items::item_turn-returns-then-at_inner_attribute-clause-keeps
+items::item_turn-returns-then-at_inner_attribute-clause-keeps t c = record {
+  input = (c.attribute.ensures.gives true).does.input ∙ c.at_inner_attribute.ensures.peeks.same.input ∙ c.at_end_of.ensures.peeks.same.input;
+  innermost = λ n i. (c.attribute.ensures.gives true).does.innermost n (c.at_inner_attribute.ensures.peeks.same.innermost n (c.at_end_of.ensures.peeks.same.innermost n i));
+}
 
 pub items::item_turn-item-requires : goal.items::item_turn-item-requires
-items::item_turn-item-requires t c = (omega arith, omega (arith, some-within c.args.end (saw-so (c.at_end_of.ensures.sees false) c.if-at_end_of.false), c.at_end_of.ensures.left, c.at_inner_attribute.ensures.left))
+items::item_turn-item-requires t c = (omega arith, omega (arith, some-within c.args.end (saw-so (c.at_end_of.ensures.sees false) c.if-at_end_of.false), c.at_end_of.ensures.peeks.left, c.at_inner_attribute.ensures.peeks.left))
 
 pub items::item_turn-returns-clause-goes : goal.items::item_turn-returns-clause-goes
-unfolding tokens look_of begins_below whole rule items statements expressions patterns types paths there_at shift passes is_silent begins in_mode anew row one_of any_of no_longer longest is_longer
-items::item_turn-returns-clause-goes t c = λ e.
-    let more = saw-so (c.at_end_of.ensures.sees false) c.if-at_end_of.false in
-    let other = saw-before c.at_end_of.ensures.same (saw-so (c.at_inner_attribute.ensures.sees false) c.if-at_inner_attribute.false) in
-    next-turn false _ (over-at-end c.args.end item_or_attribute) _ _ _ first-turn (within item_or_attribute more (starts-here item_or_attribute (other and left-within c.args.end more and nothing) refl))
-    (reads-unless false (reads-here (other and nothing) (after-look false c.at_end_of.ensures.same (after-look false c.at_inner_attribute.ensures.same (reads-call false c.item.ensures.gives)))))
-    (omega (arith, c.item.ensures.left, c.at_inner_attribute.ensures.left, c.at_end_of.ensures.left))
+unfolding anew any_of begins begins_below expressions in_mode is_longer is_silent items longest look_of no_longer one_of passes paths patterns row rule shift statements there_at tokens types whole
+items::item_turn-returns-clause-goes t c = λ e. record {
+  turns = (let more = saw-so (c.at_end_of.ensures.sees false) c.if-at_end_of.false in
+      let other = saw-before c.at_end_of.ensures.peeks.same (saw-so (c.at_inner_attribute.ensures.sees false) c.if-at_inner_attribute.false) in
+      next-turn false _ (over-at-end c.args.end item_or_attribute) _ _ _ first-turn (within item_or_attribute more (starts-here item_or_attribute (other and left-within c.args.end more and nothing) refl))
+      (reads-unless false (reads-here (other and nothing) (after-look false c.at_end_of.ensures.peeks.same (after-look false c.at_inner_attribute.ensures.peeks.same (reads-call false c.item.ensures.gives)))))
+      (omega (arith, c.item.ensures.takes.left, c.at_inner_attribute.ensures.peeks.left, c.at_end_of.ensures.peeks.left)));
+  takes = record {
+    left = omega arith;
+    looks = omega arith;
+  };
+}
 
-pub items::item_turn-returns-clause-innermost : goal.items::item_turn-returns-clause-innermost
-items::item_turn-returns-clause-innermost t c = λ n i. c.item.ensures.gives.does.innermost n (c.at_inner_attribute.ensures.same.innermost n (c.at_end_of.ensures.same.innermost n i))
+pub items::item_turn-returns-clause-keeps : goal.items::item_turn-returns-clause-keeps
+items::item_turn-returns-clause-keeps t c = record {
+  input = c.item.ensures.gives.does.input ∙ c.at_inner_attribute.ensures.peeks.same.input ∙ c.at_end_of.ensures.peeks.same.input;
+  innermost = λ n i. c.item.ensures.gives.does.innermost n (c.at_inner_attribute.ensures.peeks.same.innermost n (c.at_end_of.ensures.peeks.same.innermost n i));
+}
 
 pub items::items-turns-preserved : goal.items::items-turns-preserved
 items::items-turns-preserved t c = record {
-  innermost = λ n i. c.item_turn.ensures.innermost n (c.turns.invariant.innermost n i);
-  goes = record { rest = λ end p. c.turns.invariant.goes.rest end ((c.item_turn.ensures.goes c.turns-test.true).rest end p) };
-  left = omega (arith, c.turns.invariant.left, c.item_turn.ensures.left);
-  looks = omega (arith, c.turns.invariant.looks, c.item_turn.ensures.pays c.turns-test.true);
+  innermost = λ n i. c.item_turn.ensures.keeps.innermost n (c.turns.invariant.innermost n i);
+  goes = record { rest = λ end p. c.turns.invariant.goes.rest end ((c.item_turn.ensures.goes c.turns-test.true).turns.rest end p) };
+  left = omega (arith, c.turns.invariant.left, c.item_turn.ensures.asks.left);
+  looks = omega (arith, c.turns.invariant.looks, (c.item_turn.ensures.goes c.turns-test.true).takes.looks);
 }
 
 pub items::items-returns-clause-reads : goal.items::items-returns-clause-reads

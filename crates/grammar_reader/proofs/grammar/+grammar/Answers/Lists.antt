@@ -1,5 +1,5 @@
 -- Lists, turn by turn.
-use Rattle.std.proofs.Common.{true, false, refl, sym, subst, arith}
+use Rattle.std.proofs.Common.{true, false, refl, sym, subst, arith, ◌∙◌}
 use Rattle.std.proofs.lemmas.Bool.{ltb-true, ltb-false}
 use Rattle.parser_input.specs.Kind.{raw_of}
 use Rattle.rust_grammar.specs.Rule as rules
@@ -29,51 +29,67 @@ use Rattle.rust_productions.proofs.Turns.{first-turn, idle-turn, last-turn, next
 use Rattle.grammar_reader.proofs.grammar.+grammar.Goals as goal
 
 pub lists::turn-returns-then-at_list_end-clause-ends : goal.lists::turn-returns-then-at_list_end-clause-ends
-lists::turn-returns-then-at_list_end-clause-ends t c = λ e. last-turn false (list_turn (raw_of c.args.list) (element_of c.args.element) (raw_of c.args.closing)) (ends (raw_of c.args.list) (element_of c.args.element) (raw_of c.args.closing)) _ _ _ first-turn (over (raw_of c.args.list) (element_of c.args.element) (raw_of c.args.closing) (saw-so (c.at_list_end.ensures.sees false) c.if-at_list_end.true)) c.at_list_end.ensures.same
+lists::turn-returns-then-at_list_end-clause-ends t c = λ e. last-turn false (list_turn (raw_of c.args.list) (element_of c.args.element) (raw_of c.args.closing)) (ends (raw_of c.args.list) (element_of c.args.element) (raw_of c.args.closing)) _ _ _ first-turn (over (raw_of c.args.list) (element_of c.args.element) (raw_of c.args.closing) (saw-so (c.at_list_end.ensures.sees false) c.if-at_list_end.true)) c.at_list_end.ensures.peeks.same
 
 pub lists::turn-read_element-requires : goal.lists::turn-read_element-requires
-lists::turn-read_element-requires t c = (omega arith, saw-after c.at_element.ensures.same (saw-so c.at_element.ensures.sees c.if-at_element.true))
+lists::turn-read_element-requires t c = (omega arith, saw-after c.at_element.ensures.peeks.same (saw-so c.at_element.ensures.sees c.if-at_element.true))
 
 pub lists::turn-returns-then-at_element-clause-goes : goal.lists::turn-returns-then-at_element-clause-goes
 unfolding tokens
-lists::turn-returns-then-at_element-clause-goes t c = λ e. next-turn false (list_turn (raw_of c.args.list) (element_of c.args.element) (raw_of c.args.closing)) (ends (raw_of c.args.list) (element_of c.args.element) (raw_of c.args.closing)) _ _ _ first-turn (more (raw_of c.args.list) (element_of c.args.element) (raw_of c.args.closing) (said-element c.args.element) (sure-element c.args.element) (saw-so (c.at_list_end.ensures.sees false) c.if-at_list_end.false) (saw-before c.at_list_end.ensures.same (saw-so c.at_element.ensures.sees c.if-at_element.true))) (after-look false c.at_list_end.ensures.same (after-look false c.at_element.ensures.same (reads-element (raw_of c.args.list) (element_of c.args.element) (raw_of c.args.closing) (said-element c.args.element) (sure-element c.args.element) (saw-after c.at_element.ensures.same (saw-so c.at_element.ensures.sees c.if-at_element.true)) c.read_element.ensures.reads (c.comma.ensures.reads false)))) (omega (arith, (ltb-true c.tokens_left.result c.tokens_left-before.result e), c.tokens_left.ensures, c.tokens_left-before.ensures, c.at_list_end.ensures.left))
+lists::turn-returns-then-at_element-clause-goes t c = λ e. record {
+  turns = (next-turn false (list_turn (raw_of c.args.list) (element_of c.args.element) (raw_of c.args.closing)) (ends (raw_of c.args.list) (element_of c.args.element) (raw_of c.args.closing)) _ _ _ first-turn (more (raw_of c.args.list) (element_of c.args.element) (raw_of c.args.closing) (said-element c.args.element) (sure-element c.args.element) (saw-so (c.at_list_end.ensures.sees false) c.if-at_list_end.false) (saw-before c.at_list_end.ensures.peeks.same (saw-so c.at_element.ensures.sees c.if-at_element.true))) (after-look false c.at_list_end.ensures.peeks.same (after-look false c.at_element.ensures.peeks.same (reads-element (raw_of c.args.list) (element_of c.args.element) (raw_of c.args.closing) (said-element c.args.element) (sure-element c.args.element) (saw-after c.at_element.ensures.peeks.same (saw-so c.at_element.ensures.sees c.if-at_element.true)) c.read_element.ensures.reads (c.comma.ensures.reads false)))) (omega (arith, (ltb-true c.tokens_left.result c.tokens_left-before.result e), c.tokens_left.ensures, c.tokens_left-before.ensures, c.at_list_end.ensures.peeks.left)));
+  takes = record {
+    left = omega (arith, (ltb-true c.tokens_left.result c.tokens_left-before.result e), c.tokens_left.ensures, c.tokens_left-before.ensures, c.at_list_end.ensures.peeks.left);
+    looks = omega (arith, few-looks-before c.args.element, c.at_element.ensures.peeks.looks, c.at_list_end.ensures.peeks.looks, element-pays c.at_element.new.p c.read_element.new.p c.comma.new.p (looks_in c.args.element) (few-looks-in c.args.element) c.read_element.ensures.pays c.read_element.ensures.asks.looks c.read_element.ensures.asks.left c.comma.ensures.asks.left c.comma.ensures.asks.looks c.comma.ensures.pays (omega (arith, (ltb-true c.tokens_left.result c.tokens_left-before.result e), c.tokens_left.ensures, c.tokens_left-before.ensures, c.at_element.ensures.peeks.left, c.at_list_end.ensures.peeks.left)));
+  };
+}
+
+pub lists::turn-returns-then-at_element-clause-keeps : goal.lists::turn-returns-then-at_element-clause-keeps
+lists::turn-returns-then-at_element-clause-keeps t c = record {
+  input = (c.comma.ensures.reads false).does.input ∙ c.read_element.ensures.reads.does.input ∙ c.at_element.ensures.peeks.same.input ∙ c.at_list_end.ensures.peeks.same.input;
+  innermost = λ n i. (c.comma.ensures.reads false).does.innermost n (c.read_element.ensures.reads.does.innermost n (c.at_element.ensures.peeks.same.innermost n (c.at_list_end.ensures.peeks.same.innermost n i)));
+}
+
+pub lists::turn-returns-then-at_element-clause-asks : goal.lists::turn-returns-then-at_element-clause-asks
+lists::turn-returns-then-at_element-clause-asks t c = record {
+  left = omega arith;
+  looks = omega (arith, c.at_element.ensures.peeks.looks, c.at_list_end.ensures.peeks.looks, c.read_element.ensures.asks.looks, c.comma.ensures.asks.looks);
+}
 
 pub lists::turn-returns-then-at_element-clause-ends : goal.lists::turn-returns-then-at_element-clause-ends
 unfolding tokens
-lists::turn-returns-then-at_element-clause-ends t c = λ e. idle-turn false (list_turn (raw_of c.args.list) (element_of c.args.element) (raw_of c.args.closing)) (ends (raw_of c.args.list) (element_of c.args.element) (raw_of c.args.closing)) _ _ _ first-turn (more (raw_of c.args.list) (element_of c.args.element) (raw_of c.args.closing) (said-element c.args.element) (sure-element c.args.element) (saw-so (c.at_list_end.ensures.sees false) c.if-at_list_end.false) (saw-before c.at_list_end.ensures.same (saw-so c.at_element.ensures.sees c.if-at_element.true))) (after-look false c.at_list_end.ensures.same (after-look false c.at_element.ensures.same (reads-element (raw_of c.args.list) (element_of c.args.element) (raw_of c.args.closing) (said-element c.args.element) (sure-element c.args.element) (saw-after c.at_element.ensures.same (saw-so c.at_element.ensures.sees c.if-at_element.true)) c.read_element.ensures.reads (c.comma.ensures.reads false)))) (omega (arith, (ltb-false c.tokens_left.result c.tokens_left-before.result e), c.tokens_left.ensures, c.tokens_left-before.ensures, c.at_list_end.ensures.left, c.comma.ensures.left, c.read_element.ensures.left, c.at_element.ensures.left))
-
-pub lists::turn-returns-then-at_element-clause-innermost : goal.lists::turn-returns-then-at_element-clause-innermost
-lists::turn-returns-then-at_element-clause-innermost t c = λ n i. (c.comma.ensures.reads false).does.innermost n (c.read_element.ensures.reads.does.innermost n (c.at_element.ensures.same.innermost n (c.at_list_end.ensures.same.innermost n i)))
-
-pub lists::turn-returns-then-at_element-clause-fewer : goal.lists::turn-returns-then-at_element-clause-fewer
-unfolding tokens
-lists::turn-returns-then-at_element-clause-fewer t c = λ e. omega (arith, (ltb-true c.tokens_left.result c.tokens_left-before.result e), c.tokens_left.ensures, c.tokens_left-before.ensures, c.at_list_end.ensures.left)
-
-pub lists::turn-returns-then-at_element-clause-pays : goal.lists::turn-returns-then-at_element-clause-pays
-unfolding tokens
-lists::turn-returns-then-at_element-clause-pays t c = λ e. omega (arith, few-looks-before c.args.element, c.at_element.ensures.looks, c.at_list_end.ensures.looks, element-pays c.at_element.new.p c.read_element.new.p c.comma.new.p (looks_in c.args.element) (few-looks-in c.args.element) c.read_element.ensures.pays c.read_element.ensures.looks c.read_element.ensures.left c.comma.ensures.left c.comma.ensures.looks c.comma.ensures.pays (omega (arith, (ltb-true c.tokens_left.result c.tokens_left-before.result e), c.tokens_left.ensures, c.tokens_left-before.ensures, c.at_element.ensures.left, c.at_list_end.ensures.left)))
-
-pub lists::turn-returns-then-at_element-clause-looks : goal.lists::turn-returns-then-at_element-clause-looks
-lists::turn-returns-then-at_element-clause-looks t c = omega (arith, c.at_element.ensures.looks, c.at_list_end.ensures.looks, c.read_element.ensures.looks, c.comma.ensures.looks)
+lists::turn-returns-then-at_element-clause-ends t c = λ e. idle-turn false (list_turn (raw_of c.args.list) (element_of c.args.element) (raw_of c.args.closing)) (ends (raw_of c.args.list) (element_of c.args.element) (raw_of c.args.closing)) _ _ _ first-turn (more (raw_of c.args.list) (element_of c.args.element) (raw_of c.args.closing) (said-element c.args.element) (sure-element c.args.element) (saw-so (c.at_list_end.ensures.sees false) c.if-at_list_end.false) (saw-before c.at_list_end.ensures.peeks.same (saw-so c.at_element.ensures.sees c.if-at_element.true))) (after-look false c.at_list_end.ensures.peeks.same (after-look false c.at_element.ensures.peeks.same (reads-element (raw_of c.args.list) (element_of c.args.element) (raw_of c.args.closing) (said-element c.args.element) (sure-element c.args.element) (saw-after c.at_element.ensures.peeks.same (saw-so c.at_element.ensures.sees c.if-at_element.true)) c.read_element.ensures.reads (c.comma.ensures.reads false)))) (omega (arith, (ltb-false c.tokens_left.result c.tokens_left-before.result e), c.tokens_left.ensures, c.tokens_left-before.ensures, c.at_list_end.ensures.peeks.left, c.comma.ensures.asks.left, c.read_element.ensures.asks.left, c.at_element.ensures.peeks.left))
 
 pub lists::turn-returns-then-at_unexpected-clause-goes : goal.lists::turn-returns-then-at_unexpected-clause-goes
 unfolding tokens
-lists::turn-returns-then-at_unexpected-clause-goes t c = λ e. next-turn false (list_turn (raw_of c.args.list) (element_of c.args.element) (raw_of c.args.closing)) (ends (raw_of c.args.list) (element_of c.args.element) (raw_of c.args.closing)) _ _ _ first-turn (stray (raw_of c.args.list) (element_of c.args.element) (raw_of c.args.closing) (said-element c.args.element) (sure-element c.args.element) (saw-so (c.at_list_end.ensures.sees false) c.if-at_list_end.false) (saw-before c.at_list_end.ensures.same (saw-so c.at_element.ensures.sees c.if-at_element.false)) (saw-before c.at_list_end.ensures.same (saw-before c.at_element.ensures.same (saw-so (c.at_unexpected.ensures.sees false) c.if-at_unexpected.true)))) (after-look false c.at_list_end.ensures.same (after-look false c.at_element.ensures.same (reads-stray (raw_of c.args.list) (element_of c.args.element) (raw_of c.args.closing) (said-element c.args.element) (sure-element c.args.element) (saw-after c.at_element.ensures.same (saw-so c.at_element.ensures.sees c.if-at_element.false)) (after-look false c.at_unexpected.ensures.same (c.skip.ensures.reads false))))) (omega (arith, c.skip.ensures.left, c.at_unexpected.ensures.left, c.at_element.ensures.left, c.at_list_end.ensures.left))
+lists::turn-returns-then-at_unexpected-clause-goes t c = λ e. record {
+  turns = (next-turn false (list_turn (raw_of c.args.list) (element_of c.args.element) (raw_of c.args.closing)) (ends (raw_of c.args.list) (element_of c.args.element) (raw_of c.args.closing)) _ _ _ first-turn (stray (raw_of c.args.list) (element_of c.args.element) (raw_of c.args.closing) (said-element c.args.element) (sure-element c.args.element) (saw-so (c.at_list_end.ensures.sees false) c.if-at_list_end.false) (saw-before c.at_list_end.ensures.peeks.same (saw-so c.at_element.ensures.sees c.if-at_element.false)) (saw-before c.at_list_end.ensures.peeks.same (saw-before c.at_element.ensures.peeks.same (saw-so (c.at_unexpected.ensures.sees false) c.if-at_unexpected.true)))) (after-look false c.at_list_end.ensures.peeks.same (after-look false c.at_element.ensures.peeks.same (reads-stray (raw_of c.args.list) (element_of c.args.element) (raw_of c.args.closing) (said-element c.args.element) (sure-element c.args.element) (saw-after c.at_element.ensures.peeks.same (saw-so c.at_element.ensures.sees c.if-at_element.false)) (after-look false c.at_unexpected.ensures.peeks.same (c.skip.ensures.reads false))))) (omega (arith, c.skip.ensures.left, c.at_unexpected.ensures.peeks.left, c.at_element.ensures.peeks.left, c.at_list_end.ensures.peeks.left)));
+  takes = record {
+    left = omega arith;
+    looks = omega (arith, few-looks-before c.args.element, c.at_element.ensures.peeks.looks, c.at_list_end.ensures.peeks.looks, c.at_unexpected.ensures.peeks.looks, c.skip.ensures.looks);
+  };
+}
 
-pub lists::turn-returns-then-at_unexpected-clause-innermost : goal.lists::turn-returns-then-at_unexpected-clause-innermost
-lists::turn-returns-then-at_unexpected-clause-innermost t c = λ n i. (c.skip.ensures.reads false).does.innermost n (c.at_unexpected.ensures.same.innermost n (c.at_element.ensures.same.innermost n (c.at_list_end.ensures.same.innermost n i)))
+pub lists::turn-returns-then-at_unexpected-clause-keeps : goal.lists::turn-returns-then-at_unexpected-clause-keeps
+lists::turn-returns-then-at_unexpected-clause-keeps t c = record {
+  input = (c.skip.ensures.reads false).does.input ∙ c.at_unexpected.ensures.peeks.same.input ∙ c.at_element.ensures.peeks.same.input ∙ c.at_list_end.ensures.peeks.same.input;
+  innermost = λ n i. (c.skip.ensures.reads false).does.innermost n (c.at_unexpected.ensures.peeks.same.innermost n (c.at_element.ensures.peeks.same.innermost n (c.at_list_end.ensures.peeks.same.innermost n i)));
+}
 
-pub lists::turn-returns-then-at_unexpected-clause-pays : goal.lists::turn-returns-then-at_unexpected-clause-pays
-lists::turn-returns-then-at_unexpected-clause-pays t c = λ e. omega (arith, few-looks-before c.args.element, c.at_element.ensures.looks, c.at_list_end.ensures.looks, c.at_unexpected.ensures.looks, c.skip.ensures.looks)
-
-pub lists::turn-returns-then-at_unexpected-clause-looks : goal.lists::turn-returns-then-at_unexpected-clause-looks
-lists::turn-returns-then-at_unexpected-clause-looks t c = omega (arith, few-looks-before c.args.element, c.at_element.ensures.looks, c.at_list_end.ensures.looks, c.at_unexpected.ensures.looks, c.skip.ensures.looks)
+pub lists::turn-returns-then-at_unexpected-clause-asks : goal.lists::turn-returns-then-at_unexpected-clause-asks
+lists::turn-returns-then-at_unexpected-clause-asks t c = record {
+  left = omega arith;
+  looks = omega (arith, few-looks-before c.args.element, c.at_element.ensures.peeks.looks, c.at_list_end.ensures.peeks.looks, c.at_unexpected.ensures.peeks.looks, c.skip.ensures.looks);
+}
 
 pub lists::turn-returns-clause-ends : goal.lists::turn-returns-clause-ends
-lists::turn-returns-clause-ends t c = λ e. last-turn false (list_turn (raw_of c.args.list) (element_of c.args.element) (raw_of c.args.closing)) (ends (raw_of c.args.list) (element_of c.args.element) (raw_of c.args.closing)) _ _ _ first-turn (over-there (raw_of c.args.list) (element_of c.args.element) (raw_of c.args.closing) (said-element c.args.element) (sure-element c.args.element) (saw-so (c.at_list_end.ensures.sees false) c.if-at_list_end.false) (saw-before c.at_list_end.ensures.same (saw-so c.at_element.ensures.sees c.if-at_element.false)) (saw-before c.at_list_end.ensures.same (saw-before c.at_element.ensures.same (saw-so (c.at_unexpected.ensures.sees false) c.if-at_unexpected.false)))) (does-then c.at_list_end.ensures.same (does-then c.at_element.ensures.same c.at_unexpected.ensures.same))
+lists::turn-returns-clause-ends t c = λ e. last-turn false (list_turn (raw_of c.args.list) (element_of c.args.element) (raw_of c.args.closing)) (ends (raw_of c.args.list) (element_of c.args.element) (raw_of c.args.closing)) _ _ _ first-turn (over-there (raw_of c.args.list) (element_of c.args.element) (raw_of c.args.closing) (said-element c.args.element) (sure-element c.args.element) (saw-so (c.at_list_end.ensures.sees false) c.if-at_list_end.false) (saw-before c.at_list_end.ensures.peeks.same (saw-so c.at_element.ensures.sees c.if-at_element.false)) (saw-before c.at_list_end.ensures.peeks.same (saw-before c.at_element.ensures.peeks.same (saw-so (c.at_unexpected.ensures.sees false) c.if-at_unexpected.false)))) (does-then c.at_list_end.ensures.peeks.same (does-then c.at_element.ensures.peeks.same c.at_unexpected.ensures.peeks.same))
 
-pub lists::turn-returns-clause-looks : goal.lists::turn-returns-clause-looks
-lists::turn-returns-clause-looks t c = omega (arith, c.at_element.ensures.looks, c.at_list_end.ensures.looks, c.at_unexpected.ensures.looks)
+pub lists::turn-returns-clause-asks : goal.lists::turn-returns-clause-asks
+lists::turn-returns-clause-asks t c = record {
+  left = omega arith;
+  looks = omega (arith, c.at_element.ensures.peeks.looks, c.at_list_end.ensures.peeks.looks, c.at_unexpected.ensures.peeks.looks);
+}
 
 pub lists::read_element-closure_param-requires : goal.lists::read_element-closure_param-requires
 lists::read_element-closure_param-requires t c =
@@ -152,10 +168,10 @@ lists::read_element-returns-in-Type-clause-reads t c = subst (λ (e : Element). 
 
 pub lists::elements-turns-preserved : goal.lists::elements-turns-preserved
 lists::elements-turns-preserved t c = record {
-  innermost = λ n i. c.turn.ensures.innermost n (c.turns.invariant.innermost n i);
-  goes = record { rest = λ end p. c.turns.invariant.goes.rest end ((c.turn.ensures.goes c.turns-test.true).rest end p) };
-  left = omega (arith, c.turns.invariant.left, c.turn.ensures.left);
-  looks = omega (arith, c.turns.invariant.looks, c.turn.ensures.pays c.turns-test.true);
+  innermost = λ n i. c.turn.ensures.keeps.innermost n (c.turns.invariant.innermost n i);
+  goes = record { rest = λ end p. c.turns.invariant.goes.rest end ((c.turn.ensures.goes c.turns-test.true).turns.rest end p) };
+  left = omega (arith, c.turns.invariant.left, c.turn.ensures.asks.left);
+  looks = omega (arith, c.turns.invariant.looks, (c.turn.ensures.goes c.turns-test.true).takes.looks);
 }
 
 pub lists::elements-returns-clause-reads : goal.lists::elements-returns-clause-reads
@@ -165,18 +181,18 @@ pub lists::rest_of_list-returns-clause-reads : goal.lists::rest_of_list-returns-
 lists::rest_of_list-returns-clause-reads t c = λ cond. reads-then cond (reads-mode cond c.elements.ensures.reads) (c.expect.ensures.reads cond)
 
 pub lists::tuple_tail-wrap-requires : goal.lists::tuple_tail-wrap-requires
-lists::tuple_tail-wrap-requires t c = (c.rest_of_list.ensures.reads true).does.innermost _ ((c.take.ensures.reads true).does.innermost _ (c.at.ensures.same.innermost _ c.requires.innermost))
+lists::tuple_tail-wrap-requires t c = (c.rest_of_list.ensures.reads true).does.innermost _ ((c.take.ensures.reads true).does.innermost _ (c.at.ensures.peeks.same.innermost _ c.requires.innermost))
 
 pub lists::tuple_tail-wrap-requires-2 : goal.lists::tuple_tail-wrap-requires-2
-lists::tuple_tail-wrap-requires-2 t c = (c.expect.ensures.reads true).does.innermost _ (c.at.ensures.same.innermost _ c.requires.innermost)
+lists::tuple_tail-wrap-requires-2 t c = (c.expect.ensures.reads true).does.innermost _ (c.at.ensures.peeks.same.innermost _ c.requires.innermost)
 
 pub lists::tuple_tail-returns-then-at-clause-reads : goal.lists::tuple_tail-returns-then-at-clause-reads
 unfolding look_of begins_below whole rule items statements expressions patterns types paths there_at shift passes is_silent begins in_mode anew row one_of any_of no_longer longest is_longer
-lists::tuple_tail-returns-then-at-clause-reads t c = λ cond. reads-here (saw-so (c.at.ensures.sees cond) c.if-at.true and nothing) (after-look cond c.at.ensures.same (reads-wrap cond (reads-then cond (c.take.ensures.reads cond) (c.rest_of_list.ensures.reads cond)) c.wrap.ensures.wraps))
+lists::tuple_tail-returns-then-at-clause-reads t c = λ cond. reads-here (saw-so (c.at.ensures.sees cond) c.if-at.true and nothing) (after-look cond c.at.ensures.peeks.same (reads-wrap cond (reads-then cond (c.take.ensures.reads cond) (c.rest_of_list.ensures.reads cond)) c.wrap.ensures.wraps))
 
 pub lists::tuple_tail-returns-clause-reads : goal.lists::tuple_tail-returns-clause-reads
 unfolding look_of begins_below whole rule items statements expressions patterns types paths there_at shift passes is_silent begins in_mode anew row one_of any_of no_longer longest is_longer
-lists::tuple_tail-returns-clause-reads t c = λ cond. reads-here (saw-so (c.at.ensures.sees cond) c.if-at.false and nothing) (after-look cond c.at.ensures.same (reads-wrap cond (c.expect.ensures.reads cond) c.wrap-2.ensures.wraps))
+lists::tuple_tail-returns-clause-reads t c = λ cond. reads-here (saw-so (c.at.ensures.sees cond) c.if-at.false and nothing) (after-look cond c.at.ensures.peeks.same (reads-wrap cond (c.expect.ensures.reads cond) c.wrap-2.ensures.wraps))
 
 pub lists::arguments-complete-requires : goal.lists::arguments-complete-requires
 lists::arguments-complete-requires t c = (c.rest_of_list.ensures.reads true).does.innermost _ ((c.take.ensures.reads true).does.innermost _ c.start-list.ensures.marker)

@@ -32,19 +32,19 @@ expressions::match_arm::opt_guard-complete-requires t c = (c.expect_condition.en
 
 pub expressions::match_arm::opt_guard-returns-then-at-clause-reads : goal.expressions::match_arm::opt_guard-returns-then-at-clause-reads
 unfolding look_of begins_below whole rule items statements expressions patterns types paths there_at shift passes is_silent begins in_mode anew row one_of any_of no_longer longest is_longer
-expressions::match_arm::opt_guard-returns-then-at-clause-reads t c = λ cond. reads-here (saw-so (c.at.ensures.sees cond) c.if-at.true and nothing) (after-look cond c.at.ensures.same (reads-node cond c.start-guard.ensures.opens (reads-then cond (c.take.ensures.reads cond) (c.expect_condition.ensures.reads cond)) c.complete.ensures.closes))
+expressions::match_arm::opt_guard-returns-then-at-clause-reads t c = λ cond. reads-here (saw-so (c.at.ensures.sees cond) c.if-at.true and nothing) (after-look cond c.at.ensures.peeks.same (reads-node cond c.start-guard.ensures.opens (reads-then cond (c.take.ensures.reads cond) (c.expect_condition.ensures.reads cond)) c.complete.ensures.closes))
 
 pub expressions::match_arm::opt_guard-returns-else-at-clause-reads : goal.expressions::match_arm::opt_guard-returns-else-at-clause-reads
 unfolding look_of begins_below whole rule items statements expressions patterns types paths there_at shift passes is_silent begins in_mode anew row one_of any_of no_longer longest is_longer
-expressions::match_arm::opt_guard-returns-else-at-clause-reads t c = λ cond. reads-here (saw-so (c.at.ensures.sees cond) c.if-at.false and nothing) (reads-nothing cond c.at.ensures.same)
+expressions::match_arm::opt_guard-returns-else-at-clause-reads t c = λ cond. reads-here (saw-so (c.at.ensures.sees cond) c.if-at.false and nothing) (reads-nothing cond c.at.ensures.peeks.same)
 
 pub expressions::match_arm::arm_value-block_like-requires : goal.expressions::match_arm::arm_value-block_like-requires
-expressions::match_arm::arm_value-block_like-requires t c = (omega arith, ((λ d. saw-after c.at_block_like.ensures.same (saw-so (c.at_block_like.ensures.sees d) c.if-at_block_like.true)), omega (arith, c.at_block_like.ensures.some c.if-at_block_like.true, c.at_block_like.ensures.left)))
+expressions::match_arm::arm_value-block_like-requires t c = (omega arith, ((λ d. saw-after c.at_block_like.ensures.peeks.same (saw-so (c.at_block_like.ensures.sees d) c.if-at_block_like.true)), omega (arith, c.at_block_like.ensures.some c.if-at_block_like.true, c.at_block_like.ensures.peeks.left)))
 
 pub expressions::match_arm::arm_value-returns-then-at_block_like-clause-reads : goal.expressions::match_arm::arm_value-returns-then-at_block_like-clause-reads
 unfolding look_of begins_below whole rule items statements expressions patterns types paths there_at shift passes is_silent begins in_mode anew row one_of any_of no_longer longest is_longer
-expressions::match_arm::arm_value-returns-then-at_block_like-clause-reads t c = reads-here (begun rules.block_like (saw-so (c.at_block_like.ensures.sees c.args.condition) c.if-at_block_like.true) nothing) (after-look _ c.at_block_like.ensures.same (reads-then _ (reads-call _ (c.block_like.ensures.gives c.args.condition)) (c.eat.ensures.reads c.args.condition)))
+expressions::match_arm::arm_value-returns-then-at_block_like-clause-reads t c = reads-here (begun rules.block_like (saw-so (c.at_block_like.ensures.sees c.args.condition) c.if-at_block_like.true) nothing) (after-look _ c.at_block_like.ensures.peeks.same (reads-then _ (reads-call _ (c.block_like.ensures.gives c.args.condition)) (c.eat.ensures.reads c.args.condition)))
 
 pub expressions::match_arm::arm_value-returns-clause-reads : goal.expressions::match_arm::arm_value-returns-clause-reads
 unfolding look_of begins_below whole rule items statements expressions patterns types paths there_at shift passes is_silent begins in_mode anew row one_of any_of no_longer longest is_longer
-expressions::match_arm::arm_value-returns-clause-reads t c = reads-here (begun rules.block_like (saw-so (c.at_block_like.ensures.sees c.args.condition) c.if-at_block_like.false) nothing) (after-look _ c.at_block_like.ensures.same (reads-then _ c.expect_expression.ensures.reads (c.comma.ensures.reads c.args.condition)))
+expressions::match_arm::arm_value-returns-clause-reads t c = reads-here (begun rules.block_like (saw-so (c.at_block_like.ensures.sees c.args.condition) c.if-at_block_like.false) nothing) (after-look _ c.at_block_like.ensures.peeks.same (reads-then _ c.expect_expression.ensures.reads (c.comma.ensures.reads c.args.condition)))

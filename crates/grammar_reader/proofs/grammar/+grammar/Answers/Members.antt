@@ -55,52 +55,52 @@ items::members::tuple_field-returns-clause-reads t c = reads-node false c.start-
 
 pub items::members::named-attributes_and_visibility-requires : goal.items::members::named-attributes_and_visibility-requires
 unfolding look_of begins_below whole rule items statements expressions patterns types paths there_at shift passes is_silent begins in_mode anew row one_of any_of no_longer longest is_longer
-items::members::named-attributes_and_visibility-requires t c = (omega arith, ((λ d. saw-after c.current.ensures.same (saw-told (saw-arm c.in-POUND.is (c.current.ensures.sees d) and nothing) refl)), omega arith))
+items::members::named-attributes_and_visibility-requires t c = (omega arith, ((λ d. saw-after c.current.ensures.peeks.same (saw-told (saw-arm c.in-POUND.is (c.current.ensures.sees d) and nothing) refl)), omega arith))
 
 pub items::members::named-returns-in-POUND-clause-reads : goal.items::members::named-returns-in-POUND-clause-reads
-items::members::named-returns-in-POUND-clause-reads t c = after-look false c.current.ensures.same (reads-two false (c.attributes_and_visibility.ensures.reads false) (c.expect_name.ensures.reads false))
+items::members::named-returns-in-POUND-clause-reads t c = after-look false c.current.ensures.peeks.same (reads-two false (c.attributes_and_visibility.ensures.reads false) (c.expect_name.ensures.reads false))
 
 pub items::members::named-returns-in-PUB_KW-clause-reads : goal.items::members::named-returns-in-PUB_KW-clause-reads
 unfolding look_of begins_below whole rule items statements expressions patterns types paths there_at shift passes is_silent begins in_mode anew row one_of any_of no_longer longest is_longer
-items::members::named-returns-in-PUB_KW-clause-reads t c = reads-here (saw-arm c.in-PUB_KW.is (c.current.ensures.sees false) and nothing) (after-look false c.current.ensures.same (reads-then false (reads-call false (c.visibility.ensures.gives false)) (c.expect_name-in-PUB_KW.ensures.reads false)))
+items::members::named-returns-in-PUB_KW-clause-reads t c = reads-here (saw-arm c.in-PUB_KW.is (c.current.ensures.sees false) and nothing) (after-look false c.current.ensures.peeks.same (reads-then false (reads-call false (c.visibility.ensures.gives false)) (c.expect_name-in-PUB_KW.ensures.reads false)))
 
 pub items::members::named-returns-in_default-clause-reads : goal.items::members::named-returns-in_default-clause-reads
 unfolding look_of begins_below whole rule items statements expressions patterns types paths there_at shift passes is_silent begins in_mode anew row one_of any_of no_longer longest is_longer
-items::members::named-returns-in_default-clause-reads t c = reads-here (saw-not c.in_default.not-POUND (c.current.ensures.sees false) and saw-not c.in_default.not-PUB_KW (c.current.ensures.sees false) and saw-else (Kind 0 kinds.IDENT) (begins looks (Attribute * ▸ ⁅ Visibility ⁆ ▸ Name !)) (saw-not c.in_default.not-POUND (c.current.ensures.sees false) and saw-not c.in_default.not-PUB_KW (c.current.ensures.sees false) and nothing) c.requires.begins refl and nothing) (after-look false c.current.ensures.same (reads-call false (c.name.ensures.gives false)))
+items::members::named-returns-in_default-clause-reads t c = reads-here (saw-not c.in_default.not-POUND (c.current.ensures.sees false) and saw-not c.in_default.not-PUB_KW (c.current.ensures.sees false) and saw-else (Kind 0 kinds.IDENT) (begins looks (Attribute * ▸ ⁅ Visibility ⁆ ▸ Name !)) (saw-not c.in_default.not-POUND (c.current.ensures.sees false) and saw-not c.in_default.not-PUB_KW (c.current.ensures.sees false) and nothing) c.requires.begins refl and nothing) (after-look false c.current.ensures.peeks.same (reads-call false (c.name.ensures.gives false)))
 
 pub items::members::typed-attributes_and_visibility-requires : goal.items::members::typed-attributes_and_visibility-requires
 unfolding look_of begins_below whole rule items statements expressions patterns types paths there_at shift passes is_silent begins in_mode anew row one_of any_of no_longer longest is_longer
-items::members::typed-attributes_and_visibility-requires t c = (omega arith, ((λ d. saw-after c.current.ensures.same (saw-told (saw-arm c.in-POUND.is (c.current.ensures.sees d) and nothing) refl)), omega arith))
+items::members::typed-attributes_and_visibility-requires t c = (omega arith, ((λ d. saw-after c.current.ensures.peeks.same (saw-told (saw-arm c.in-POUND.is (c.current.ensures.sees d) and nothing) refl)), omega arith))
 
 pub items::members::typed-returns-in-POUND-clause-reads : goal.items::members::typed-returns-in-POUND-clause-reads
-items::members::typed-returns-in-POUND-clause-reads t c = after-look false c.current.ensures.same (reads-two false (c.attributes_and_visibility.ensures.reads false) c.expect_type.ensures.reads)
+items::members::typed-returns-in-POUND-clause-reads t c = after-look false c.current.ensures.peeks.same (reads-two false (c.attributes_and_visibility.ensures.reads false) c.expect_type.ensures.reads)
 
 pub items::members::typed-returns-in-PUB_KW-clause-reads : goal.items::members::typed-returns-in-PUB_KW-clause-reads
 unfolding look_of begins_below whole rule items statements expressions patterns types paths there_at shift passes is_silent begins in_mode anew row one_of any_of no_longer longest is_longer
-items::members::typed-returns-in-PUB_KW-clause-reads t c = reads-here (saw-arm c.in-PUB_KW.is (c.current.ensures.sees false) and nothing) (after-look false c.current.ensures.same (reads-then false (reads-call false (c.visibility.ensures.gives false)) c.expect_type-in-PUB_KW.ensures.reads))
+items::members::typed-returns-in-PUB_KW-clause-reads t c = reads-here (saw-arm c.in-PUB_KW.is (c.current.ensures.sees false) and nothing) (after-look false c.current.ensures.peeks.same (reads-then false (reads-call false (c.visibility.ensures.gives false)) c.expect_type-in-PUB_KW.ensures.reads))
 
 pub items::members::typed-any_type-requires : goal.items::members::typed-any_type-requires
 unfolding look_of begins_below whole rule items statements expressions patterns types paths there_at shift passes is_silent begins in_mode anew row one_of any_of no_longer longest is_longer
-items::members::typed-any_type-requires t c = (omega arith, (saw-after c.current.ensures.same (saw-else (looks rules.any_type) (begins looks (Attribute * ▸ ⁅ Visibility ⁆ ▸ AnyType !)) (saw-not c.in_default.not-POUND (c.current.ensures.sees false) and saw-not c.in_default.not-PUB_KW (c.current.ensures.sees false) and nothing) c.requires.begins refl), omega arith))
+items::members::typed-any_type-requires t c = (omega arith, (saw-after c.current.ensures.peeks.same (saw-else (looks rules.any_type) (begins looks (Attribute * ▸ ⁅ Visibility ⁆ ▸ AnyType !)) (saw-not c.in_default.not-POUND (c.current.ensures.sees false) and saw-not c.in_default.not-PUB_KW (c.current.ensures.sees false) and nothing) c.requires.begins refl), omega arith))
 
 pub items::members::typed-returns-in_default-clause-reads : goal.items::members::typed-returns-in_default-clause-reads
 unfolding look_of begins_below whole rule items statements expressions patterns types paths there_at shift passes is_silent begins in_mode anew row one_of any_of no_longer longest is_longer
-items::members::typed-returns-in_default-clause-reads t c = reads-here (saw-not c.in_default.not-POUND (c.current.ensures.sees false) and saw-not c.in_default.not-PUB_KW (c.current.ensures.sees false) and begun rules.any_type (saw-else (looks rules.any_type) (begins looks (Attribute * ▸ ⁅ Visibility ⁆ ▸ AnyType !)) (saw-not c.in_default.not-POUND (c.current.ensures.sees false) and saw-not c.in_default.not-PUB_KW (c.current.ensures.sees false) and nothing) c.requires.begins refl) nothing) (after-look false c.current.ensures.same (reads-call false c.any_type.ensures.gives))
+items::members::typed-returns-in_default-clause-reads t c = reads-here (saw-not c.in_default.not-POUND (c.current.ensures.sees false) and saw-not c.in_default.not-PUB_KW (c.current.ensures.sees false) and begun rules.any_type (saw-else (looks rules.any_type) (begins looks (Attribute * ▸ ⁅ Visibility ⁆ ▸ AnyType !)) (saw-not c.in_default.not-POUND (c.current.ensures.sees false) and saw-not c.in_default.not-PUB_KW (c.current.ensures.sees false) and nothing) c.requires.begins refl) nothing) (after-look false c.current.ensures.peeks.same (reads-call false c.any_type.ensures.gives))
 
 pub items::members::opt_fields-record_fields-requires : goal.items::members::opt_fields-record_fields-requires
-items::members::opt_fields-record_fields-requires t c = (omega arith, omega (arith, c.current.ensures.left, c.current.ensures.some (λ e. absurd (omega (arith, sym (ap raw_of c.in-L_CURLY.is) ∙ e)))))
+items::members::opt_fields-record_fields-requires t c = (omega arith, omega (arith, c.current.ensures.peeks.left, c.current.ensures.some (λ e. absurd (omega (arith, sym (ap raw_of c.in-L_CURLY.is) ∙ e)))))
 
 pub items::members::opt_fields-returns-in-L_CURLY-clause-reads : goal.items::members::opt_fields-returns-in-L_CURLY-clause-reads
 unfolding look_of begins_below whole rule items statements expressions patterns types paths there_at shift passes is_silent begins in_mode anew row one_of any_of no_longer longest is_longer
-items::members::opt_fields-returns-in-L_CURLY-clause-reads t c = λ cond. reads-here (saw-arm c.in-L_CURLY.is (c.current.ensures.sees cond) and nothing) (after-look cond c.current.ensures.same (reads-call cond (c.record_fields.ensures.gives cond)))
+items::members::opt_fields-returns-in-L_CURLY-clause-reads t c = λ cond. reads-here (saw-arm c.in-L_CURLY.is (c.current.ensures.sees cond) and nothing) (after-look cond c.current.ensures.peeks.same (reads-call cond (c.record_fields.ensures.gives cond)))
 
 pub items::members::opt_fields-tuple_fields-requires : goal.items::members::opt_fields-tuple_fields-requires
-items::members::opt_fields-tuple_fields-requires t c = (omega arith, omega (arith, c.current.ensures.left, c.current.ensures.some (λ e. absurd (omega (arith, sym (ap raw_of c.in-L_PAREN.is) ∙ e)))))
+items::members::opt_fields-tuple_fields-requires t c = (omega arith, omega (arith, c.current.ensures.peeks.left, c.current.ensures.some (λ e. absurd (omega (arith, sym (ap raw_of c.in-L_PAREN.is) ∙ e)))))
 
 pub items::members::opt_fields-returns-in-L_PAREN-clause-reads : goal.items::members::opt_fields-returns-in-L_PAREN-clause-reads
 unfolding look_of begins_below whole rule items statements expressions patterns types paths there_at shift passes is_silent begins in_mode anew row one_of any_of no_longer longest is_longer
-items::members::opt_fields-returns-in-L_PAREN-clause-reads t c = λ cond. reads-here (saw-arm c.in-L_PAREN.is (c.current.ensures.sees cond) and nothing) (after-look cond c.current.ensures.same (reads-call cond (c.tuple_fields.ensures.gives cond)))
+items::members::opt_fields-returns-in-L_PAREN-clause-reads t c = λ cond. reads-here (saw-arm c.in-L_PAREN.is (c.current.ensures.sees cond) and nothing) (after-look cond c.current.ensures.peeks.same (reads-call cond (c.tuple_fields.ensures.gives cond)))
 
 pub items::members::opt_fields-returns-in_default-clause-reads : goal.items::members::opt_fields-returns-in_default-clause-reads
 unfolding look_of begins_below whole rule items statements expressions patterns types paths there_at shift passes is_silent begins in_mode anew row one_of any_of no_longer longest is_longer
-items::members::opt_fields-returns-in_default-clause-reads t c = λ cond. reads-here (saw-not c.in_default.not-L_CURLY (c.current.ensures.sees cond) and saw-not c.in_default.not-L_PAREN (c.current.ensures.sees cond) and nothing) (reads-nothing cond c.current.ensures.same)
+items::members::opt_fields-returns-in_default-clause-reads t c = λ cond. reads-here (saw-not c.in_default.not-L_CURLY (c.current.ensures.sees cond) and saw-not c.in_default.not-L_PAREN (c.current.ensures.sees cond) and nothing) (reads-nothing cond c.current.ensures.peeks.same)

@@ -26,27 +26,27 @@ use Rattle.grammar_reader.proofs.grammar.+grammar.Goals as goal
 
 pub expressions::operand::prefixed-returns-in-MINUS-clause-gives : goal.expressions::operand::prefixed-returns-in-MINUS-clause-gives
 unfolding look_of begins_below whole rule items statements expressions patterns types paths there_at shift passes is_silent begins in_mode anew row one_of any_of no_longer longest is_longer
-expressions::operand::prefixed-returns-in-MINUS-clause-gives t c = gives-anew (anew-here (saw-arm c.in-MINUS.is (c.current.ensures.sees c.args.condition) and nothing) (anew-look c.current.ensures.same (anew-after refl c.prefix_expr.ensures.reads)))
+expressions::operand::prefixed-returns-in-MINUS-clause-gives t c = gives-anew (anew-here (saw-arm c.in-MINUS.is (c.current.ensures.sees c.args.condition) and nothing) (anew-look c.current.ensures.peeks.same (anew-after refl c.prefix_expr.ensures.reads)))
 
 pub expressions::operand::prefixed-returns-in-BANG-clause-gives : goal.expressions::operand::prefixed-returns-in-BANG-clause-gives
 unfolding look_of begins_below whole rule items statements expressions patterns types paths there_at shift passes is_silent begins in_mode anew row one_of any_of no_longer longest is_longer
-expressions::operand::prefixed-returns-in-BANG-clause-gives t c = gives-anew (anew-here (saw-arm c.in-BANG.is (c.current.ensures.sees c.args.condition) and nothing) (anew-look c.current.ensures.same (anew-after refl c.prefix_expr-in-BANG.ensures.reads)))
+expressions::operand::prefixed-returns-in-BANG-clause-gives t c = gives-anew (anew-here (saw-arm c.in-BANG.is (c.current.ensures.sees c.args.condition) and nothing) (anew-look c.current.ensures.peeks.same (anew-after refl c.prefix_expr-in-BANG.ensures.reads)))
 
 pub expressions::operand::prefixed-returns-in-STAR-clause-gives : goal.expressions::operand::prefixed-returns-in-STAR-clause-gives
 unfolding look_of begins_below whole rule items statements expressions patterns types paths there_at shift passes is_silent begins in_mode anew row one_of any_of no_longer longest is_longer
-expressions::operand::prefixed-returns-in-STAR-clause-gives t c = gives-anew (anew-here (saw-arm c.in-STAR.is (c.current.ensures.sees c.args.condition) and nothing) (anew-look c.current.ensures.same (anew-after refl c.prefix_expr-in-STAR.ensures.reads)))
+expressions::operand::prefixed-returns-in-STAR-clause-gives t c = gives-anew (anew-here (saw-arm c.in-STAR.is (c.current.ensures.sees c.args.condition) and nothing) (anew-look c.current.ensures.peeks.same (anew-after refl c.prefix_expr-in-STAR.ensures.reads)))
 
 pub expressions::operand::prefixed-returns-in-AMP-clause-gives : goal.expressions::operand::prefixed-returns-in-AMP-clause-gives
 unfolding look_of begins_below whole rule items statements expressions patterns types paths there_at shift passes is_silent begins in_mode anew row one_of any_of no_longer longest is_longer
-expressions::operand::prefixed-returns-in-AMP-clause-gives t c = gives-anew (anew-here (saw-arm c.in-AMP.is (c.current.ensures.sees c.args.condition) and nothing) (anew-look c.current.ensures.same (anew-after refl c.ref_expr.ensures.reads)))
+expressions::operand::prefixed-returns-in-AMP-clause-gives t c = gives-anew (anew-here (saw-arm c.in-AMP.is (c.current.ensures.sees c.args.condition) and nothing) (anew-look c.current.ensures.peeks.same (anew-after refl c.ref_expr.ensures.reads)))
 
 pub expressions::operand::prefixed-operand-requires : goal.expressions::operand::prefixed-operand-requires
 unfolding look_of begins_below whole rule items statements expressions patterns types paths there_at shift passes is_silent begins in_mode anew row one_of any_of no_longer longest is_longer
-expressions::operand::prefixed-operand-requires t c = (omega arith, (saw-after c.current.ensures.same (begins-else rules.atom rules.prefixed refl (saw-not c.in_default.not-MINUS (c.current.ensures.sees c.args.condition) and saw-not c.in_default.not-BANG (c.current.ensures.sees c.args.condition) and saw-not c.in_default.not-STAR (c.current.ensures.sees c.args.condition) and saw-not c.in_default.not-AMP (c.current.ensures.sees c.args.condition) and nothing) c.requires.begins refl), omega arith))
+expressions::operand::prefixed-operand-requires t c = (omega arith, (saw-after c.current.ensures.peeks.same (begins-else rules.atom rules.prefixed refl (saw-not c.in_default.not-MINUS (c.current.ensures.sees c.args.condition) and saw-not c.in_default.not-BANG (c.current.ensures.sees c.args.condition) and saw-not c.in_default.not-STAR (c.current.ensures.sees c.args.condition) and saw-not c.in_default.not-AMP (c.current.ensures.sees c.args.condition) and nothing) c.requires.begins refl), omega arith))
 
 pub expressions::operand::prefixed-returns-in_default-clause-gives : goal.expressions::operand::prefixed-returns-in_default-clause-gives
 unfolding look_of begins_below whole rule items statements expressions patterns types paths there_at shift passes is_silent begins in_mode anew row one_of any_of no_longer longest is_longer
-expressions::operand::prefixed-returns-in_default-clause-gives t c = gives-anew (anew-here (saw-not c.in_default.not-MINUS (c.current.ensures.sees c.args.condition) and saw-not c.in_default.not-BANG (c.current.ensures.sees c.args.condition) and saw-not c.in_default.not-STAR (c.current.ensures.sees c.args.condition) and saw-not c.in_default.not-AMP (c.current.ensures.sees c.args.condition) and nothing) (anew-look c.current.ensures.same c.operand.ensures.anew))
+expressions::operand::prefixed-returns-in_default-clause-gives t c = gives-anew (anew-here (saw-not c.in_default.not-MINUS (c.current.ensures.sees c.args.condition) and saw-not c.in_default.not-BANG (c.current.ensures.sees c.args.condition) and saw-not c.in_default.not-STAR (c.current.ensures.sees c.args.condition) and saw-not c.in_default.not-AMP (c.current.ensures.sees c.args.condition) and nothing) (anew-look c.current.ensures.peeks.same c.operand.ensures.anew))
 
 pub expressions::operand::prefix_expr-complete-requires : goal.expressions::operand::prefix_expr-complete-requires
 expressions::operand::prefix_expr-complete-requires t c = c.expect_expression.ensures.reads.does.innermost _ ((c.take.ensures.reads true).does.innermost _ c.start-node.ensures.marker)
@@ -61,10 +61,10 @@ pub expressions::operand::ref_expr-returns-clause-reads : goal.expressions::oper
 expressions::operand::ref_expr-returns-clause-reads t c = reads-node _ c.start-node.ensures.opens (reads-then _ (c.take.ensures.reads c.args.condition) (reads-then _ (c.eat.ensures.reads c.args.condition) c.expect_expression.ensures.reads)) c.complete.ensures.closes
 
 pub expressions::operand::operand-inside-frame-requires : goal.expressions::operand::operand-inside-frame-requires
-expressions::operand::operand-inside-frame-requires t c = (omega arith, (saw-inside c.start-frame.ensures.opens c.requires.begins, (omega arith, c.start-frame.ensures.marker)))
+expressions::operand::operand-inside-frame-requires t c = (omega arith, (record { sees = saw-inside c.start-frame.ensures.opens c.requires.begins; some = omega arith }, c.start-frame.ensures.marker))
 
 pub expressions::operand::operand-postfixes-frame-requires : goal.expressions::operand::operand-postfixes-frame-requires
-expressions::operand::operand-postfixes-frame-requires t c = (omega arith, c.inside-frame.ensures.marker)
+expressions::operand::operand-postfixes-frame-requires t c = (omega arith, c.inside-frame.ensures.takes.marker)
 
 pub expressions::operand::operand-returns-clause-anew : goal.expressions::operand::operand-returns-clause-anew
 expressions::operand::operand-returns-clause-anew t c = anew-first c.start-frame.ensures.opens (completes-leave (reads-then _ c.inside-frame.ensures.reads (c.postfixes-frame.ensures.reads c.args.condition)) c.abandon.ensures.leaves)
@@ -72,105 +72,105 @@ expressions::operand::operand-returns-clause-anew t c = anew-first c.start-frame
 pub expressions::operand::postfixes-turns-preserved : goal.expressions::operand::postfixes-turns-preserved
 unfolding tokens look_of begins_below whole rule items statements expressions patterns types paths there_at shift passes is_silent begins in_mode anew row one_of any_of no_longer longest is_longer
 expressions::operand::postfixes-turns-preserved t c = record {
-  marker = c.postfix-frame.ensures.marker;
+  marker = c.postfix-frame.ensures.takes.marker;
   goes = λ cond.
       next-turn cond (more rules.postfix) (ends-at-end cond (more rules.postfix) refl) _ _ _ (c.turns.invariant.goes cond) (saw-so (c.at_postfix.ensures.sees cond) c.turns-test.true)
-      (after-look cond c.at_postfix.ensures.same (c.postfix-frame.ensures.reads cond)) (omega (arith, c.postfix-frame.ensures.left, c.at_postfix.ensures.left));
-  left = omega (arith, c.turns.invariant.left, c.postfix-frame.ensures.left, c.at_postfix.ensures.left);
-  looks = omega (arith, c.turns.invariant.looks, c.postfix-frame.ensures.looks, c.at_postfix.ensures.looks);
+      (after-look cond c.at_postfix.ensures.peeks.same (c.postfix-frame.ensures.reads cond)) (omega (arith, c.postfix-frame.ensures.takes.left, c.at_postfix.ensures.peeks.left));
+  left = omega (arith, c.turns.invariant.left, c.postfix-frame.ensures.takes.left, c.at_postfix.ensures.peeks.left);
+  looks = omega (arith, c.turns.invariant.looks, c.postfix-frame.ensures.takes.looks, c.at_postfix.ensures.peeks.looks);
 }
 
 pub expressions::operand::postfixes-returns-clause-reads : goal.expressions::operand::postfixes-returns-clause-reads
 unfolding look_of begins_below whole rule items statements expressions patterns types paths there_at shift passes is_silent begins in_mode anew row one_of any_of no_longer longest is_longer
-expressions::operand::postfixes-returns-clause-reads t c = λ cond. last-turn cond (more rules.postfix) (ends-at-end cond (more rules.postfix) refl) _ _ _ (c.turns.invariant.goes cond) (saw-so (c.at_postfix.ensures.sees cond) c.turns-test.false) c.at_postfix.ensures.same
+expressions::operand::postfixes-returns-clause-reads t c = λ cond. last-turn cond (more rules.postfix) (ends-at-end cond (more rules.postfix) refl) _ _ _ (c.turns.invariant.goes cond) (saw-so (c.at_postfix.ensures.sees cond) c.turns-test.false) c.at_postfix.ensures.peeks.same
 
 pub expressions::operand::postfix-wrap-requires : goal.expressions::operand::postfix-wrap-requires
-expressions::operand::postfix-wrap-requires t c = (c.arguments.ensures.gives true).does.innermost _ (c.current.ensures.same.innermost _ c.requires.innermost)
+expressions::operand::postfix-wrap-requires t c = (c.arguments.ensures.gives true).does.innermost _ (c.current.ensures.peeks.same.innermost _ c.requires.innermost)
 
 pub expressions::operand::postfix-returns-in-L_PAREN-clause-reads : goal.expressions::operand::postfix-returns-in-L_PAREN-clause-reads
 unfolding look_of begins_below whole rule items statements expressions patterns types paths there_at shift passes is_silent begins in_mode anew row one_of any_of no_longer longest is_longer
-expressions::operand::postfix-returns-in-L_PAREN-clause-reads t c = λ cond. reads-more cond (goes rules.postfix cond (reads-here (saw-arm c.in-L_PAREN.is (c.current.ensures.sees cond) and nothing) (after-look cond c.current.ensures.same (reads-wrap cond (reads-call cond (c.arguments.ensures.gives cond)) c.wrap.ensures.wraps))))
+expressions::operand::postfix-returns-in-L_PAREN-clause-reads t c = λ cond. reads-more cond (goes rules.postfix cond (reads-here (saw-arm c.in-L_PAREN.is (c.current.ensures.sees cond) and nothing) (after-look cond c.current.ensures.peeks.same (reads-wrap cond (reads-call cond (c.arguments.ensures.gives cond)) c.wrap.ensures.wraps))))
 
 pub expressions::operand::postfix-wrap-requires-in-L_BRACK : goal.expressions::operand::postfix-wrap-requires-in-L_BRACK
-expressions::operand::postfix-wrap-requires-in-L_BRACK t c = (c.index.ensures.reads true).does.innermost _ (c.current.ensures.same.innermost _ c.requires.innermost)
+expressions::operand::postfix-wrap-requires-in-L_BRACK t c = (c.index.ensures.reads true).does.innermost _ (c.current.ensures.peeks.same.innermost _ c.requires.innermost)
 
 pub expressions::operand::postfix-returns-in-L_BRACK-clause-reads : goal.expressions::operand::postfix-returns-in-L_BRACK-clause-reads
 unfolding look_of begins_below whole rule items statements expressions patterns types paths there_at shift passes is_silent begins in_mode anew row one_of any_of no_longer longest is_longer
-expressions::operand::postfix-returns-in-L_BRACK-clause-reads t c = λ cond. reads-more cond (goes rules.postfix cond (reads-here (saw-arm c.in-L_BRACK.is (c.current.ensures.sees cond) and nothing) (after-look cond c.current.ensures.same (reads-wrap cond (c.index.ensures.reads cond) c.wrap-in-L_BRACK.ensures.wraps))))
+expressions::operand::postfix-returns-in-L_BRACK-clause-reads t c = λ cond. reads-more cond (goes rules.postfix cond (reads-here (saw-arm c.in-L_BRACK.is (c.current.ensures.sees cond) and nothing) (after-look cond c.current.ensures.peeks.same (reads-wrap cond (c.index.ensures.reads cond) c.wrap-in-L_BRACK.ensures.wraps))))
 
 pub expressions::operand::postfix-wrap-requires-in-QUESTION : goal.expressions::operand::postfix-wrap-requires-in-QUESTION
-expressions::operand::postfix-wrap-requires-in-QUESTION t c = (c.take.ensures.reads true).does.innermost _ (c.current.ensures.same.innermost _ c.requires.innermost)
+expressions::operand::postfix-wrap-requires-in-QUESTION t c = (c.take.ensures.reads true).does.innermost _ (c.current.ensures.peeks.same.innermost _ c.requires.innermost)
 
 pub expressions::operand::postfix-returns-in-QUESTION-clause-reads : goal.expressions::operand::postfix-returns-in-QUESTION-clause-reads
 unfolding look_of begins_below whole rule items statements expressions patterns types paths there_at shift passes is_silent begins in_mode anew row one_of any_of no_longer longest is_longer
-expressions::operand::postfix-returns-in-QUESTION-clause-reads t c = λ cond. reads-more cond (goes rules.postfix cond (reads-here (saw-arm c.in-QUESTION.is (c.current.ensures.sees cond) and nothing) (after-look cond c.current.ensures.same (reads-wrap cond (c.take.ensures.reads cond) c.wrap-in-QUESTION.ensures.wraps))))
+expressions::operand::postfix-returns-in-QUESTION-clause-reads t c = λ cond. reads-more cond (goes rules.postfix cond (reads-here (saw-arm c.in-QUESTION.is (c.current.ensures.sees cond) and nothing) (after-look cond c.current.ensures.peeks.same (reads-wrap cond (c.take.ensures.reads cond) c.wrap-in-QUESTION.ensures.wraps))))
 
 pub expressions::operand::postfix-after_dot-requires : goal.expressions::operand::postfix-after_dot-requires
-expressions::operand::postfix-after_dot-requires t c = (omega arith, (c.take-in_default.ensures.reads true).does.innermost _ (c.current.ensures.same.innermost _ c.requires.innermost))
+expressions::operand::postfix-after_dot-requires t c = (omega arith, (c.take-in_default.ensures.reads true).does.innermost _ (c.current.ensures.peeks.same.innermost _ c.requires.innermost))
 
 pub expressions::operand::postfix-returns-in_default-clause-reads : goal.expressions::operand::postfix-returns-in_default-clause-reads
 unfolding look_of begins_below whole rule items statements expressions patterns types paths there_at shift passes is_silent begins in_mode anew row one_of any_of no_longer longest is_longer
-expressions::operand::postfix-returns-in_default-clause-reads t c = λ cond. reads-more cond (goes rules.postfix cond (reads-here (saw-not c.in_default.not-L_PAREN (c.current.ensures.sees cond) and saw-not c.in_default.not-L_BRACK (c.current.ensures.sees cond) and saw-not c.in_default.not-QUESTION (c.current.ensures.sees cond) and nothing) (after-look cond c.current.ensures.same (reads-then cond (c.take-in_default.ensures.reads cond) (c.after_dot.ensures.reads cond)))))
+expressions::operand::postfix-returns-in_default-clause-reads t c = λ cond. reads-more cond (goes rules.postfix cond (reads-here (saw-not c.in_default.not-L_PAREN (c.current.ensures.sees cond) and saw-not c.in_default.not-L_BRACK (c.current.ensures.sees cond) and saw-not c.in_default.not-QUESTION (c.current.ensures.sees cond) and nothing) (after-look cond c.current.ensures.peeks.same (reads-then cond (c.take-in_default.ensures.reads cond) (c.after_dot.ensures.reads cond)))))
 
 pub expressions::operand::index-returns-clause-reads : goal.expressions::operand::index-returns-clause-reads
 expressions::operand::index-returns-clause-reads t c = λ cond. (reads-then cond (c.take.ensures.reads cond) (reads-then cond (reads-mode cond c.expect_expression.ensures.reads) (c.expect.ensures.reads cond)))
 
 pub expressions::operand::after_dot-wrap-requires : goal.expressions::operand::after_dot-wrap-requires
-expressions::operand::after_dot-wrap-requires t c = (c.method_call.ensures.reads true).does.innermost _ (c.at_method.ensures.same.innermost _ c.requires.innermost)
+expressions::operand::after_dot-wrap-requires t c = (c.method_call.ensures.reads true).does.innermost _ (c.at_method.ensures.peeks.same.innermost _ c.requires.innermost)
 
 pub expressions::operand::after_dot-returns-then-at_method-clause-reads : goal.expressions::operand::after_dot-returns-then-at_method-clause-reads
 unfolding look_of begins_below whole rule items statements expressions patterns types paths there_at shift passes is_silent begins in_mode anew row one_of any_of no_longer longest is_longer
-expressions::operand::after_dot-returns-then-at_method-clause-reads t c = λ cond. reads-more cond (goes rules.after_dot cond (reads-here (saw-so (c.at_method.ensures.sees cond) c.if-at_method.true and nothing) (after-look cond c.at_method.ensures.same (reads-wrap cond (c.method_call.ensures.reads cond) c.wrap.ensures.wraps))))
+expressions::operand::after_dot-returns-then-at_method-clause-reads t c = λ cond. reads-more cond (goes rules.after_dot cond (reads-here (saw-so (c.at_method.ensures.sees cond) c.if-at_method.true and nothing) (after-look cond c.at_method.ensures.peeks.same (reads-wrap cond (c.method_call.ensures.reads cond) c.wrap.ensures.wraps))))
 
 pub expressions::operand::after_dot-wrap-requires-in-IDENT : goal.expressions::operand::after_dot-wrap-requires-in-IDENT
-expressions::operand::after_dot-wrap-requires-in-IDENT t c = (c.word_type.ensures.reads true).does.innermost _ (c.current.ensures.same.innermost _ (c.at_method.ensures.same.innermost _ c.requires.innermost))
+expressions::operand::after_dot-wrap-requires-in-IDENT t c = (c.word_type.ensures.reads true).does.innermost _ (c.current.ensures.peeks.same.innermost _ (c.at_method.ensures.peeks.same.innermost _ c.requires.innermost))
 
 pub expressions::operand::after_dot-returns-in-IDENT-clause-reads : goal.expressions::operand::after_dot-returns-in-IDENT-clause-reads
 unfolding look_of begins_below whole rule items statements expressions patterns types paths there_at shift passes is_silent begins in_mode anew row one_of any_of no_longer longest is_longer
-expressions::operand::after_dot-returns-in-IDENT-clause-reads t c = λ cond. reads-more cond (goes rules.after_dot cond (reads-here (saw-so (c.at_method.ensures.sees cond) c.if-at_method.false and saw-before c.at_method.ensures.same (saw-arm c.in-IDENT.is (c.current.ensures.sees cond)) and nothing) (after-look cond c.at_method.ensures.same (after-look cond c.current.ensures.same (reads-wrap cond (c.word_type.ensures.reads cond) c.wrap-in-IDENT.ensures.wraps)))))
+expressions::operand::after_dot-returns-in-IDENT-clause-reads t c = λ cond. reads-more cond (goes rules.after_dot cond (reads-here (saw-so (c.at_method.ensures.sees cond) c.if-at_method.false and saw-before c.at_method.ensures.peeks.same (saw-arm c.in-IDENT.is (c.current.ensures.sees cond)) and nothing) (after-look cond c.at_method.ensures.peeks.same (after-look cond c.current.ensures.peeks.same (reads-wrap cond (c.word_type.ensures.reads cond) c.wrap-in-IDENT.ensures.wraps)))))
 
 pub expressions::operand::after_dot-wrap-requires-in-INT_NUMBER : goal.expressions::operand::after_dot-wrap-requires-in-INT_NUMBER
-expressions::operand::after_dot-wrap-requires-in-INT_NUMBER t c = (c.word_type-in-INT_NUMBER.ensures.reads true).does.innermost _ (c.current.ensures.same.innermost _ (c.at_method.ensures.same.innermost _ c.requires.innermost))
+expressions::operand::after_dot-wrap-requires-in-INT_NUMBER t c = (c.word_type-in-INT_NUMBER.ensures.reads true).does.innermost _ (c.current.ensures.peeks.same.innermost _ (c.at_method.ensures.peeks.same.innermost _ c.requires.innermost))
 
 pub expressions::operand::after_dot-returns-in-INT_NUMBER-clause-reads : goal.expressions::operand::after_dot-returns-in-INT_NUMBER-clause-reads
 unfolding look_of begins_below whole rule items statements expressions patterns types paths there_at shift passes is_silent begins in_mode anew row one_of any_of no_longer longest is_longer
-expressions::operand::after_dot-returns-in-INT_NUMBER-clause-reads t c = λ cond. reads-more cond (goes rules.after_dot cond (reads-here (saw-so (c.at_method.ensures.sees cond) c.if-at_method.false and saw-before c.at_method.ensures.same (saw-arm c.in-INT_NUMBER.is (c.current.ensures.sees cond)) and nothing) (after-look cond c.at_method.ensures.same (after-look cond c.current.ensures.same (reads-wrap cond (c.word_type-in-INT_NUMBER.ensures.reads cond) c.wrap-in-INT_NUMBER.ensures.wraps)))))
+expressions::operand::after_dot-returns-in-INT_NUMBER-clause-reads t c = λ cond. reads-more cond (goes rules.after_dot cond (reads-here (saw-so (c.at_method.ensures.sees cond) c.if-at_method.false and saw-before c.at_method.ensures.peeks.same (saw-arm c.in-INT_NUMBER.is (c.current.ensures.sees cond)) and nothing) (after-look cond c.at_method.ensures.peeks.same (after-look cond c.current.ensures.peeks.same (reads-wrap cond (c.word_type-in-INT_NUMBER.ensures.reads cond) c.wrap-in-INT_NUMBER.ensures.wraps)))))
 
 pub expressions::operand::after_dot-float-requires : goal.expressions::operand::after_dot-float-requires
-expressions::operand::after_dot-float-requires t c = (omega arith, ((λ d. saw-after c.current.ensures.same (saw-arm c.in-FLOAT_NUMBER.is (c.current.ensures.sees d))), (omega (arith, c.current.ensures.some (λ e. absurd (omega (arith, sym (ap (λ (k : SyntaxKind). raw_of k) c.in-FLOAT_NUMBER.is) ∙ e))), c.current.ensures.left), c.current.ensures.same.innermost _ (c.at_method.ensures.same.innermost _ c.requires.innermost))))
+expressions::operand::after_dot-float-requires t c = (omega arith, (record { sees = λ d. saw-after c.current.ensures.peeks.same (saw-arm c.in-FLOAT_NUMBER.is (c.current.ensures.sees d)); some = omega (arith, c.current.ensures.some (λ e. absurd (omega (arith, sym (ap (λ (k : SyntaxKind). raw_of k) c.in-FLOAT_NUMBER.is) ∙ e))), c.current.ensures.peeks.left) }, c.current.ensures.peeks.same.innermost _ (c.at_method.ensures.peeks.same.innermost _ c.requires.innermost)))
 
 pub expressions::operand::after_dot-returns-in-FLOAT_NUMBER-clause-reads : goal.expressions::operand::after_dot-returns-in-FLOAT_NUMBER-clause-reads
 unfolding look_of begins_below whole rule items statements expressions patterns types paths there_at shift passes is_silent begins in_mode anew row one_of any_of no_longer longest is_longer
-expressions::operand::after_dot-returns-in-FLOAT_NUMBER-clause-reads t c = λ cond. reads-more cond (goes rules.after_dot cond (reads-here (saw-so (c.at_method.ensures.sees cond) c.if-at_method.false and saw-before c.at_method.ensures.same (saw-arm c.in-FLOAT_NUMBER.is (c.current.ensures.sees cond)) and nothing) (after-look cond c.at_method.ensures.same (after-look cond c.current.ensures.same (c.float.ensures.reads cond)))))
+expressions::operand::after_dot-returns-in-FLOAT_NUMBER-clause-reads t c = λ cond. reads-more cond (goes rules.after_dot cond (reads-here (saw-so (c.at_method.ensures.sees cond) c.if-at_method.false and saw-before c.at_method.ensures.peeks.same (saw-arm c.in-FLOAT_NUMBER.is (c.current.ensures.sees cond)) and nothing) (after-look cond c.at_method.ensures.peeks.same (after-look cond c.current.ensures.peeks.same (c.float.ensures.reads cond)))))
 
 pub expressions::operand::after_dot-wrap-requires-in_default : goal.expressions::operand::after_dot-wrap-requires-in_default
-expressions::operand::after_dot-wrap-requires-in_default t c = (c.error.ensures.reads true).does.innermost _ (c.current.ensures.same.innermost _ (c.at_method.ensures.same.innermost _ c.requires.innermost))
+expressions::operand::after_dot-wrap-requires-in_default t c = (c.error.ensures.reads true).does.innermost _ (c.current.ensures.peeks.same.innermost _ (c.at_method.ensures.peeks.same.innermost _ c.requires.innermost))
 
 pub expressions::operand::after_dot-returns-in_default-clause-reads : goal.expressions::operand::after_dot-returns-in_default-clause-reads
 unfolding look_of begins_below whole rule items statements expressions patterns types paths there_at shift passes is_silent begins in_mode anew row one_of any_of no_longer longest is_longer
-expressions::operand::after_dot-returns-in_default-clause-reads t c = λ cond. reads-more cond (goes rules.after_dot cond (reads-here (saw-so (c.at_method.ensures.sees cond) c.if-at_method.false and saw-before c.at_method.ensures.same (saw-not c.in_default.not-IDENT (c.current.ensures.sees cond)) and saw-before c.at_method.ensures.same (saw-not c.in_default.not-INT_NUMBER (c.current.ensures.sees cond)) and saw-before c.at_method.ensures.same (saw-not c.in_default.not-FLOAT_NUMBER (c.current.ensures.sees cond)) and nothing) (after-look cond c.at_method.ensures.same (after-look cond c.current.ensures.same (reads-wrap cond (c.error.ensures.reads cond) c.wrap-in_default.ensures.wraps)))))
+expressions::operand::after_dot-returns-in_default-clause-reads t c = λ cond. reads-more cond (goes rules.after_dot cond (reads-here (saw-so (c.at_method.ensures.sees cond) c.if-at_method.false and saw-before c.at_method.ensures.peeks.same (saw-not c.in_default.not-IDENT (c.current.ensures.sees cond)) and saw-before c.at_method.ensures.peeks.same (saw-not c.in_default.not-INT_NUMBER (c.current.ensures.sees cond)) and saw-before c.at_method.ensures.peeks.same (saw-not c.in_default.not-FLOAT_NUMBER (c.current.ensures.sees cond)) and nothing) (after-look cond c.at_method.ensures.peeks.same (after-look cond c.current.ensures.peeks.same (reads-wrap cond (c.error.ensures.reads cond) c.wrap-in_default.ensures.wraps)))))
 
 pub expressions::operand::method_call-returns-clause-reads : goal.expressions::operand::method_call-returns-clause-reads
 expressions::operand::method_call-returns-clause-reads t c = λ cond. (reads-then cond (c.word_type.ensures.reads cond) (reads-then cond (c.opt_generic_args.ensures.reads cond) (c.expect_arguments.ensures.reads cond)))
 
 pub expressions::operand::expect_arguments-returns-then-at-clause-reads : goal.expressions::operand::expect_arguments-returns-then-at-clause-reads
 unfolding look_of begins_below whole rule items statements expressions patterns types paths there_at shift passes is_silent begins in_mode anew row one_of any_of no_longer longest is_longer
-expressions::operand::expect_arguments-returns-then-at-clause-reads t c = λ cond. reads-here (saw-so (c.at.ensures.sees cond) c.if-at.true and nothing) (after-look cond c.at.ensures.same (reads-call cond (c.arguments.ensures.gives cond)))
+expressions::operand::expect_arguments-returns-then-at-clause-reads t c = λ cond. reads-here (saw-so (c.at.ensures.sees cond) c.if-at.true and nothing) (after-look cond c.at.ensures.peeks.same (reads-call cond (c.arguments.ensures.gives cond)))
 
 pub expressions::operand::expect_arguments-returns-clause-reads : goal.expressions::operand::expect_arguments-returns-clause-reads
 unfolding look_of begins_below whole rule items statements expressions patterns types paths there_at shift passes is_silent begins in_mode anew row one_of any_of no_longer longest is_longer
-expressions::operand::expect_arguments-returns-clause-reads t c = λ cond. reads-here (saw-so (c.at.ensures.sees cond) c.if-at.false and nothing) (after-look cond c.at.ensures.same (c.error.ensures.reads cond))
+expressions::operand::expect_arguments-returns-clause-reads t c = λ cond. reads-here (saw-so (c.at.ensures.sees cond) c.if-at.false and nothing) (after-look cond c.at.ensures.peeks.same (c.error.ensures.reads cond))
 
 pub expressions::operand::float-split-frame-requires : goal.expressions::operand::float-split-frame-requires
-expressions::operand::float-split-frame-requires t c = record { float = λ d. saw-after c.at_joint-joint.ensures.same (c.requires.float d); joint = λ d. saw-after c.at_joint-joint.ensures.same (c.at_joint-joint.ensures.sees d); some = omega (arith, c.requires.some, c.at_joint-joint.ensures.left); innermost = c.at_joint-joint.ensures.same.innermost _ c.requires.innermost }
+expressions::operand::float-split-frame-requires t c = record { float = record { float = λ d. saw-after c.at_joint-joint.ensures.same (c.requires.begins.sees d); joint = λ d. saw-after c.at_joint-joint.ensures.same (c.at_joint-joint.ensures.sees d); some = omega (arith, c.requires.begins.some, c.at_joint-joint.ensures.stays.left) }; innermost = c.at_joint-joint.ensures.same.innermost _ c.requires.innermost }
 
 pub expressions::operand::float-after_dot-requires : goal.expressions::operand::float-after_dot-requires
-expressions::operand::float-after_dot-requires t c = (omega arith, c.split-frame.ensures.marker)
+expressions::operand::float-after_dot-requires t c = (omega arith, c.split-frame.ensures.takes.marker)
 
 pub expressions::operand::float-returns-then-joint-clause-reads : goal.expressions::operand::float-returns-then-joint-clause-reads
 unfolding look_of begins_below whole rule items statements expressions patterns types paths there_at shift passes is_silent begins in_mode anew row one_of any_of no_longer longest is_longer
-expressions::operand::float-returns-then-joint-clause-reads t c = λ cond. reads-here (c.requires.float cond and saw-so (c.at_joint-joint.ensures.sees cond) c.if-joint.true and nothing) (after-look cond c.at_joint-joint.ensures.same (c.split-frame.ensures.reads cond))
+expressions::operand::float-returns-then-joint-clause-reads t c = λ cond. reads-here (c.requires.begins.sees cond and saw-so (c.at_joint-joint.ensures.sees cond) c.if-joint.true and nothing) (after-look cond c.at_joint-joint.ensures.same (c.split-frame.ensures.reads cond))
 
 pub expressions::operand::float-returns-clause-reads : goal.expressions::operand::float-returns-clause-reads
 unfolding look_of begins_below whole rule items statements expressions patterns types paths there_at shift passes is_silent begins in_mode anew row one_of any_of no_longer longest is_longer
-expressions::operand::float-returns-clause-reads t c = λ cond. reads-here (c.requires.float cond and saw-so (c.at_joint-joint.ensures.sees cond) c.if-joint.false and nothing) (after-look cond c.at_joint-joint.ensures.same (reads-then cond (c.split-frame.ensures.reads cond) (c.after_dot.ensures.reads cond)))
+expressions::operand::float-returns-clause-reads t c = λ cond. reads-here (c.requires.begins.sees cond and saw-so (c.at_joint-joint.ensures.sees cond) c.if-joint.false and nothing) (after-look cond c.at_joint-joint.ensures.same (reads-then cond (c.split-frame.ensures.reads cond) (c.after_dot.ensures.reads cond)))

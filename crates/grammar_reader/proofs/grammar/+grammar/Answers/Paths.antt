@@ -28,8 +28,8 @@ use Rattle.rust_productions.proofs.Seen.{ends-at-end, saw-after, saw-inside}
 use Rattle.rust_productions.proofs.Turns.{last-turn, next-turn}
 use Rattle.grammar_reader.proofs.grammar.+grammar.Goals as goal
 
-pub paths::generic_args-opt_colons-requires-clause-begins : goal.paths::generic_args-opt_colons-requires-clause-begins
-paths::generic_args-opt_colons-requires-clause-begins t c = λ cond. saw-inside c.start-list.ensures.opens (c.requires.begins cond)
+pub paths::generic_args-opt_colons-requires : goal.paths::generic_args-opt_colons-requires
+paths::generic_args-opt_colons-requires t c = record { begins = record { sees = λ cond. saw-inside c.start-list.ensures.opens (c.requires.begins cond); some = omega arith } }
 
 pub paths::generic_args-complete-requires : goal.paths::generic_args-complete-requires
 paths::generic_args-complete-requires t c = (c.rest_of_list.ensures.reads true).does.innermost _ ((c.take.ensures.reads true).does.innermost _ ((c.opt_colons.ensures.reads true).does.innermost _ c.start-list.ensures.marker))
@@ -39,15 +39,15 @@ unfolding look_of begins_below whole rule items statements expressions patterns 
 paths::generic_args-returns-clause-gives t c = λ cond. gives-anew (anew-after refl (reads-when cond (reads-node cond c.start-list.ensures.opens (reads-then cond (c.opt_colons.ensures.reads cond) (reads-then cond (c.take.ensures.reads cond) (c.rest_of_list.ensures.reads cond))) c.complete.ensures.closes)))
 
 pub paths::opt_args-generic_args-requires : goal.paths::opt_args-generic_args-requires
-paths::opt_args-generic_args-requires t c = (omega arith, (λ cond. saw-after c.at_args.ensures.same (args-begin c.args.mode (saw-so (c.at_args.ensures.sees cond) c.if-at_args.true)), omega (arith, c.at_args.ensures.some c.if-at_args.true, c.at_args.ensures.left)))
+paths::opt_args-generic_args-requires t c = (omega arith, (λ cond. saw-after c.at_args.ensures.peeks.same (args-begin c.args.mode (saw-so (c.at_args.ensures.sees cond) c.if-at_args.true)), omega (arith, c.at_args.ensures.some c.if-at_args.true, c.at_args.ensures.peeks.left)))
 
 pub paths::opt_args-returns-then-at_args-clause-reads : goal.paths::opt_args-returns-then-at_args-clause-reads
 unfolding begins
-paths::opt_args-returns-then-at_args-clause-reads t c = λ cond. reads-opt cond (saw-so (c.at_args.ensures.sees cond) c.if-at_args.true) (after-look cond c.at_args.ensures.same (reads-when cond (reads-call cond (c.generic_args.ensures.gives cond))))
+paths::opt_args-returns-then-at_args-clause-reads t c = λ cond. reads-opt cond (saw-so (c.at_args.ensures.sees cond) c.if-at_args.true) (after-look cond c.at_args.ensures.peeks.same (reads-when cond (reads-call cond (c.generic_args.ensures.gives cond))))
 
 pub paths::opt_args-returns-else-at_args-clause-reads : goal.paths::opt_args-returns-else-at_args-clause-reads
 unfolding begins
-paths::opt_args-returns-else-at_args-clause-reads t c = λ cond. reads-none cond (saw-so (c.at_args.ensures.sees cond) c.if-at_args.false) c.at_args.ensures.same
+paths::opt_args-returns-else-at_args-clause-reads t c = λ cond. reads-none cond (saw-so (c.at_args.ensures.sees cond) c.if-at_args.false) c.at_args.ensures.peeks.same
 
 pub paths::first_segment-first_word-requires-clause-begins : goal.paths::first_segment-first_word-requires-clause-begins
 paths::first_segment-first_word-requires-clause-begins t c = λ cond. saw-inside c.start-segment.ensures.opens (saw-inside c.start-path.ensures.opens (c.requires.begins cond))
@@ -66,11 +66,11 @@ paths::expect_segment-complete-requires t c = (c.opt_args.ensures.reads true).do
 
 pub paths::expect_segment-returns-then-at_name_ref-clause-reads : goal.paths::expect_segment-returns-then-at_name_ref-clause-reads
 unfolding look_of begins_below whole rule items statements expressions patterns types paths there_at shift passes is_silent begins in_mode anew row one_of any_of no_longer longest is_longer
-paths::expect_segment-returns-then-at_name_ref-clause-reads t c = λ cond. reads-here (begun rules.name_ref (saw-so (c.at_name_ref.ensures.sees cond) c.if-at_name_ref.true) nothing) (after-look cond c.at_name_ref.ensures.same (reads-node cond c.start-segment.ensures.opens (reads-then cond (reads-call cond (c.name_ref.ensures.gives cond)) (c.opt_args.ensures.reads cond)) c.complete.ensures.closes))
+paths::expect_segment-returns-then-at_name_ref-clause-reads t c = λ cond. reads-here (begun rules.name_ref (saw-so (c.at_name_ref.ensures.sees cond) c.if-at_name_ref.true) nothing) (after-look cond c.at_name_ref.ensures.peeks.same (reads-node cond c.start-segment.ensures.opens (reads-then cond (reads-call cond (c.name_ref.ensures.gives cond)) (c.opt_args.ensures.reads cond)) c.complete.ensures.closes))
 
 pub paths::expect_segment-returns-clause-reads : goal.paths::expect_segment-returns-clause-reads
 unfolding look_of begins_below whole rule items statements expressions patterns types paths there_at shift passes is_silent begins in_mode anew row one_of any_of no_longer longest is_longer
-paths::expect_segment-returns-clause-reads t c = λ cond. reads-here (begun rules.name_ref (saw-so (c.at_name_ref.ensures.sees cond) c.if-at_name_ref.false) nothing) (after-look cond c.at_name_ref.ensures.same (c.error.ensures.reads cond))
+paths::expect_segment-returns-clause-reads t c = λ cond. reads-here (begun rules.name_ref (saw-so (c.at_name_ref.ensures.sees cond) c.if-at_name_ref.false) nothing) (after-look cond c.at_name_ref.ensures.peeks.same (c.error.ensures.reads cond))
 
 pub paths::next_segment-wrap-requires : goal.paths::next_segment-wrap-requires
 paths::next_segment-wrap-requires t c = (c.expect_segment.ensures.reads true).does.innermost _ ((c.take_pair.ensures.reads true 0 0).does.innermost _ c.requires.innermost)
@@ -81,18 +81,18 @@ paths::next_segment-returns-clause-reads t c = λ cond. reads-wrap cond (reads-t
 pub paths::next_segments-turns-preserved : goal.paths::next_segments-turns-preserved
 unfolding tokens look_of begins_below whole rule items statements expressions patterns types paths there_at shift passes is_silent begins in_mode anew row one_of any_of no_longer longest is_longer
 paths::next_segments-turns-preserved t c = record {
-  marker = c.next_segment-path.ensures.marker;
+  marker = c.next_segment-path.ensures.takes.marker;
   goes = λ cond.
       next-turn cond (Unless colons_before_more (PATH <⟨ One '::' ▸ (PATH_SEGMENT ⟨ Ref ▸ args_of c.args.mode ⟩) ! ⟩)) (ends-at-end cond (Unless colons_before_more (PATH <⟨ One '::' ▸ (PATH_SEGMENT ⟨ Ref ▸ args_of c.args.mode ⟩) ! ⟩)) refl) _ _ _ (c.turns.invariant.goes cond) (saw-so (c.at_next_segment.ensures.sees cond) c.turns-test.true)
-      (after-look cond c.at_next_segment.ensures.same (reads-unless cond (c.next_segment-path.ensures.reads cond)))
-      (omega (arith, c.next_segment-path.ensures.left, c.at_next_segment.ensures.left));
-  left = omega (arith, c.turns.invariant.left, c.next_segment-path.ensures.left, c.at_next_segment.ensures.left);
-  looks = omega (arith, c.turns.invariant.looks, c.next_segment-path.ensures.looks, c.at_next_segment.ensures.looks);
+      (after-look cond c.at_next_segment.ensures.peeks.same (reads-unless cond (c.next_segment-path.ensures.reads cond)))
+      (omega (arith, c.next_segment-path.ensures.takes.left, c.at_next_segment.ensures.peeks.left));
+  left = omega (arith, c.turns.invariant.left, c.next_segment-path.ensures.takes.left, c.at_next_segment.ensures.peeks.left);
+  looks = omega (arith, c.turns.invariant.looks, c.next_segment-path.ensures.takes.looks, c.at_next_segment.ensures.peeks.looks);
 }
 
 pub paths::next_segments-returns-clause-reads : goal.paths::next_segments-returns-clause-reads
 unfolding look_of begins_below whole rule items statements expressions patterns types paths there_at shift passes is_silent begins in_mode anew row one_of any_of no_longer longest is_longer
-paths::next_segments-returns-clause-reads t c = λ cond. last-turn cond (Unless colons_before_more (PATH <⟨ One '::' ▸ (PATH_SEGMENT ⟨ Ref ▸ args_of c.args.mode ⟩) ! ⟩)) (ends-at-end cond (Unless colons_before_more (PATH <⟨ One '::' ▸ (PATH_SEGMENT ⟨ Ref ▸ args_of c.args.mode ⟩) ! ⟩)) refl) _ _ _ (c.turns.invariant.goes cond) (saw-so (c.at_next_segment.ensures.sees cond) c.turns-test.false) c.at_next_segment.ensures.same
+paths::next_segments-returns-clause-reads t c = λ cond. last-turn cond (Unless colons_before_more (PATH <⟨ One '::' ▸ (PATH_SEGMENT ⟨ Ref ▸ args_of c.args.mode ⟩) ! ⟩)) (ends-at-end cond (Unless colons_before_more (PATH <⟨ One '::' ▸ (PATH_SEGMENT ⟨ Ref ▸ args_of c.args.mode ⟩) ! ⟩)) refl) _ _ _ (c.turns.invariant.goes cond) (saw-so (c.at_next_segment.ensures.sees cond) c.turns-test.false) c.at_next_segment.ensures.peeks.same
 
 pub paths::path_with_args-first_segment-requires : goal.paths::path_with_args-first_segment-requires
 paths::path_with_args-first_segment-requires t c = (omega arith, (λ cond. saw-inside c.start-frame.ensures.opens (c.requires.begins cond), omega arith))
@@ -105,12 +105,12 @@ paths::path_with_args-returns-clause-gives t c = λ cond. gives-anew (subst (λ 
     (anew-completes c.start-frame.ensures.opens (completes-then (c.first_segment.ensures.reads cond) (completes-leave (c.next_segments-frame.ensures.reads cond) c.abandon.ensures.leaves))))
 
 pub paths::opt_generic_args-generic_args-requires : goal.paths::opt_generic_args-generic_args-requires
-paths::opt_generic_args-generic_args-requires t c = (omega arith, ((λ d. saw-after c.at_generic_args.ensures.same (saw-so (c.at_generic_args.ensures.sees d) c.if-at_generic_args.true)), omega (arith, c.at_generic_args.ensures.some c.if-at_generic_args.true, c.at_generic_args.ensures.left)))
+paths::opt_generic_args-generic_args-requires t c = (omega arith, ((λ d. saw-after c.at_generic_args.ensures.peeks.same (saw-so (c.at_generic_args.ensures.sees d) c.if-at_generic_args.true)), omega (arith, c.at_generic_args.ensures.some c.if-at_generic_args.true, c.at_generic_args.ensures.peeks.left)))
 
 pub paths::opt_generic_args-returns-then-at_generic_args-clause-reads : goal.paths::opt_generic_args-returns-then-at_generic_args-clause-reads
 unfolding look_of begins_below whole rule items statements expressions patterns types paths there_at shift passes is_silent begins in_mode anew row one_of any_of no_longer longest is_longer
-paths::opt_generic_args-returns-then-at_generic_args-clause-reads t c = λ cond. reads-here (begun rules.generic_args (saw-so (c.at_generic_args.ensures.sees cond) c.if-at_generic_args.true) nothing) (after-look cond c.at_generic_args.ensures.same (reads-call cond (c.generic_args.ensures.gives cond)))
+paths::opt_generic_args-returns-then-at_generic_args-clause-reads t c = λ cond. reads-here (begun rules.generic_args (saw-so (c.at_generic_args.ensures.sees cond) c.if-at_generic_args.true) nothing) (after-look cond c.at_generic_args.ensures.peeks.same (reads-call cond (c.generic_args.ensures.gives cond)))
 
 pub paths::opt_generic_args-returns-else-at_generic_args-clause-reads : goal.paths::opt_generic_args-returns-else-at_generic_args-clause-reads
 unfolding look_of begins_below whole rule items statements expressions patterns types paths there_at shift passes is_silent begins in_mode anew row one_of any_of no_longer longest is_longer
-paths::opt_generic_args-returns-else-at_generic_args-clause-reads t c = λ cond. reads-here (begun rules.generic_args (saw-so (c.at_generic_args.ensures.sees cond) c.if-at_generic_args.false) nothing) (reads-nothing cond c.at_generic_args.ensures.same)
+paths::opt_generic_args-returns-else-at_generic_args-clause-reads t c = λ cond. reads-here (begun rules.generic_args (saw-so (c.at_generic_args.ensures.sees cond) c.if-at_generic_args.false) nothing) (reads-nothing cond c.at_generic_args.ensures.peeks.same)

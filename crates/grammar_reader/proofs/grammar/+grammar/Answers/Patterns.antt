@@ -28,140 +28,176 @@ use Rattle.rust_productions.proofs.Turns.{last-turn, next-turn}
 use Rattle.grammar_reader.proofs.grammar.+grammar.Goals as goal
 
 pub patterns::single_pattern-inside-frame-requires : goal.patterns::single_pattern-inside-frame-requires
-patterns::single_pattern-inside-frame-requires t c = (omega arith, ((λ d. saw-inside c.start-frame.ensures.opens (c.requires.begins d)), (omega arith, c.start-frame.ensures.marker)))
+patterns::single_pattern-inside-frame-requires t c = (omega arith, (record { sees = λ d. saw-inside c.start-frame.ensures.opens (c.requires.begins d); some = omega arith }, c.start-frame.ensures.marker))
 
 pub patterns::single_pattern-returns-clause-gives : goal.patterns::single_pattern-returns-clause-gives
 patterns::single_pattern-returns-clause-gives t c = λ cond. gives-anew (anew-completes c.start-frame.ensures.opens (completes-leave (c.inside-frame.ensures.reads cond) c.abandon.ensures.leaves))
 
 pub patterns::inside-returns-in-MINUS-clause-reads : goal.patterns::inside-returns-in-MINUS-clause-reads
 unfolding look_of begins_below whole rule items statements expressions patterns types paths there_at shift passes is_silent begins in_mode anew row one_of any_of no_longer longest is_longer
-patterns::inside-returns-in-MINUS-clause-reads t c = λ cond. reads-here (saw-arm c.in-MINUS.is (c.current.ensures.sees cond) and nothing) (after-look cond c.current.ensures.same (c.negative.ensures.reads cond))
+patterns::inside-returns-in-MINUS-clause-reads t c = λ cond. reads-here (saw-arm c.in-MINUS.is (c.current.ensures.sees cond) and nothing) (after-look cond c.current.ensures.peeks.same (c.negative.ensures.reads cond))
 
-pub patterns::inside-returns-in-MINUS-clause-marker : goal.patterns::inside-returns-in-MINUS-clause-marker
-patterns::inside-returns-in-MINUS-clause-marker t c = (c.negative.ensures.reads true).does.innermost _ (c.current.ensures.same.innermost _ c.requires.innermost)
+pub patterns::inside-returns-in-MINUS-clause-takes : goal.patterns::inside-returns-in-MINUS-clause-takes
+patterns::inside-returns-in-MINUS-clause-takes t c = record {
+  left = omega arith;
+  looks = omega arith;
+  marker = (c.negative.ensures.reads true).does.innermost _ (c.current.ensures.peeks.same.innermost _ c.requires.innermost);
+}
 
 pub patterns::inside-returns-in-UNDERSCORE-clause-reads : goal.patterns::inside-returns-in-UNDERSCORE-clause-reads
 unfolding look_of begins_below whole rule items statements expressions patterns types paths there_at shift passes is_silent begins in_mode anew row one_of any_of no_longer longest is_longer
-patterns::inside-returns-in-UNDERSCORE-clause-reads t c = λ cond. reads-here (saw-arm c.in-UNDERSCORE.is (c.current.ensures.sees cond) and nothing) (after-look cond c.current.ensures.same (c.word_type.ensures.reads cond))
+patterns::inside-returns-in-UNDERSCORE-clause-reads t c = λ cond. reads-here (saw-arm c.in-UNDERSCORE.is (c.current.ensures.sees cond) and nothing) (after-look cond c.current.ensures.peeks.same (c.word_type.ensures.reads cond))
 
-pub patterns::inside-returns-in-UNDERSCORE-clause-marker : goal.patterns::inside-returns-in-UNDERSCORE-clause-marker
-patterns::inside-returns-in-UNDERSCORE-clause-marker t c = (c.word_type.ensures.reads true).does.innermost _ (c.current.ensures.same.innermost _ c.requires.innermost)
+pub patterns::inside-returns-in-UNDERSCORE-clause-takes : goal.patterns::inside-returns-in-UNDERSCORE-clause-takes
+patterns::inside-returns-in-UNDERSCORE-clause-takes t c = record {
+  left = omega arith;
+  looks = omega arith;
+  marker = (c.word_type.ensures.reads true).does.innermost _ (c.current.ensures.peeks.same.innermost _ c.requires.innermost);
+}
 
 pub patterns::inside-returns-in-AMP-clause-reads : goal.patterns::inside-returns-in-AMP-clause-reads
 unfolding look_of begins_below whole rule items statements expressions patterns types paths there_at shift passes is_silent begins in_mode anew row one_of any_of no_longer longest is_longer
-patterns::inside-returns-in-AMP-clause-reads t c = λ cond. reads-here (saw-arm c.in-AMP.is (c.current.ensures.sees cond) and nothing) (after-look cond c.current.ensures.same (c.ref_pat.ensures.reads cond))
+patterns::inside-returns-in-AMP-clause-reads t c = λ cond. reads-here (saw-arm c.in-AMP.is (c.current.ensures.sees cond) and nothing) (after-look cond c.current.ensures.peeks.same (c.ref_pat.ensures.reads cond))
 
-pub patterns::inside-returns-in-AMP-clause-marker : goal.patterns::inside-returns-in-AMP-clause-marker
-patterns::inside-returns-in-AMP-clause-marker t c = (c.ref_pat.ensures.reads true).does.innermost _ (c.current.ensures.same.innermost _ c.requires.innermost)
+pub patterns::inside-returns-in-AMP-clause-takes : goal.patterns::inside-returns-in-AMP-clause-takes
+patterns::inside-returns-in-AMP-clause-takes t c = record {
+  left = omega arith;
+  looks = omega arith;
+  marker = (c.ref_pat.ensures.reads true).does.innermost _ (c.current.ensures.peeks.same.innermost _ c.requires.innermost);
+}
 
 pub patterns::inside-returns-in-L_BRACK-clause-reads : goal.patterns::inside-returns-in-L_BRACK-clause-reads
 unfolding look_of begins_below whole rule items statements expressions patterns types paths there_at shift passes is_silent begins in_mode anew row one_of any_of no_longer longest is_longer
-patterns::inside-returns-in-L_BRACK-clause-reads t c = λ cond. reads-here (saw-arm c.in-L_BRACK.is (c.current.ensures.sees cond) and nothing) (after-look cond c.current.ensures.same (c.slice_pat.ensures.reads cond))
+patterns::inside-returns-in-L_BRACK-clause-reads t c = λ cond. reads-here (saw-arm c.in-L_BRACK.is (c.current.ensures.sees cond) and nothing) (after-look cond c.current.ensures.peeks.same (c.slice_pat.ensures.reads cond))
 
-pub patterns::inside-returns-in-L_BRACK-clause-marker : goal.patterns::inside-returns-in-L_BRACK-clause-marker
-patterns::inside-returns-in-L_BRACK-clause-marker t c = (c.slice_pat.ensures.reads true).does.innermost _ (c.current.ensures.same.innermost _ c.requires.innermost)
+pub patterns::inside-returns-in-L_BRACK-clause-takes : goal.patterns::inside-returns-in-L_BRACK-clause-takes
+patterns::inside-returns-in-L_BRACK-clause-takes t c = record {
+  left = omega arith;
+  looks = omega arith;
+  marker = (c.slice_pat.ensures.reads true).does.innermost _ (c.current.ensures.peeks.same.innermost _ c.requires.innermost);
+}
 
 pub patterns::inside-returns-in-REF_KW-clause-reads : goal.patterns::inside-returns-in-REF_KW-clause-reads
 unfolding look_of begins_below whole rule items statements expressions patterns types paths there_at shift passes is_silent begins in_mode anew row one_of any_of no_longer longest is_longer
-patterns::inside-returns-in-REF_KW-clause-reads t c = λ cond. reads-here (saw-arm c.in-REF_KW.is (c.current.ensures.sees cond) and nothing) (after-look cond c.current.ensures.same (c.ident_after_ref.ensures.reads cond))
+patterns::inside-returns-in-REF_KW-clause-reads t c = λ cond. reads-here (saw-arm c.in-REF_KW.is (c.current.ensures.sees cond) and nothing) (after-look cond c.current.ensures.peeks.same (c.ident_after_ref.ensures.reads cond))
 
-pub patterns::inside-returns-in-REF_KW-clause-marker : goal.patterns::inside-returns-in-REF_KW-clause-marker
-patterns::inside-returns-in-REF_KW-clause-marker t c = (c.ident_after_ref.ensures.reads true).does.innermost _ (c.current.ensures.same.innermost _ c.requires.innermost)
+pub patterns::inside-returns-in-REF_KW-clause-takes : goal.patterns::inside-returns-in-REF_KW-clause-takes
+patterns::inside-returns-in-REF_KW-clause-takes t c = record {
+  left = omega arith;
+  looks = omega arith;
+  marker = (c.ident_after_ref.ensures.reads true).does.innermost _ (c.current.ensures.peeks.same.innermost _ c.requires.innermost);
+}
 
 pub patterns::inside-returns-in-MUT_KW-clause-reads : goal.patterns::inside-returns-in-MUT_KW-clause-reads
 unfolding look_of begins_below whole rule items statements expressions patterns types paths there_at shift passes is_silent begins in_mode anew row one_of any_of no_longer longest is_longer
-patterns::inside-returns-in-MUT_KW-clause-reads t c = λ cond. reads-here (saw-arm c.in-MUT_KW.is (c.current.ensures.sees cond) and nothing) (after-look cond c.current.ensures.same (c.ident_after_mut.ensures.reads cond))
+patterns::inside-returns-in-MUT_KW-clause-reads t c = λ cond. reads-here (saw-arm c.in-MUT_KW.is (c.current.ensures.sees cond) and nothing) (after-look cond c.current.ensures.peeks.same (c.ident_after_mut.ensures.reads cond))
 
-pub patterns::inside-returns-in-MUT_KW-clause-marker : goal.patterns::inside-returns-in-MUT_KW-clause-marker
-patterns::inside-returns-in-MUT_KW-clause-marker t c = (c.ident_after_mut.ensures.reads true).does.innermost _ (c.current.ensures.same.innermost _ c.requires.innermost)
+pub patterns::inside-returns-in-MUT_KW-clause-takes : goal.patterns::inside-returns-in-MUT_KW-clause-takes
+patterns::inside-returns-in-MUT_KW-clause-takes t c = record {
+  left = omega arith;
+  looks = omega arith;
+  marker = (c.ident_after_mut.ensures.reads true).does.innermost _ (c.current.ensures.peeks.same.innermost _ c.requires.innermost);
+}
 
 pub patterns::inside-returns-then-at_paren_before_dots : goal.patterns::inside-returns-then-at_paren_before_dots
 unfolding look_of begins_below whole rule items statements expressions patterns types paths there_at shift passes is_silent begins in_mode anew row one_of any_of no_longer longest is_longer
 patterns::inside-returns-then-at_paren_before_dots t c = record {
-  reads = λ cond. reads-here (saw-arm c.in-L_PAREN.is (c.current.ensures.sees cond) and saw-before c.current.ensures.same (saw-so (c.at_paren_before_dots.ensures.sees cond) c.if-at_paren_before_dots.true) and nothing) (after-look cond c.current.ensures.same (after-look cond c.at_paren_before_dots.ensures.same (c.tuple_pat.ensures.reads cond)));
-  marker = (c.tuple_pat.ensures.reads true).does.innermost _ (c.at_paren_before_dots.ensures.same.innermost _ (c.current.ensures.same.innermost _ c.requires.innermost));
-  left = omega (arith, c.tuple_pat.ensures.left, c.at_paren_before_dots.ensures.left, c.current.ensures.left);
-  looks = omega (arith, c.tuple_pat.ensures.looks, c.at_paren_before_dots.ensures.looks, c.current.ensures.looks);
+  reads = λ cond. reads-here (saw-arm c.in-L_PAREN.is (c.current.ensures.sees cond) and saw-before c.current.ensures.peeks.same (saw-so (c.at_paren_before_dots.ensures.sees cond) c.if-at_paren_before_dots.true) and nothing) (after-look cond c.current.ensures.peeks.same (after-look cond c.at_paren_before_dots.ensures.peeks.same (c.tuple_pat.ensures.reads cond)));
+  takes = record {
+    left = omega (arith, c.tuple_pat.ensures.takes.left, c.at_paren_before_dots.ensures.peeks.left, c.current.ensures.peeks.left);
+    looks = omega (arith, c.tuple_pat.ensures.takes.looks, c.at_paren_before_dots.ensures.peeks.looks, c.current.ensures.peeks.looks);
+    marker = (c.tuple_pat.ensures.reads true).does.innermost _ (c.at_paren_before_dots.ensures.peeks.same.innermost _ (c.current.ensures.peeks.same.innermost _ c.requires.innermost));
+  };
 }
 
 pub patterns::inside-returns-else-at_paren_before_dots : goal.patterns::inside-returns-else-at_paren_before_dots
 unfolding look_of begins_below whole rule items statements expressions patterns types paths there_at shift passes is_silent begins in_mode anew row one_of any_of no_longer longest is_longer
 patterns::inside-returns-else-at_paren_before_dots t c = record {
-  reads = λ cond. reads-here (saw-arm c.in-L_PAREN.is (c.current.ensures.sees cond) and saw-before c.current.ensures.same (saw-so (c.at_paren_before_dots.ensures.sees cond) c.if-at_paren_before_dots.false) and nothing) (after-look cond c.current.ensures.same (after-look cond c.at_paren_before_dots.ensures.same (c.paren_pat.ensures.reads cond)));
-  marker = c.paren_pat.ensures.marker;
-  left = omega (arith, c.paren_pat.ensures.left, c.at_paren_before_dots.ensures.left, c.current.ensures.left);
-  looks = omega (arith, c.paren_pat.ensures.looks, c.at_paren_before_dots.ensures.looks, c.current.ensures.looks);
+  reads = λ cond. reads-here (saw-arm c.in-L_PAREN.is (c.current.ensures.sees cond) and saw-before c.current.ensures.peeks.same (saw-so (c.at_paren_before_dots.ensures.sees cond) c.if-at_paren_before_dots.false) and nothing) (after-look cond c.current.ensures.peeks.same (after-look cond c.at_paren_before_dots.ensures.peeks.same (c.paren_pat.ensures.reads cond)));
+  takes = record {
+    left = omega (arith, c.paren_pat.ensures.takes.left, c.at_paren_before_dots.ensures.peeks.left, c.current.ensures.peeks.left);
+    looks = omega (arith, c.paren_pat.ensures.takes.looks, c.at_paren_before_dots.ensures.peeks.looks, c.current.ensures.peeks.looks);
+    marker = c.paren_pat.ensures.takes.marker;
+  };
 }
 
 pub patterns::inside-returns-then-at_ident_pat : goal.patterns::inside-returns-then-at_ident_pat
 unfolding look_of begins_below whole rule items statements expressions patterns types paths there_at shift passes is_silent begins in_mode anew row one_of any_of no_longer longest is_longer
 patterns::inside-returns-then-at_ident_pat t c = record {
-  reads = λ cond. reads-here (saw-before c.current.ensures.same (saw-left (saw-left (saw-so (c.at_ident_pat.ensures.sees cond) c.if-at_ident_pat.true))) and saw-not c.in_default.not-MINUS (c.current.ensures.sees cond) and saw-not c.in_default.not-UNDERSCORE (c.current.ensures.sees cond) and saw-not c.in_default.not-AMP (c.current.ensures.sees cond) and saw-not c.in_default.not-L_BRACK (c.current.ensures.sees cond) and saw-not c.in_default.not-REF_KW (c.current.ensures.sees cond) and saw-not c.in_default.not-MUT_KW (c.current.ensures.sees cond) and saw-not c.in_default.not-L_PAREN (c.current.ensures.sees cond) and saw-before c.current.ensures.same (saw-so (c.at_ident_pat.ensures.sees cond) c.if-at_ident_pat.true) and nothing) (after-look cond c.current.ensures.same (after-look cond c.at_ident_pat.ensures.same (c.ident_pat.ensures.reads cond)));
-  marker = (c.ident_pat.ensures.reads true).does.innermost _ (c.at_ident_pat.ensures.same.innermost _ (c.current.ensures.same.innermost _ c.requires.innermost));
-  left = omega (arith, c.ident_pat.ensures.left, c.at_ident_pat.ensures.left, c.current.ensures.left);
-  looks = omega (arith, c.ident_pat.ensures.looks, c.at_ident_pat.ensures.looks, c.current.ensures.looks);
+  reads = λ cond. reads-here (saw-before c.current.ensures.peeks.same (saw-left (saw-left (saw-so (c.at_ident_pat.ensures.sees cond) c.if-at_ident_pat.true))) and saw-not c.in_default.not-MINUS (c.current.ensures.sees cond) and saw-not c.in_default.not-UNDERSCORE (c.current.ensures.sees cond) and saw-not c.in_default.not-AMP (c.current.ensures.sees cond) and saw-not c.in_default.not-L_BRACK (c.current.ensures.sees cond) and saw-not c.in_default.not-REF_KW (c.current.ensures.sees cond) and saw-not c.in_default.not-MUT_KW (c.current.ensures.sees cond) and saw-not c.in_default.not-L_PAREN (c.current.ensures.sees cond) and saw-before c.current.ensures.peeks.same (saw-so (c.at_ident_pat.ensures.sees cond) c.if-at_ident_pat.true) and nothing) (after-look cond c.current.ensures.peeks.same (after-look cond c.at_ident_pat.ensures.peeks.same (c.ident_pat.ensures.reads cond)));
+  takes = record {
+    left = omega (arith, c.ident_pat.ensures.takes.left, c.at_ident_pat.ensures.peeks.left, c.current.ensures.peeks.left);
+    looks = omega (arith, c.ident_pat.ensures.takes.looks, c.at_ident_pat.ensures.peeks.looks, c.current.ensures.peeks.looks);
+    marker = (c.ident_pat.ensures.reads true).does.innermost _ (c.at_ident_pat.ensures.peeks.same.innermost _ (c.current.ensures.peeks.same.innermost _ c.requires.innermost));
+  };
 }
 
 pub patterns::inside-returns-then-at_pair : goal.patterns::inside-returns-then-at_pair
 unfolding look_of begins_below whole rule items statements expressions patterns types paths there_at shift passes is_silent begins in_mode anew row one_of any_of no_longer longest is_longer
 patterns::inside-returns-then-at_pair t c = record {
-  reads = λ cond. reads-here (saw-before c.current.ensures.same (saw-before c.at_ident_pat.ensures.same (saw-left (saw-so (c.at_pair.ensures.sees cond) c.if-at_pair.true))) and saw-not c.in_default.not-MINUS (c.current.ensures.sees cond) and saw-not c.in_default.not-UNDERSCORE (c.current.ensures.sees cond) and saw-not c.in_default.not-AMP (c.current.ensures.sees cond) and saw-not c.in_default.not-L_BRACK (c.current.ensures.sees cond) and saw-not c.in_default.not-REF_KW (c.current.ensures.sees cond) and saw-not c.in_default.not-MUT_KW (c.current.ensures.sees cond) and saw-not c.in_default.not-L_PAREN (c.current.ensures.sees cond) and saw-before c.current.ensures.same (saw-so (c.at_ident_pat.ensures.sees cond) c.if-at_ident_pat.false) and saw-before c.current.ensures.same (saw-before c.at_ident_pat.ensures.same (saw-so (c.at_pair.ensures.sees cond) c.if-at_pair.true)) and nothing) (after-look cond c.current.ensures.same (after-look cond c.at_ident_pat.ensures.same (after-look cond c.at_pair.ensures.same (c.rest_pat.ensures.reads cond))));
-  marker = (c.rest_pat.ensures.reads true).does.innermost _ (c.at_pair.ensures.same.innermost _ (c.at_ident_pat.ensures.same.innermost _ (c.current.ensures.same.innermost _ c.requires.innermost)));
-  left = omega (arith, c.rest_pat.ensures.left, c.at_pair.ensures.left, c.at_ident_pat.ensures.left, c.current.ensures.left);
-  looks = omega (arith, c.rest_pat.ensures.looks, c.at_pair.ensures.looks, c.at_ident_pat.ensures.looks, c.current.ensures.looks);
+  reads = λ cond. reads-here (saw-before c.current.ensures.peeks.same (saw-before c.at_ident_pat.ensures.peeks.same (saw-left (saw-so (c.at_pair.ensures.sees cond) c.if-at_pair.true))) and saw-not c.in_default.not-MINUS (c.current.ensures.sees cond) and saw-not c.in_default.not-UNDERSCORE (c.current.ensures.sees cond) and saw-not c.in_default.not-AMP (c.current.ensures.sees cond) and saw-not c.in_default.not-L_BRACK (c.current.ensures.sees cond) and saw-not c.in_default.not-REF_KW (c.current.ensures.sees cond) and saw-not c.in_default.not-MUT_KW (c.current.ensures.sees cond) and saw-not c.in_default.not-L_PAREN (c.current.ensures.sees cond) and saw-before c.current.ensures.peeks.same (saw-so (c.at_ident_pat.ensures.sees cond) c.if-at_ident_pat.false) and saw-before c.current.ensures.peeks.same (saw-before c.at_ident_pat.ensures.peeks.same (saw-so (c.at_pair.ensures.sees cond) c.if-at_pair.true)) and nothing) (after-look cond c.current.ensures.peeks.same (after-look cond c.at_ident_pat.ensures.peeks.same (after-look cond c.at_pair.ensures.peeks.same (c.rest_pat.ensures.reads cond))));
+  takes = record {
+    left = omega (arith, c.rest_pat.ensures.left, c.at_pair.ensures.peeks.left, c.at_ident_pat.ensures.peeks.left, c.current.ensures.peeks.left);
+    looks = omega (arith, c.rest_pat.ensures.looks, c.at_pair.ensures.peeks.looks, c.at_ident_pat.ensures.peeks.looks, c.current.ensures.peeks.looks);
+    marker = (c.rest_pat.ensures.reads true).does.innermost _ (c.at_pair.ensures.peeks.same.innermost _ (c.at_ident_pat.ensures.peeks.same.innermost _ (c.current.ensures.peeks.same.innermost _ c.requires.innermost)));
+  };
 }
 
 pub patterns::inside-returns-then-at_literal : goal.patterns::inside-returns-then-at_literal
 unfolding look_of begins_below whole rule items statements expressions patterns types paths there_at shift passes is_silent begins in_mode anew row one_of any_of no_longer longest is_longer
 patterns::inside-returns-then-at_literal t c = record {
-  reads = λ cond. reads-here (saw-not c.in_default.not-MINUS (c.current.ensures.sees cond) and saw-not c.in_default.not-UNDERSCORE (c.current.ensures.sees cond) and saw-not c.in_default.not-AMP (c.current.ensures.sees cond) and saw-not c.in_default.not-L_BRACK (c.current.ensures.sees cond) and saw-not c.in_default.not-REF_KW (c.current.ensures.sees cond) and saw-not c.in_default.not-MUT_KW (c.current.ensures.sees cond) and saw-not c.in_default.not-L_PAREN (c.current.ensures.sees cond) and saw-before c.current.ensures.same (saw-so (c.at_ident_pat.ensures.sees cond) c.if-at_ident_pat.false) and saw-before c.current.ensures.same (saw-before c.at_ident_pat.ensures.same (saw-so (c.at_pair.ensures.sees cond) c.if-at_pair.false)) and begun rules.literal (saw-before c.current.ensures.same (saw-before c.at_ident_pat.ensures.same (saw-before c.at_pair.ensures.same (saw-so (c.at_literal.ensures.sees cond) c.if-at_literal.true)))) nothing) (after-look cond c.current.ensures.same (after-look cond c.at_ident_pat.ensures.same (after-look cond c.at_pair.ensures.same (after-look cond c.at_literal.ensures.same (c.literal_pat.ensures.reads cond)))));
-  marker = (c.literal_pat.ensures.reads true).does.innermost _ (c.at_literal.ensures.same.innermost _ (c.at_pair.ensures.same.innermost _ (c.at_ident_pat.ensures.same.innermost _ (c.current.ensures.same.innermost _ c.requires.innermost))));
-  left = omega (arith, c.literal_pat.ensures.left, c.at_literal.ensures.left, c.at_pair.ensures.left, c.at_ident_pat.ensures.left, c.current.ensures.left);
-  looks = omega (arith, c.literal_pat.ensures.looks, c.at_literal.ensures.looks, c.at_pair.ensures.looks, c.at_ident_pat.ensures.looks, c.current.ensures.looks);
+  reads = λ cond. reads-here (saw-not c.in_default.not-MINUS (c.current.ensures.sees cond) and saw-not c.in_default.not-UNDERSCORE (c.current.ensures.sees cond) and saw-not c.in_default.not-AMP (c.current.ensures.sees cond) and saw-not c.in_default.not-L_BRACK (c.current.ensures.sees cond) and saw-not c.in_default.not-REF_KW (c.current.ensures.sees cond) and saw-not c.in_default.not-MUT_KW (c.current.ensures.sees cond) and saw-not c.in_default.not-L_PAREN (c.current.ensures.sees cond) and saw-before c.current.ensures.peeks.same (saw-so (c.at_ident_pat.ensures.sees cond) c.if-at_ident_pat.false) and saw-before c.current.ensures.peeks.same (saw-before c.at_ident_pat.ensures.peeks.same (saw-so (c.at_pair.ensures.sees cond) c.if-at_pair.false)) and begun rules.literal (saw-before c.current.ensures.peeks.same (saw-before c.at_ident_pat.ensures.peeks.same (saw-before c.at_pair.ensures.peeks.same (saw-so (c.at_literal.ensures.sees cond) c.if-at_literal.true)))) nothing) (after-look cond c.current.ensures.peeks.same (after-look cond c.at_ident_pat.ensures.peeks.same (after-look cond c.at_pair.ensures.peeks.same (after-look cond c.at_literal.ensures.peeks.same (c.literal_pat.ensures.reads cond)))));
+  takes = record {
+    left = omega (arith, c.literal_pat.ensures.left, c.at_literal.ensures.peeks.left, c.at_pair.ensures.peeks.left, c.at_ident_pat.ensures.peeks.left, c.current.ensures.peeks.left);
+    looks = omega (arith, c.literal_pat.ensures.looks, c.at_literal.ensures.peeks.looks, c.at_pair.ensures.peeks.looks, c.at_ident_pat.ensures.peeks.looks, c.current.ensures.peeks.looks);
+    marker = (c.literal_pat.ensures.reads true).does.innermost _ (c.at_literal.ensures.peeks.same.innermost _ (c.at_pair.ensures.peeks.same.innermost _ (c.at_ident_pat.ensures.peeks.same.innermost _ (c.current.ensures.peeks.same.innermost _ c.requires.innermost))));
+  };
 }
 
 pub patterns::inside-returns-else-at_literal : goal.patterns::inside-returns-else-at_literal
 unfolding look_of begins_below whole rule items statements expressions patterns types paths there_at shift passes is_silent begins in_mode anew row one_of any_of no_longer longest is_longer
 patterns::inside-returns-else-at_literal t c = record {
-  reads = λ cond. reads-here (saw-not c.in_default.not-MINUS (c.current.ensures.sees cond) and saw-not c.in_default.not-UNDERSCORE (c.current.ensures.sees cond) and saw-not c.in_default.not-AMP (c.current.ensures.sees cond) and saw-not c.in_default.not-L_BRACK (c.current.ensures.sees cond) and saw-not c.in_default.not-REF_KW (c.current.ensures.sees cond) and saw-not c.in_default.not-MUT_KW (c.current.ensures.sees cond) and saw-not c.in_default.not-L_PAREN (c.current.ensures.sees cond) and saw-before c.current.ensures.same (saw-so (c.at_ident_pat.ensures.sees cond) c.if-at_ident_pat.false) and saw-before c.current.ensures.same (saw-before c.at_ident_pat.ensures.same (saw-so (c.at_pair.ensures.sees cond) c.if-at_pair.false)) and begun rules.literal (saw-before c.current.ensures.same (saw-before c.at_ident_pat.ensures.same (saw-before c.at_pair.ensures.same (saw-so (c.at_literal.ensures.sees cond) c.if-at_literal.false)))) nothing) (after-look cond c.current.ensures.same (after-look cond c.at_ident_pat.ensures.same (after-look cond c.at_pair.ensures.same (after-look cond c.at_literal.ensures.same (c.path_pat.ensures.reads cond)))));
-  marker = c.path_pat.ensures.marker;
-  left = omega (arith, c.path_pat.ensures.left, c.at_literal.ensures.left, c.at_pair.ensures.left, c.at_ident_pat.ensures.left, c.current.ensures.left);
-  looks = omega (arith, c.path_pat.ensures.looks, c.at_literal.ensures.looks, c.at_pair.ensures.looks, c.at_ident_pat.ensures.looks, c.current.ensures.looks);
+  reads = λ cond. reads-here (saw-not c.in_default.not-MINUS (c.current.ensures.sees cond) and saw-not c.in_default.not-UNDERSCORE (c.current.ensures.sees cond) and saw-not c.in_default.not-AMP (c.current.ensures.sees cond) and saw-not c.in_default.not-L_BRACK (c.current.ensures.sees cond) and saw-not c.in_default.not-REF_KW (c.current.ensures.sees cond) and saw-not c.in_default.not-MUT_KW (c.current.ensures.sees cond) and saw-not c.in_default.not-L_PAREN (c.current.ensures.sees cond) and saw-before c.current.ensures.peeks.same (saw-so (c.at_ident_pat.ensures.sees cond) c.if-at_ident_pat.false) and saw-before c.current.ensures.peeks.same (saw-before c.at_ident_pat.ensures.peeks.same (saw-so (c.at_pair.ensures.sees cond) c.if-at_pair.false)) and begun rules.literal (saw-before c.current.ensures.peeks.same (saw-before c.at_ident_pat.ensures.peeks.same (saw-before c.at_pair.ensures.peeks.same (saw-so (c.at_literal.ensures.sees cond) c.if-at_literal.false)))) nothing) (after-look cond c.current.ensures.peeks.same (after-look cond c.at_ident_pat.ensures.peeks.same (after-look cond c.at_pair.ensures.peeks.same (after-look cond c.at_literal.ensures.peeks.same (c.path_pat.ensures.reads cond)))));
+  takes = record {
+    left = omega (arith, c.path_pat.ensures.takes.left, c.at_literal.ensures.peeks.left, c.at_pair.ensures.peeks.left, c.at_ident_pat.ensures.peeks.left, c.current.ensures.peeks.left);
+    looks = omega (arith, c.path_pat.ensures.takes.looks, c.at_literal.ensures.peeks.looks, c.at_pair.ensures.peeks.looks, c.at_ident_pat.ensures.peeks.looks, c.current.ensures.peeks.looks);
+    marker = c.path_pat.ensures.takes.marker;
+  };
 }
 
 pub patterns::inside-path_pat-requires : goal.patterns::inside-path_pat-requires
 unfolding look_of begins_below whole rule items statements expressions patterns types paths there_at shift passes is_silent begins in_mode anew row one_of any_of no_longer longest is_longer
 patterns::inside-path_pat-requires t c =
-    let seen : (cond : Bool) → Saw cond (looks rules.expr_path) c.args.p.now true = λ cond. begins-else rules.expr_path rules.single_pattern refl (saw-not c.in_default.not-MINUS (c.current.ensures.sees cond) and saw-not c.in_default.not-UNDERSCORE (c.current.ensures.sees cond) and saw-not c.in_default.not-AMP (c.current.ensures.sees cond) and saw-not c.in_default.not-L_BRACK (c.current.ensures.sees cond) and saw-not c.in_default.not-REF_KW (c.current.ensures.sees cond) and saw-not c.in_default.not-MUT_KW (c.current.ensures.sees cond) and saw-not c.in_default.not-L_PAREN (c.current.ensures.sees cond) and saw-before c.current.ensures.same (saw-so (c.at_ident_pat.ensures.sees cond) c.if-at_ident_pat.false) and saw-before c.current.ensures.same (saw-before c.at_ident_pat.ensures.same (saw-so (c.at_pair.ensures.sees cond) c.if-at_pair.false)) and begun rules.literal (saw-before c.current.ensures.same (saw-before c.at_ident_pat.ensures.same (saw-before c.at_pair.ensures.same (saw-so (c.at_literal.ensures.sees cond) c.if-at_literal.false)))) nothing) (c.requires.begins cond) refl in
+    let seen : (cond : Bool) → Saw cond (looks rules.expr_path) c.args.p.now true = λ cond. begins-else rules.expr_path rules.single_pattern refl (saw-not c.in_default.not-MINUS (c.current.ensures.sees cond) and saw-not c.in_default.not-UNDERSCORE (c.current.ensures.sees cond) and saw-not c.in_default.not-AMP (c.current.ensures.sees cond) and saw-not c.in_default.not-L_BRACK (c.current.ensures.sees cond) and saw-not c.in_default.not-REF_KW (c.current.ensures.sees cond) and saw-not c.in_default.not-MUT_KW (c.current.ensures.sees cond) and saw-not c.in_default.not-L_PAREN (c.current.ensures.sees cond) and saw-before c.current.ensures.peeks.same (saw-so (c.at_ident_pat.ensures.sees cond) c.if-at_ident_pat.false) and saw-before c.current.ensures.peeks.same (saw-before c.at_ident_pat.ensures.peeks.same (saw-so (c.at_pair.ensures.sees cond) c.if-at_pair.false)) and begun rules.literal (saw-before c.current.ensures.peeks.same (saw-before c.at_ident_pat.ensures.peeks.same (saw-before c.at_pair.ensures.peeks.same (saw-so (c.at_literal.ensures.sees cond) c.if-at_literal.false)))) nothing) (c.requires.begins.sees cond) refl in
     let path : (cond : Bool) → Saw cond (looks rules.path) c.args.p.now true = λ cond. subst (λ (l : Look). Saw cond l c.args.p.now true) (paths-begin modes.Expr) (seen cond) in (
       omega arith,
       (
-        (λ d. saw-after c.at_literal.ensures.same (saw-after c.at_pair.ensures.same (saw-after c.at_ident_pat.ensures.same (saw-after c.current.ensures.same (path d))))),
-        (omega arith, c.at_literal.ensures.same.innermost _ (c.at_pair.ensures.same.innermost _ (c.at_ident_pat.ensures.same.innermost _ (c.current.ensures.same.innermost _ c.requires.innermost)))),
+        record { sees = λ d. saw-after c.at_literal.ensures.peeks.same (saw-after c.at_pair.ensures.peeks.same (saw-after c.at_ident_pat.ensures.peeks.same (saw-after c.current.ensures.peeks.same (path d)))); some = omega arith },
+        c.at_literal.ensures.peeks.same.innermost _ (c.at_pair.ensures.peeks.same.innermost _ (c.at_ident_pat.ensures.peeks.same.innermost _ (c.current.ensures.peeks.same.innermost _ c.requires.innermost))),
       ),
     )
 
 pub patterns::expect_single-single_pattern-requires : goal.patterns::expect_single-single_pattern-requires
-patterns::expect_single-single_pattern-requires t c = (omega arith, (λ d. saw-after c.at_single_pattern.ensures.same (saw-so (c.at_single_pattern.ensures.sees d) c.if-at_single_pattern.true), omega (arith, c.at_single_pattern.ensures.some c.if-at_single_pattern.true, c.at_single_pattern.ensures.left)))
+patterns::expect_single-single_pattern-requires t c = (omega arith, (λ d. saw-after c.at_single_pattern.ensures.peeks.same (saw-so (c.at_single_pattern.ensures.sees d) c.if-at_single_pattern.true), omega (arith, c.at_single_pattern.ensures.some c.if-at_single_pattern.true, c.at_single_pattern.ensures.peeks.left)))
 
 pub patterns::expect_single-returns-then-at_single_pattern-clause-reads : goal.patterns::expect_single-returns-then-at_single_pattern-clause-reads
 unfolding look_of begins_below whole rule items statements expressions patterns types paths there_at shift passes is_silent begins in_mode anew row one_of any_of no_longer longest is_longer
-patterns::expect_single-returns-then-at_single_pattern-clause-reads t c = λ cond. reads-here (begun rules.single_pattern (saw-so (c.at_single_pattern.ensures.sees cond) c.if-at_single_pattern.true) nothing) (after-look cond c.at_single_pattern.ensures.same (reads-call cond (c.single_pattern.ensures.gives cond)))
+patterns::expect_single-returns-then-at_single_pattern-clause-reads t c = λ cond. reads-here (begun rules.single_pattern (saw-so (c.at_single_pattern.ensures.sees cond) c.if-at_single_pattern.true) nothing) (after-look cond c.at_single_pattern.ensures.peeks.same (reads-call cond (c.single_pattern.ensures.gives cond)))
 
 pub patterns::expect_single-returns-clause-reads : goal.patterns::expect_single-returns-clause-reads
 unfolding look_of begins_below whole rule items statements expressions patterns types paths there_at shift passes is_silent begins in_mode anew row one_of any_of no_longer longest is_longer
-patterns::expect_single-returns-clause-reads t c = λ cond. reads-here (begun rules.single_pattern (saw-so (c.at_single_pattern.ensures.sees cond) c.if-at_single_pattern.false) nothing) (after-look cond c.at_single_pattern.ensures.same (c.error.ensures.reads cond))
+patterns::expect_single-returns-clause-reads t c = λ cond. reads-here (begun rules.single_pattern (saw-so (c.at_single_pattern.ensures.sees cond) c.if-at_single_pattern.false) nothing) (after-look cond c.at_single_pattern.ensures.peeks.same (c.error.ensures.reads cond))
 
 pub or_patterns::expect_pattern-pattern-requires : goal.or_patterns::expect_pattern-pattern-requires
-or_patterns::expect_pattern-pattern-requires t c = (omega arith, (λ d. saw-after c.at_pattern.ensures.same (saw-so (c.at_pattern.ensures.sees d) c.if-at_pattern.true), omega (arith, c.at_pattern.ensures.some c.if-at_pattern.true, c.at_pattern.ensures.left)))
+or_patterns::expect_pattern-pattern-requires t c = (omega arith, (λ d. saw-after c.at_pattern.ensures.peeks.same (saw-so (c.at_pattern.ensures.sees d) c.if-at_pattern.true), omega (arith, c.at_pattern.ensures.some c.if-at_pattern.true, c.at_pattern.ensures.peeks.left)))
 
 pub or_patterns::expect_pattern-returns-then-at_pattern-clause-reads : goal.or_patterns::expect_pattern-returns-then-at_pattern-clause-reads
 unfolding look_of begins_below whole rule items statements expressions patterns types paths there_at shift passes is_silent begins in_mode anew row one_of any_of no_longer longest is_longer
-or_patterns::expect_pattern-returns-then-at_pattern-clause-reads t c = λ cond. reads-here (begun rules.pattern (saw-so (c.at_pattern.ensures.sees cond) c.if-at_pattern.true) nothing) (after-look cond c.at_pattern.ensures.same (reads-call cond (c.pattern.ensures.gives cond)))
+or_patterns::expect_pattern-returns-then-at_pattern-clause-reads t c = λ cond. reads-here (begun rules.pattern (saw-so (c.at_pattern.ensures.sees cond) c.if-at_pattern.true) nothing) (after-look cond c.at_pattern.ensures.peeks.same (reads-call cond (c.pattern.ensures.gives cond)))
 
 pub or_patterns::expect_pattern-returns-clause-reads : goal.or_patterns::expect_pattern-returns-clause-reads
 unfolding look_of begins_below whole rule items statements expressions patterns types paths there_at shift passes is_silent begins in_mode anew row one_of any_of no_longer longest is_longer
-or_patterns::expect_pattern-returns-clause-reads t c = λ cond. reads-here (begun rules.pattern (saw-so (c.at_pattern.ensures.sees cond) c.if-at_pattern.false) nothing) (after-look cond c.at_pattern.ensures.same (c.error.ensures.reads cond))
+or_patterns::expect_pattern-returns-clause-reads t c = λ cond. reads-here (begun rules.pattern (saw-so (c.at_pattern.ensures.sees cond) c.if-at_pattern.false) nothing) (after-look cond c.at_pattern.ensures.peeks.same (c.error.ensures.reads cond))
 
 pub patterns::ref_pat-complete-requires : goal.patterns::ref_pat-complete-requires
 patterns::ref_pat-complete-requires t c = ((c.expect_single.ensures.reads true).does.innermost _ ((c.eat.ensures.reads true).does.innermost _ ((c.take.ensures.reads true).does.innermost _ c.start-node.ensures.marker)))
@@ -201,11 +237,11 @@ patterns::ident_after_ref-returns-clause-reads t c = λ cond. reads-node cond c.
 
 pub patterns::opt_at-returns-then-at-clause-reads : goal.patterns::opt_at-returns-then-at-clause-reads
 unfolding look_of begins_below whole rule items statements expressions patterns types paths there_at shift passes is_silent begins in_mode anew row one_of any_of no_longer longest is_longer
-patterns::opt_at-returns-then-at-clause-reads t c = λ cond. reads-here (saw-so (c.at.ensures.sees cond) c.if-at.true and nothing) (after-look cond c.at.ensures.same (reads-then cond (c.take.ensures.reads cond) (c.expect_single.ensures.reads cond)))
+patterns::opt_at-returns-then-at-clause-reads t c = λ cond. reads-here (saw-so (c.at.ensures.sees cond) c.if-at.true and nothing) (after-look cond c.at.ensures.peeks.same (reads-then cond (c.take.ensures.reads cond) (c.expect_single.ensures.reads cond)))
 
 pub patterns::opt_at-returns-else-at-clause-reads : goal.patterns::opt_at-returns-else-at-clause-reads
 unfolding look_of begins_below whole rule items statements expressions patterns types paths there_at shift passes is_silent begins in_mode anew row one_of any_of no_longer longest is_longer
-patterns::opt_at-returns-else-at-clause-reads t c = λ cond. reads-here (saw-so (c.at.ensures.sees cond) c.if-at.false and nothing) (reads-nothing cond c.at.ensures.same)
+patterns::opt_at-returns-else-at-clause-reads t c = λ cond. reads-here (saw-so (c.at.ensures.sees cond) c.if-at.false and nothing) (reads-nothing cond c.at.ensures.peeks.same)
 
 pub patterns::paren_pat-after_paren-requires : goal.patterns::paren_pat-after_paren-requires
 patterns::paren_pat-after_paren-requires t c = (omega arith, (c.take.ensures.reads true).does.innermost _ c.requires.innermost)
@@ -214,21 +250,21 @@ pub patterns::paren_pat-returns-clause-reads : goal.patterns::paren_pat-returns-
 patterns::paren_pat-returns-clause-reads t c = λ cond. reads-then cond (c.take.ensures.reads cond) (c.after_paren.ensures.reads cond)
 
 pub patterns::after_paren-wrap-requires : goal.patterns::after_paren-wrap-requires
-patterns::after_paren-wrap-requires t c = (c.take.ensures.reads true).does.innermost _ (c.at.ensures.same.innermost _ c.requires.innermost)
+patterns::after_paren-wrap-requires t c = (c.take.ensures.reads true).does.innermost _ (c.at.ensures.peeks.same.innermost _ c.requires.innermost)
 
 pub patterns::after_paren-tuple_tail-requires : goal.patterns::after_paren-tuple_tail-requires
-patterns::after_paren-tuple_tail-requires t c = (omega arith, (c.expect_pattern.ensures.reads true).does.innermost _ (c.at.ensures.same.innermost _ c.requires.innermost))
+patterns::after_paren-tuple_tail-requires t c = (omega arith, (c.expect_pattern.ensures.reads true).does.innermost _ (c.at.ensures.peeks.same.innermost _ c.requires.innermost))
 
 pub patterns::after_paren-returns-then-at-clause-reads : goal.patterns::after_paren-returns-then-at-clause-reads
 unfolding look_of begins_below whole rule items statements expressions patterns types paths there_at shift passes is_silent begins in_mode anew row one_of any_of no_longer longest is_longer
-patterns::after_paren-returns-then-at-clause-reads t c = λ cond. reads-here (saw-so (c.at.ensures.sees cond) c.if-at.true and nothing) (after-look cond c.at.ensures.same (reads-wrap cond (c.take.ensures.reads cond) c.wrap.ensures.wraps))
+patterns::after_paren-returns-then-at-clause-reads t c = λ cond. reads-here (saw-so (c.at.ensures.sees cond) c.if-at.true and nothing) (after-look cond c.at.ensures.peeks.same (reads-wrap cond (c.take.ensures.reads cond) c.wrap.ensures.wraps))
 
 pub patterns::after_paren-returns-clause-reads : goal.patterns::after_paren-returns-clause-reads
 unfolding look_of begins_below whole rule items statements expressions patterns types paths there_at shift passes is_silent begins in_mode anew row one_of any_of no_longer longest is_longer
-patterns::after_paren-returns-clause-reads t c = λ cond. reads-here (saw-so (c.at.ensures.sees cond) c.if-at.false and nothing) (after-look cond c.at.ensures.same (reads-then cond (c.expect_pattern.ensures.reads cond) (c.tuple_tail.ensures.reads cond)))
+patterns::after_paren-returns-clause-reads t c = λ cond. reads-here (saw-so (c.at.ensures.sees cond) c.if-at.false and nothing) (after-look cond c.at.ensures.peeks.same (reads-then cond (c.expect_pattern.ensures.reads cond) (c.tuple_tail.ensures.reads cond)))
 
 pub patterns::path_pat-path_with_args-requires : goal.patterns::path_pat-path_with_args-requires
-patterns::path_pat-path_with_args-requires t c = (omega arith, (c.requires.begins, c.requires.some))
+patterns::path_pat-path_with_args-requires t c = (omega arith, (c.requires.begins.sees, c.requires.begins.some))
 
 pub patterns::path_pat-after_path-requires : goal.patterns::path_pat-after_path-requires
 patterns::path_pat-after_path-requires t c = (omega arith, (c.path_with_args.ensures.gives true).does.innermost _ c.requires.innermost)
@@ -237,49 +273,49 @@ pub patterns::path_pat-returns-clause-reads : goal.patterns::path_pat-returns-cl
 patterns::path_pat-returns-clause-reads t c = λ cond. reads-then cond (reads-call cond (c.path_with_args.ensures.gives cond)) (c.after_path.ensures.reads cond)
 
 pub patterns::after_path-wrap-requires : goal.patterns::after_path-wrap-requires
-patterns::after_path-wrap-requires t c = (c.rest_of_list.ensures.reads true).does.innermost _ ((c.take.ensures.reads true).does.innermost _ (c.at.ensures.same.innermost _ c.requires.innermost))
+patterns::after_path-wrap-requires t c = (c.rest_of_list.ensures.reads true).does.innermost _ ((c.take.ensures.reads true).does.innermost _ (c.at.ensures.peeks.same.innermost _ c.requires.innermost))
 
 pub patterns::after_path-wrap-requires-then-at-2 : goal.patterns::after_path-wrap-requires-then-at-2
-patterns::after_path-wrap-requires-then-at-2 t c = (c.pattern_fields.ensures.gives true).does.innermost _ (c.at-2.ensures.same.innermost _ (c.at.ensures.same.innermost _ c.requires.innermost))
+patterns::after_path-wrap-requires-then-at-2 t c = (c.pattern_fields.ensures.gives true).does.innermost _ (c.at-2.ensures.peeks.same.innermost _ (c.at.ensures.peeks.same.innermost _ c.requires.innermost))
 
 pub patterns::after_path-wrap-requires-2 : goal.patterns::after_path-wrap-requires-2
-patterns::after_path-wrap-requires-2 t c = c.at-2.ensures.same.innermost _ (c.at.ensures.same.innermost _ c.requires.innermost)
+patterns::after_path-wrap-requires-2 t c = c.at-2.ensures.peeks.same.innermost _ (c.at.ensures.peeks.same.innermost _ c.requires.innermost)
 
 pub patterns::after_path-returns-then-at-clause-reads : goal.patterns::after_path-returns-then-at-clause-reads
 unfolding look_of begins_below whole rule items statements expressions patterns types paths there_at shift passes is_silent begins in_mode anew row one_of any_of no_longer longest is_longer
-patterns::after_path-returns-then-at-clause-reads t c = λ cond. reads-here (saw-so (c.at.ensures.sees cond) c.if-at.true and nothing) (after-look cond c.at.ensures.same (reads-wrap cond (reads-then cond (c.take.ensures.reads cond) (c.rest_of_list.ensures.reads cond)) c.wrap.ensures.wraps))
+patterns::after_path-returns-then-at-clause-reads t c = λ cond. reads-here (saw-so (c.at.ensures.sees cond) c.if-at.true and nothing) (after-look cond c.at.ensures.peeks.same (reads-wrap cond (reads-then cond (c.take.ensures.reads cond) (c.rest_of_list.ensures.reads cond)) c.wrap.ensures.wraps))
 
 pub patterns::after_path-returns-then-at-2-clause-reads : goal.patterns::after_path-returns-then-at-2-clause-reads
 unfolding look_of begins_below whole rule items statements expressions patterns types paths there_at shift passes is_silent begins in_mode anew row one_of any_of no_longer longest is_longer
-patterns::after_path-returns-then-at-2-clause-reads t c = λ cond. reads-here (saw-so (c.at.ensures.sees cond) c.if-at.false and saw-before c.at.ensures.same (saw-so (c.at-2.ensures.sees cond) c.if-at-2.true) and nothing) (after-look cond c.at.ensures.same (after-look cond c.at-2.ensures.same (reads-wrap cond (reads-call cond (c.pattern_fields.ensures.gives cond)) c.wrap-then-at-2.ensures.wraps)))
+patterns::after_path-returns-then-at-2-clause-reads t c = λ cond. reads-here (saw-so (c.at.ensures.sees cond) c.if-at.false and saw-before c.at.ensures.peeks.same (saw-so (c.at-2.ensures.sees cond) c.if-at-2.true) and nothing) (after-look cond c.at.ensures.peeks.same (after-look cond c.at-2.ensures.peeks.same (reads-wrap cond (reads-call cond (c.pattern_fields.ensures.gives cond)) c.wrap-then-at-2.ensures.wraps)))
 
 pub patterns::after_path-returns-clause-reads : goal.patterns::after_path-returns-clause-reads
 unfolding look_of begins_below whole rule items statements expressions patterns types paths there_at shift passes is_silent begins in_mode anew row one_of any_of no_longer longest is_longer
-patterns::after_path-returns-clause-reads t c = λ cond. reads-here (saw-so (c.at.ensures.sees cond) c.if-at.false and saw-before c.at.ensures.same (saw-so (c.at-2.ensures.sees cond) c.if-at-2.false) and nothing) (reads-wrap cond (reads-nothing cond (does-then c.at.ensures.same c.at-2.ensures.same)) c.wrap-2.ensures.wraps)
+patterns::after_path-returns-clause-reads t c = λ cond. reads-here (saw-so (c.at.ensures.sees cond) c.if-at.false and saw-before c.at.ensures.peeks.same (saw-so (c.at-2.ensures.sees cond) c.if-at-2.false) and nothing) (reads-wrap cond (reads-nothing cond (does-then c.at.ensures.peeks.same c.at-2.ensures.peeks.same)) c.wrap-2.ensures.wraps)
 
 pub or_patterns::pattern-alternatives-frame-requires : goal.or_patterns::pattern-alternatives-frame-requires
-or_patterns::pattern-alternatives-frame-requires t c = (omega arith, ((λ d. saw-inside c.start-frame.ensures.opens (c.requires.begins d)), (omega arith, c.start-frame.ensures.marker)))
+or_patterns::pattern-alternatives-frame-requires t c = (omega arith, (record { sees = λ d. saw-inside c.start-frame.ensures.opens (c.requires.begins d); some = omega arith }, c.start-frame.ensures.marker))
 
 pub or_patterns::pattern-returns-clause-gives : goal.or_patterns::pattern-returns-clause-gives
 or_patterns::pattern-returns-clause-gives t c = λ cond. gives-anew (anew-completes c.start-frame.ensures.opens (completes-leave (c.alternatives-frame.ensures.reads cond) c.abandon.ensures.leaves))
 
 pub or_patterns::alternatives-wrap-requires : goal.or_patterns::alternatives-wrap-requires
-or_patterns::alternatives-wrap-requires t c = (c.further.ensures.reads true).does.innermost _ ((c.expect_single.ensures.reads true).does.innermost _ ((c.take.ensures.reads true).does.innermost _ (c.at.ensures.same.innermost _ c.requires.innermost)))
+or_patterns::alternatives-wrap-requires t c = (c.further.ensures.reads true).does.innermost _ ((c.expect_single.ensures.reads true).does.innermost _ ((c.take.ensures.reads true).does.innermost _ (c.at.ensures.peeks.same.innermost _ c.requires.innermost)))
 
 pub or_patterns::alternatives-single_pattern-requires : goal.or_patterns::alternatives-single_pattern-requires
 unfolding look_of begins_below whole rule items statements expressions patterns types paths there_at shift passes is_silent begins in_mode anew row one_of any_of no_longer longest is_longer
-or_patterns::alternatives-single_pattern-requires t c = (omega arith, ((λ d. saw-after c.at.ensures.same (begins-else rules.single_pattern rules.pattern refl (saw-so (c.at.ensures.sees d) c.if-at.false and nothing) (c.requires.begins d) refl)), omega arith))
+or_patterns::alternatives-single_pattern-requires t c = (omega arith, ((λ d. saw-after c.at.ensures.peeks.same (begins-else rules.single_pattern rules.pattern refl (saw-so (c.at.ensures.sees d) c.if-at.false and nothing) (c.requires.begins.sees d) refl)), omega arith))
 
 pub or_patterns::alternatives-opt_further-requires : goal.or_patterns::alternatives-opt_further-requires
-or_patterns::alternatives-opt_further-requires t c = (omega arith, (c.single_pattern.ensures.gives true).does.innermost _ (c.at.ensures.same.innermost _ c.requires.innermost))
+or_patterns::alternatives-opt_further-requires t c = (omega arith, (c.single_pattern.ensures.gives true).does.innermost _ (c.at.ensures.peeks.same.innermost _ c.requires.innermost))
 
 pub or_patterns::alternatives-returns-then-at-clause-reads : goal.or_patterns::alternatives-returns-then-at-clause-reads
 unfolding look_of begins_below whole rule items statements expressions patterns types paths there_at shift passes is_silent begins in_mode anew row one_of any_of no_longer longest is_longer
-or_patterns::alternatives-returns-then-at-clause-reads t c = λ cond. reads-here (saw-so (c.at.ensures.sees cond) c.if-at.true and nothing) (after-look cond c.at.ensures.same (reads-then cond (c.take.ensures.reads cond) (reads-then cond (c.expect_single.ensures.reads cond) (reads-wrap cond (c.further.ensures.reads cond) c.wrap.ensures.wraps))))
+or_patterns::alternatives-returns-then-at-clause-reads t c = λ cond. reads-here (saw-so (c.at.ensures.sees cond) c.if-at.true and nothing) (after-look cond c.at.ensures.peeks.same (reads-then cond (c.take.ensures.reads cond) (reads-then cond (c.expect_single.ensures.reads cond) (reads-wrap cond (c.further.ensures.reads cond) c.wrap.ensures.wraps))))
 
 pub or_patterns::alternatives-returns-clause-reads : goal.or_patterns::alternatives-returns-clause-reads
 unfolding look_of begins_below whole rule items statements expressions patterns types paths there_at shift passes is_silent begins in_mode anew row one_of any_of no_longer longest is_longer
-or_patterns::alternatives-returns-clause-reads t c = λ cond. reads-here (saw-so (c.at.ensures.sees cond) c.if-at.false and nothing) (after-look cond c.at.ensures.same (reads-then cond (reads-call cond (c.single_pattern.ensures.gives cond)) (c.opt_further.ensures.reads cond)))
+or_patterns::alternatives-returns-clause-reads t c = λ cond. reads-here (saw-so (c.at.ensures.sees cond) c.if-at.false and nothing) (after-look cond c.at.ensures.peeks.same (reads-then cond (reads-call cond (c.single_pattern.ensures.gives cond)) (c.opt_further.ensures.reads cond)))
 
 pub or_patterns::one_further-returns-clause-reads : goal.or_patterns::one_further-returns-clause-reads
 or_patterns::one_further-returns-clause-reads t c = λ cond. reads-then cond (c.take.ensures.reads cond) (c.expect_single.ensures.reads cond)
@@ -289,22 +325,22 @@ unfolding tokens look_of begins_below whole rule items statements expressions pa
 or_patterns::further-turns-preserved t c = record {
   goes = λ cond.
       next-turn cond (One '|' ▸ SinglePattern !) (ends-at-end cond (One '|' ▸ SinglePattern !) refl) _ _ _ (c.turns.invariant.goes cond) (saw-so (c.at.ensures.sees cond) c.turns-test.true)
-      (after-look cond c.at.ensures.same (c.one_further.ensures.reads cond)) (omega (arith, c.one_further.ensures.left, c.at.ensures.left));
-  left = omega (arith, c.turns.invariant.left, c.one_further.ensures.left, c.at.ensures.left);
-  looks = omega (arith, c.turns.invariant.looks, c.one_further.ensures.looks, c.at.ensures.looks);
+      (after-look cond c.at.ensures.peeks.same (c.one_further.ensures.reads cond)) (omega (arith, c.one_further.ensures.takes.left, c.at.ensures.peeks.left));
+  left = omega (arith, c.turns.invariant.left, c.one_further.ensures.takes.left, c.at.ensures.peeks.left);
+  looks = omega (arith, c.turns.invariant.looks, c.one_further.ensures.takes.looks, c.at.ensures.peeks.looks);
 }
 
 pub or_patterns::further-returns-clause-reads : goal.or_patterns::further-returns-clause-reads
 unfolding look_of begins_below whole rule items statements expressions patterns types paths there_at shift passes is_silent begins in_mode anew row one_of any_of no_longer longest is_longer
-or_patterns::further-returns-clause-reads t c = λ cond. last-turn cond (One '|' ▸ SinglePattern !) (ends-at-end cond (One '|' ▸ SinglePattern !) refl) _ _ _ (c.turns.invariant.goes cond) (saw-so (c.at.ensures.sees cond) c.turns-test.false) c.at.ensures.same
+or_patterns::further-returns-clause-reads t c = λ cond. last-turn cond (One '|' ▸ SinglePattern !) (ends-at-end cond (One '|' ▸ SinglePattern !) refl) _ _ _ (c.turns.invariant.goes cond) (saw-so (c.at.ensures.sees cond) c.turns-test.false) c.at.ensures.peeks.same
 
 pub or_patterns::opt_further-wrap-requires : goal.or_patterns::opt_further-wrap-requires
-or_patterns::opt_further-wrap-requires t c = (c.further.ensures.reads true).does.innermost _ ((c.one_further.ensures.reads true).does.innermost _ (c.at.ensures.same.innermost _ c.requires.innermost))
+or_patterns::opt_further-wrap-requires t c = (c.further.ensures.reads true).does.innermost _ ((c.one_further.ensures.reads true).does.innermost _ (c.at.ensures.peeks.same.innermost _ c.requires.innermost))
 
 pub or_patterns::opt_further-returns-then-at-clause-reads : goal.or_patterns::opt_further-returns-then-at-clause-reads
 unfolding look_of begins_below whole rule items statements expressions patterns types paths there_at shift passes is_silent begins in_mode anew row one_of any_of no_longer longest is_longer
-or_patterns::opt_further-returns-then-at-clause-reads t c = λ cond. reads-here (saw-so (c.at.ensures.sees cond) c.if-at.true and nothing) (after-look cond c.at.ensures.same (reads-wrap cond (reads-flat (reads-then cond (c.one_further.ensures.reads cond) (c.further.ensures.reads cond))) c.wrap.ensures.wraps))
+or_patterns::opt_further-returns-then-at-clause-reads t c = λ cond. reads-here (saw-so (c.at.ensures.sees cond) c.if-at.true and nothing) (after-look cond c.at.ensures.peeks.same (reads-wrap cond (reads-flat (reads-then cond (c.one_further.ensures.reads cond) (c.further.ensures.reads cond))) c.wrap.ensures.wraps))
 
 pub or_patterns::opt_further-returns-clause-reads : goal.or_patterns::opt_further-returns-clause-reads
 unfolding look_of begins_below whole rule items statements expressions patterns types paths there_at shift passes is_silent begins in_mode anew row one_of any_of no_longer longest is_longer
-or_patterns::opt_further-returns-clause-reads t c = λ cond. reads-here (saw-so (c.at.ensures.sees cond) c.if-at.false and nothing) (reads-nothing cond c.at.ensures.same)
+or_patterns::opt_further-returns-clause-reads t c = λ cond. reads-here (saw-so (c.at.ensures.sees cond) c.if-at.false and nothing) (reads-nothing cond c.at.ensures.peeks.same)

@@ -27,67 +27,79 @@ types::any_type-returns-clause-gives t c = gives-anew (anew-completes c.start-fr
 
 pub types::inside-returns-in-L_PAREN-clause-reads : goal.types::inside-returns-in-L_PAREN-clause-reads
 unfolding look_of begins_below whole rule items statements expressions patterns types paths there_at shift passes is_silent begins in_mode anew row one_of any_of no_longer longest is_longer
-types::inside-returns-in-L_PAREN-clause-reads t c = reads-here (saw-arm c.in-L_PAREN.is (c.current.ensures.sees c.args.condition) and nothing) (after-look _ c.current.ensures.same c.paren_type.ensures.reads)
+types::inside-returns-in-L_PAREN-clause-reads t c = reads-here (saw-arm c.in-L_PAREN.is (c.current.ensures.sees c.args.condition) and nothing) (after-look _ c.current.ensures.peeks.same c.paren_type.ensures.reads)
 
 pub types::inside-returns-in-L_BRACK-clause-reads : goal.types::inside-returns-in-L_BRACK-clause-reads
 unfolding look_of begins_below whole rule items statements expressions patterns types paths there_at shift passes is_silent begins in_mode anew row one_of any_of no_longer longest is_longer
-types::inside-returns-in-L_BRACK-clause-reads t c = reads-here (saw-arm c.in-L_BRACK.is (c.current.ensures.sees c.args.condition) and nothing) (after-look _ c.current.ensures.same c.bracket_type.ensures.reads)
+types::inside-returns-in-L_BRACK-clause-reads t c = reads-here (saw-arm c.in-L_BRACK.is (c.current.ensures.sees c.args.condition) and nothing) (after-look _ c.current.ensures.peeks.same c.bracket_type.ensures.reads)
 
 pub types::inside-returns-in-BANG-clause-reads : goal.types::inside-returns-in-BANG-clause-reads
 unfolding look_of begins_below whole rule items statements expressions patterns types paths there_at shift passes is_silent begins in_mode anew row one_of any_of no_longer longest is_longer
-types::inside-returns-in-BANG-clause-reads t c = reads-here (saw-arm c.in-BANG.is (c.current.ensures.sees c.args.condition) and nothing) (after-look _ c.current.ensures.same (c.word_type.ensures.reads c.args.condition))
+types::inside-returns-in-BANG-clause-reads t c = reads-here (saw-arm c.in-BANG.is (c.current.ensures.sees c.args.condition) and nothing) (after-look _ c.current.ensures.peeks.same (c.word_type.ensures.reads c.args.condition))
 
 pub types::inside-returns-in-UNDERSCORE-clause-reads : goal.types::inside-returns-in-UNDERSCORE-clause-reads
 unfolding look_of begins_below whole rule items statements expressions patterns types paths there_at shift passes is_silent begins in_mode anew row one_of any_of no_longer longest is_longer
-types::inside-returns-in-UNDERSCORE-clause-reads t c = reads-here (saw-arm c.in-UNDERSCORE.is (c.current.ensures.sees c.args.condition) and nothing) (after-look _ c.current.ensures.same (c.word_type-in-UNDERSCORE.ensures.reads c.args.condition))
+types::inside-returns-in-UNDERSCORE-clause-reads t c = reads-here (saw-arm c.in-UNDERSCORE.is (c.current.ensures.sees c.args.condition) and nothing) (after-look _ c.current.ensures.peeks.same (c.word_type-in-UNDERSCORE.ensures.reads c.args.condition))
 
 pub types::inside-returns-in-STAR-clause-reads : goal.types::inside-returns-in-STAR-clause-reads
 unfolding look_of begins_below whole rule items statements expressions patterns types paths there_at shift passes is_silent begins in_mode anew row one_of any_of no_longer longest is_longer
-types::inside-returns-in-STAR-clause-reads t c = reads-here (saw-arm c.in-STAR.is (c.current.ensures.sees c.args.condition) and nothing) (after-look _ c.current.ensures.same c.ptr_type.ensures.reads)
+types::inside-returns-in-STAR-clause-reads t c = reads-here (saw-arm c.in-STAR.is (c.current.ensures.sees c.args.condition) and nothing) (after-look _ c.current.ensures.peeks.same c.ptr_type.ensures.reads)
 
 pub types::inside-returns-in-AMP-clause-reads : goal.types::inside-returns-in-AMP-clause-reads
 unfolding look_of begins_below whole rule items statements expressions patterns types paths there_at shift passes is_silent begins in_mode anew row one_of any_of no_longer longest is_longer
-types::inside-returns-in-AMP-clause-reads t c = reads-here (saw-arm c.in-AMP.is (c.current.ensures.sees c.args.condition) and nothing) (after-look _ c.current.ensures.same c.ref_type.ensures.reads)
+types::inside-returns-in-AMP-clause-reads t c = reads-here (saw-arm c.in-AMP.is (c.current.ensures.sees c.args.condition) and nothing) (after-look _ c.current.ensures.peeks.same c.ref_type.ensures.reads)
 
 pub types::inside-returns-in-IMPL_KW-clause-reads : goal.types::inside-returns-in-IMPL_KW-clause-reads
 unfolding look_of begins_below whole rule items statements expressions patterns types paths there_at shift passes is_silent begins in_mode anew row one_of any_of no_longer longest is_longer
-types::inside-returns-in-IMPL_KW-clause-reads t c = reads-here (saw-arm c.in-IMPL_KW.is (c.current.ensures.sees c.args.condition) and nothing) (after-look _ c.current.ensures.same (c.bounded_type.ensures.reads c.args.condition))
+types::inside-returns-in-IMPL_KW-clause-reads t c = reads-here (saw-arm c.in-IMPL_KW.is (c.current.ensures.sees c.args.condition) and nothing) (after-look _ c.current.ensures.peeks.same (c.bounded_type.ensures.reads c.args.condition))
 
 pub types::inside-returns-in-DYN_KW-clause-reads : goal.types::inside-returns-in-DYN_KW-clause-reads
 unfolding look_of begins_below whole rule items statements expressions patterns types paths there_at shift passes is_silent begins in_mode anew row one_of any_of no_longer longest is_longer
-types::inside-returns-in-DYN_KW-clause-reads t c = reads-here (saw-arm c.in-DYN_KW.is (c.current.ensures.sees c.args.condition) and nothing) (after-look _ c.current.ensures.same (c.bounded_type-in-DYN_KW.ensures.reads c.args.condition))
+types::inside-returns-in-DYN_KW-clause-reads t c = reads-here (saw-arm c.in-DYN_KW.is (c.current.ensures.sees c.args.condition) and nothing) (after-look _ c.current.ensures.peeks.same (c.bounded_type-in-DYN_KW.ensures.reads c.args.condition))
 
-pub types::inside-returns-in-BANG-clause-marker : goal.types::inside-returns-in-BANG-clause-marker
-types::inside-returns-in-BANG-clause-marker t c = (c.word_type.ensures.reads true).does.innermost _ (c.current.ensures.same.innermost _ c.requires.innermost)
+pub types::inside-returns-in-BANG-clause-takes : goal.types::inside-returns-in-BANG-clause-takes
+types::inside-returns-in-BANG-clause-takes t c = record {
+  left = omega arith;
+  looks = omega arith;
+  marker = (c.word_type.ensures.reads true).does.innermost _ (c.current.ensures.peeks.same.innermost _ c.requires.innermost);
+}
 
-pub types::inside-returns-in-UNDERSCORE-clause-marker : goal.types::inside-returns-in-UNDERSCORE-clause-marker
-types::inside-returns-in-UNDERSCORE-clause-marker t c = (c.word_type-in-UNDERSCORE.ensures.reads true).does.innermost _ (c.current.ensures.same.innermost _ c.requires.innermost)
+pub types::inside-returns-in-UNDERSCORE-clause-takes : goal.types::inside-returns-in-UNDERSCORE-clause-takes
+types::inside-returns-in-UNDERSCORE-clause-takes t c = record {
+  left = omega arith;
+  looks = omega arith;
+  marker = (c.word_type-in-UNDERSCORE.ensures.reads true).does.innermost _ (c.current.ensures.peeks.same.innermost _ c.requires.innermost);
+}
 
 pub types::inside-returns-then-at_dyn_word : goal.types::inside-returns-then-at_dyn_word
 unfolding look_of begins_below whole rule items statements expressions patterns types paths there_at shift passes is_silent begins in_mode anew row one_of any_of no_longer longest is_longer
 types::inside-returns-then-at_dyn_word t c = record {
-  reads = reads-here (saw-not c.in_default.not-L_PAREN (c.current.ensures.sees c.args.condition) and saw-not c.in_default.not-L_BRACK (c.current.ensures.sees c.args.condition) and saw-not c.in_default.not-BANG (c.current.ensures.sees c.args.condition) and saw-not c.in_default.not-UNDERSCORE (c.current.ensures.sees c.args.condition) and saw-not c.in_default.not-STAR (c.current.ensures.sees c.args.condition) and saw-not c.in_default.not-AMP (c.current.ensures.sees c.args.condition) and saw-not c.in_default.not-IMPL_KW (c.current.ensures.sees c.args.condition) and saw-not c.in_default.not-DYN_KW (c.current.ensures.sees c.args.condition) and saw-before c.current.ensures.same (saw-so (c.at_dyn_word.ensures.sees c.args.condition) c.if-at_dyn_word.true) and nothing) (after-look _ c.current.ensures.same (after-look _ c.at_dyn_word.ensures.same (as-word (c.bounded_type-then-at_dyn_word.ensures.reads c.args.condition))));
-  marker = (c.bounded_type-then-at_dyn_word.ensures.reads true).does.innermost _ (c.at_dyn_word.ensures.same.innermost _ (c.current.ensures.same.innermost _ c.requires.innermost));
-  left = omega (arith, c.bounded_type-then-at_dyn_word.ensures.left, c.at_dyn_word.ensures.left, c.current.ensures.left);
-  looks = omega (arith, c.bounded_type-then-at_dyn_word.ensures.looks, c.at_dyn_word.ensures.looks, c.current.ensures.looks);
+  reads = reads-here (saw-not c.in_default.not-L_PAREN (c.current.ensures.sees c.args.condition) and saw-not c.in_default.not-L_BRACK (c.current.ensures.sees c.args.condition) and saw-not c.in_default.not-BANG (c.current.ensures.sees c.args.condition) and saw-not c.in_default.not-UNDERSCORE (c.current.ensures.sees c.args.condition) and saw-not c.in_default.not-STAR (c.current.ensures.sees c.args.condition) and saw-not c.in_default.not-AMP (c.current.ensures.sees c.args.condition) and saw-not c.in_default.not-IMPL_KW (c.current.ensures.sees c.args.condition) and saw-not c.in_default.not-DYN_KW (c.current.ensures.sees c.args.condition) and saw-before c.current.ensures.peeks.same (saw-so (c.at_dyn_word.ensures.sees c.args.condition) c.if-at_dyn_word.true) and nothing) (after-look _ c.current.ensures.peeks.same (after-look _ c.at_dyn_word.ensures.peeks.same (as-word (c.bounded_type-then-at_dyn_word.ensures.reads c.args.condition))));
+  takes = record {
+    left = omega (arith, c.bounded_type-then-at_dyn_word.ensures.takes.left, c.at_dyn_word.ensures.peeks.left, c.current.ensures.peeks.left);
+    looks = omega (arith, c.bounded_type-then-at_dyn_word.ensures.takes.looks, c.at_dyn_word.ensures.peeks.looks, c.current.ensures.peeks.looks);
+    marker = (c.bounded_type-then-at_dyn_word.ensures.reads true).does.innermost _ (c.at_dyn_word.ensures.peeks.same.innermost _ (c.current.ensures.peeks.same.innermost _ c.requires.innermost));
+  };
 }
 
 pub types::inside-returns-else-at_dyn_word : goal.types::inside-returns-else-at_dyn_word
 unfolding look_of begins_below whole rule items statements expressions patterns types paths there_at shift passes is_silent begins in_mode anew row one_of any_of no_longer longest is_longer
 types::inside-returns-else-at_dyn_word t c = record {
-  reads = reads-here (saw-not c.in_default.not-L_PAREN (c.current.ensures.sees c.args.condition) and saw-not c.in_default.not-L_BRACK (c.current.ensures.sees c.args.condition) and saw-not c.in_default.not-BANG (c.current.ensures.sees c.args.condition) and saw-not c.in_default.not-UNDERSCORE (c.current.ensures.sees c.args.condition) and saw-not c.in_default.not-STAR (c.current.ensures.sees c.args.condition) and saw-not c.in_default.not-AMP (c.current.ensures.sees c.args.condition) and saw-not c.in_default.not-IMPL_KW (c.current.ensures.sees c.args.condition) and saw-not c.in_default.not-DYN_KW (c.current.ensures.sees c.args.condition) and saw-before c.current.ensures.same (saw-so (c.at_dyn_word.ensures.sees c.args.condition) c.if-at_dyn_word.false) and nothing) (after-look _ c.current.ensures.same (after-look _ c.at_dyn_word.ensures.same (c.path_type.ensures.reads c.args.condition)));
-  marker = (c.path_type.ensures.reads true).does.innermost _ (c.at_dyn_word.ensures.same.innermost _ (c.current.ensures.same.innermost _ c.requires.innermost));
-  left = omega (arith, c.path_type.ensures.left, c.at_dyn_word.ensures.left, c.current.ensures.left);
-  looks = omega (arith, c.path_type.ensures.looks, c.at_dyn_word.ensures.looks, c.current.ensures.looks);
+  reads = reads-here (saw-not c.in_default.not-L_PAREN (c.current.ensures.sees c.args.condition) and saw-not c.in_default.not-L_BRACK (c.current.ensures.sees c.args.condition) and saw-not c.in_default.not-BANG (c.current.ensures.sees c.args.condition) and saw-not c.in_default.not-UNDERSCORE (c.current.ensures.sees c.args.condition) and saw-not c.in_default.not-STAR (c.current.ensures.sees c.args.condition) and saw-not c.in_default.not-AMP (c.current.ensures.sees c.args.condition) and saw-not c.in_default.not-IMPL_KW (c.current.ensures.sees c.args.condition) and saw-not c.in_default.not-DYN_KW (c.current.ensures.sees c.args.condition) and saw-before c.current.ensures.peeks.same (saw-so (c.at_dyn_word.ensures.sees c.args.condition) c.if-at_dyn_word.false) and nothing) (after-look _ c.current.ensures.peeks.same (after-look _ c.at_dyn_word.ensures.peeks.same (c.path_type.ensures.reads c.args.condition)));
+  takes = record {
+    left = omega (arith, c.path_type.ensures.takes.left, c.at_dyn_word.ensures.peeks.left, c.current.ensures.peeks.left);
+    looks = omega (arith, c.path_type.ensures.takes.looks, c.at_dyn_word.ensures.peeks.looks, c.current.ensures.peeks.looks);
+    marker = (c.path_type.ensures.reads true).does.innermost _ (c.at_dyn_word.ensures.peeks.same.innermost _ (c.current.ensures.peeks.same.innermost _ c.requires.innermost));
+  };
 }
 
 pub types::inside-path_type-requires : goal.types::inside-path_type-requires
 unfolding look_of begins_below whole rule items statements expressions patterns types paths there_at shift passes is_silent begins in_mode anew row one_of any_of no_longer longest is_longer
 types::inside-path_type-requires t c =
-    let seen = begins-else rules.type_path rules.any_type refl (saw-not c.in_default.not-L_PAREN (c.current.ensures.sees c.args.condition) and saw-not c.in_default.not-L_BRACK (c.current.ensures.sees c.args.condition) and saw-not c.in_default.not-BANG (c.current.ensures.sees c.args.condition) and saw-not c.in_default.not-UNDERSCORE (c.current.ensures.sees c.args.condition) and saw-not c.in_default.not-STAR (c.current.ensures.sees c.args.condition) and saw-not c.in_default.not-AMP (c.current.ensures.sees c.args.condition) and saw-not c.in_default.not-IMPL_KW (c.current.ensures.sees c.args.condition) and saw-not c.in_default.not-DYN_KW (c.current.ensures.sees c.args.condition) and saw-before c.current.ensures.same (saw-so (c.at_dyn_word.ensures.sees c.args.condition) c.if-at_dyn_word.false) and nothing) c.requires.begins refl in
+    let seen = begins-else rules.type_path rules.any_type refl (saw-not c.in_default.not-L_PAREN (c.current.ensures.sees c.args.condition) and saw-not c.in_default.not-L_BRACK (c.current.ensures.sees c.args.condition) and saw-not c.in_default.not-BANG (c.current.ensures.sees c.args.condition) and saw-not c.in_default.not-UNDERSCORE (c.current.ensures.sees c.args.condition) and saw-not c.in_default.not-STAR (c.current.ensures.sees c.args.condition) and saw-not c.in_default.not-AMP (c.current.ensures.sees c.args.condition) and saw-not c.in_default.not-IMPL_KW (c.current.ensures.sees c.args.condition) and saw-not c.in_default.not-DYN_KW (c.current.ensures.sees c.args.condition) and saw-before c.current.ensures.peeks.same (saw-so (c.at_dyn_word.ensures.sees c.args.condition) c.if-at_dyn_word.false) and nothing) c.requires.begins.sees refl in
     let path = subst (λ (l : Look). Saw c.args.condition l c.args.p.now true) (paths-begin modes.Type) seen in (
       omega arith,
-      (λ d. saw-after c.at_dyn_word.ensures.same (saw-after c.current.ensures.same (any-mode path)), omega arith),
+      (λ d. saw-after c.at_dyn_word.ensures.peeks.same (saw-after c.current.ensures.peeks.same (any-mode path)), omega arith),
     )
 
 pub types::bounded_type-complete-requires : goal.types::bounded_type-complete-requires
@@ -96,11 +108,19 @@ types::bounded_type-complete-requires t c = (c.bounds.ensures.gives true).does.i
 pub types::bounded_type-returns-clause-reads : goal.types::bounded_type-returns-clause-reads
 types::bounded_type-returns-clause-reads t c = λ cond. reads-node cond c.start-node.ensures.opens (reads-then cond (c.take.ensures.reads cond) (reads-call cond (c.bounds.ensures.gives cond))) c.complete.ensures.closes
 
-pub types::inside-returns-in-IMPL_KW-clause-marker : goal.types::inside-returns-in-IMPL_KW-clause-marker
-types::inside-returns-in-IMPL_KW-clause-marker t c = (c.bounded_type.ensures.reads true).does.innermost _ (c.current.ensures.same.innermost _ c.requires.innermost)
+pub types::inside-returns-in-IMPL_KW-clause-takes : goal.types::inside-returns-in-IMPL_KW-clause-takes
+types::inside-returns-in-IMPL_KW-clause-takes t c = record {
+  left = omega arith;
+  looks = omega arith;
+  marker = (c.bounded_type.ensures.reads true).does.innermost _ (c.current.ensures.peeks.same.innermost _ c.requires.innermost);
+}
 
-pub types::inside-returns-in-DYN_KW-clause-marker : goal.types::inside-returns-in-DYN_KW-clause-marker
-types::inside-returns-in-DYN_KW-clause-marker t c = (c.bounded_type-in-DYN_KW.ensures.reads true).does.innermost _ (c.current.ensures.same.innermost _ c.requires.innermost)
+pub types::inside-returns-in-DYN_KW-clause-takes : goal.types::inside-returns-in-DYN_KW-clause-takes
+types::inside-returns-in-DYN_KW-clause-takes t c = record {
+  left = omega arith;
+  looks = omega arith;
+  marker = (c.bounded_type-in-DYN_KW.ensures.reads true).does.innermost _ (c.current.ensures.peeks.same.innermost _ c.requires.innermost);
+}
 
 pub types::path_type-path_with_args-requires : goal.types::path_type-path_with_args-requires
 types::path_type-path_with_args-requires t c = (omega arith, (λ d. saw-inside c.start-node.ensures.opens (c.requires.begins d), omega arith))
@@ -112,15 +132,15 @@ pub types::path_type-returns-clause-reads : goal.types::path_type-returns-clause
 types::path_type-returns-clause-reads t c = λ cond. reads-node cond c.start-node.ensures.opens (reads-call cond (c.path_with_args.ensures.gives cond)) c.complete.ensures.closes
 
 pub types::expect_type-any_type-requires : goal.types::expect_type-any_type-requires
-types::expect_type-any_type-requires t c = (omega arith, (saw-after c.at_type.ensures.same (saw-so (c.at_type.ensures.sees c.args.condition) c.if-at_type.true), omega (arith, c.at_type.ensures.some c.if-at_type.true, c.at_type.ensures.left)))
+types::expect_type-any_type-requires t c = (omega arith, (saw-after c.at_type.ensures.peeks.same (saw-so (c.at_type.ensures.sees c.args.condition) c.if-at_type.true), omega (arith, c.at_type.ensures.some c.if-at_type.true, c.at_type.ensures.peeks.left)))
 
 pub types::expect_type-returns-then-at_type-clause-reads : goal.types::expect_type-returns-then-at_type-clause-reads
 unfolding look_of begins_below whole rule items statements expressions patterns types paths there_at shift passes is_silent begins in_mode anew row one_of any_of no_longer longest is_longer
-types::expect_type-returns-then-at_type-clause-reads t c = reads-here (begun rules.any_type (saw-so (c.at_type.ensures.sees c.args.condition) c.if-at_type.true) nothing) (after-look _ c.at_type.ensures.same (reads-call _ c.any_type.ensures.gives))
+types::expect_type-returns-then-at_type-clause-reads t c = reads-here (begun rules.any_type (saw-so (c.at_type.ensures.sees c.args.condition) c.if-at_type.true) nothing) (after-look _ c.at_type.ensures.peeks.same (reads-call _ c.any_type.ensures.gives))
 
 pub types::expect_type-returns-clause-reads : goal.types::expect_type-returns-clause-reads
 unfolding look_of begins_below whole rule items statements expressions patterns types paths there_at shift passes is_silent begins in_mode anew row one_of any_of no_longer longest is_longer
-types::expect_type-returns-clause-reads t c = reads-here (begun rules.any_type (saw-so (c.at_type.ensures.sees c.args.condition) c.if-at_type.false) nothing) (after-look _ c.at_type.ensures.same (c.error.ensures.reads c.args.condition))
+types::expect_type-returns-clause-reads t c = reads-here (begun rules.any_type (saw-so (c.at_type.ensures.sees c.args.condition) c.if-at_type.false) nothing) (after-look _ c.at_type.ensures.peeks.same (c.error.ensures.reads c.args.condition))
 
 pub types::ptr_type-complete-requires : goal.types::ptr_type-complete-requires
 types::ptr_type-complete-requires t c = c.expect_type.ensures.reads.does.innermost _ ((c.const_or_mut.ensures.reads true).does.innermost _ ((c.take.ensures.reads true).does.innermost _ c.start-node.ensures.marker))
@@ -141,15 +161,15 @@ pub types::paren_type-returns-clause-reads : goal.types::paren_type-returns-clau
 types::paren_type-returns-clause-reads t c = reads-then _ (c.take.ensures.reads c.args.condition) c.after_paren.ensures.reads
 
 pub types::after_paren-wrap-requires : goal.types::after_paren-wrap-requires
-types::after_paren-wrap-requires t c = (c.take.ensures.reads true).does.innermost _ (c.at.ensures.same.innermost _ c.requires.innermost)
+types::after_paren-wrap-requires t c = (c.take.ensures.reads true).does.innermost _ (c.at.ensures.peeks.same.innermost _ c.requires.innermost)
 
 pub types::after_paren-returns-then-at-clause-reads : goal.types::after_paren-returns-then-at-clause-reads
 unfolding look_of begins_below whole rule items statements expressions patterns types paths there_at shift passes is_silent begins in_mode anew row one_of any_of no_longer longest is_longer
-types::after_paren-returns-then-at-clause-reads t c = reads-here (saw-so (c.at.ensures.sees c.args.condition) c.if-at.true and nothing) (after-look _ c.at.ensures.same (reads-wrap _ (c.take.ensures.reads c.args.condition) c.wrap.ensures.wraps))
+types::after_paren-returns-then-at-clause-reads t c = reads-here (saw-so (c.at.ensures.sees c.args.condition) c.if-at.true and nothing) (after-look _ c.at.ensures.peeks.same (reads-wrap _ (c.take.ensures.reads c.args.condition) c.wrap.ensures.wraps))
 
 pub types::after_paren-returns-clause-reads : goal.types::after_paren-returns-clause-reads
 unfolding look_of begins_below whole rule items statements expressions patterns types paths there_at shift passes is_silent begins in_mode anew row one_of any_of no_longer longest is_longer
-types::after_paren-returns-clause-reads t c = reads-here (saw-so (c.at.ensures.sees c.args.condition) c.if-at.false and nothing) (after-look _ c.at.ensures.same (reads-then _ c.expect_type.ensures.reads (c.tuple_tail.ensures.reads c.args.condition)))
+types::after_paren-returns-clause-reads t c = reads-here (saw-so (c.at.ensures.sees c.args.condition) c.if-at.false and nothing) (after-look _ c.at.ensures.peeks.same (reads-then _ c.expect_type.ensures.reads (c.tuple_tail.ensures.reads c.args.condition)))
 
 pub types::bracket_type-after_element-requires : goal.types::bracket_type-after_element-requires
 types::bracket_type-after_element-requires t c = (omega arith, c.expect_type.ensures.reads.does.innermost _ ((c.take.ensures.reads true).does.innermost _ c.requires.innermost))
@@ -158,18 +178,18 @@ pub types::bracket_type-returns-clause-reads : goal.types::bracket_type-returns-
 types::bracket_type-returns-clause-reads t c = reads-then _ (c.take.ensures.reads c.args.condition) (reads-then _ c.expect_type.ensures.reads (c.after_element.ensures.reads c.args.condition))
 
 pub types::after_element-wrap-requires : goal.types::after_element-wrap-requires
-types::after_element-wrap-requires t c = (c.expect.ensures.reads true).does.innermost _ ((c.array_length.ensures.reads true).does.innermost _ ((c.take.ensures.reads true).does.innermost _ (c.at.ensures.same.innermost _ c.requires.innermost)))
+types::after_element-wrap-requires t c = (c.expect.ensures.reads true).does.innermost _ ((c.array_length.ensures.reads true).does.innermost _ ((c.take.ensures.reads true).does.innermost _ (c.at.ensures.peeks.same.innermost _ c.requires.innermost)))
 
 pub types::after_element-wrap-requires-2 : goal.types::after_element-wrap-requires-2
-types::after_element-wrap-requires-2 t c = (c.expect-2.ensures.reads true).does.innermost _ (c.at.ensures.same.innermost _ c.requires.innermost)
+types::after_element-wrap-requires-2 t c = (c.expect-2.ensures.reads true).does.innermost _ (c.at.ensures.peeks.same.innermost _ c.requires.innermost)
 
 pub types::after_element-returns-then-at-clause-reads : goal.types::after_element-returns-then-at-clause-reads
 unfolding look_of begins_below whole rule items statements expressions patterns types paths there_at shift passes is_silent begins in_mode anew row one_of any_of no_longer longest is_longer
-types::after_element-returns-then-at-clause-reads t c = λ cond. reads-here (saw-so (c.at.ensures.sees cond) c.if-at.true and nothing) (after-look cond c.at.ensures.same (reads-wrap cond (reads-then cond (c.take.ensures.reads cond) (reads-then cond (c.array_length.ensures.reads cond) (c.expect.ensures.reads cond))) c.wrap.ensures.wraps))
+types::after_element-returns-then-at-clause-reads t c = λ cond. reads-here (saw-so (c.at.ensures.sees cond) c.if-at.true and nothing) (after-look cond c.at.ensures.peeks.same (reads-wrap cond (reads-then cond (c.take.ensures.reads cond) (reads-then cond (c.array_length.ensures.reads cond) (c.expect.ensures.reads cond))) c.wrap.ensures.wraps))
 
 pub types::after_element-returns-clause-reads : goal.types::after_element-returns-clause-reads
 unfolding look_of begins_below whole rule items statements expressions patterns types paths there_at shift passes is_silent begins in_mode anew row one_of any_of no_longer longest is_longer
-types::after_element-returns-clause-reads t c = λ cond. reads-here (saw-so (c.at.ensures.sees cond) c.if-at.false and nothing) (after-look cond c.at.ensures.same (reads-wrap cond (c.expect-2.ensures.reads cond) c.wrap-2.ensures.wraps))
+types::after_element-returns-clause-reads t c = λ cond. reads-here (saw-so (c.at.ensures.sees cond) c.if-at.false and nothing) (after-look cond c.at.ensures.peeks.same (reads-wrap cond (c.expect-2.ensures.reads cond) c.wrap-2.ensures.wraps))
 
 pub types::array_length-returns-clause-reads : goal.types::array_length-returns-clause-reads
 types::array_length-returns-clause-reads t c = λ cond. reads-node cond c.start-node.ensures.opens (reads-mode cond c.expect_expression.ensures.reads) c.complete.ensures.closes
@@ -183,8 +203,8 @@ types::ret_type-returns-clause-gives t c = gives-anew (anew-after refl (reads-no
 
 pub types::opt_type_after-returns-then-at-clause-reads : goal.types::opt_type_after-returns-then-at-clause-reads
 unfolding look_of begins_below whole rule items statements expressions patterns types paths there_at shift passes is_silent begins in_mode anew row one_of any_of no_longer longest is_longer
-types::opt_type_after-returns-then-at-clause-reads t c = reads-opt _ (saw-so (c.at.ensures.sees c.args.condition) c.if-at.true) (after-look _ c.at.ensures.same (reads-then _ (c.take.ensures.reads c.args.condition) c.expect_type.ensures.reads))
+types::opt_type_after-returns-then-at-clause-reads t c = reads-opt _ (saw-so (c.at.ensures.sees c.args.condition) c.if-at.true) (after-look _ c.at.ensures.peeks.same (reads-then _ (c.take.ensures.reads c.args.condition) c.expect_type.ensures.reads))
 
 pub types::opt_type_after-returns-else-at-clause-reads : goal.types::opt_type_after-returns-else-at-clause-reads
 unfolding look_of begins_below whole rule items statements expressions patterns types paths there_at shift passes is_silent begins in_mode anew row one_of any_of no_longer longest is_longer
-types::opt_type_after-returns-else-at-clause-reads t c = reads-none _ (saw-so (c.at.ensures.sees c.args.condition) c.if-at.false) c.at.ensures.same
+types::opt_type_after-returns-else-at-clause-reads t c = reads-none _ (saw-so (c.at.ensures.sees c.args.condition) c.if-at.false) c.at.ensures.peeks.same

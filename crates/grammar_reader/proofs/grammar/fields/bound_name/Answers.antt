@@ -25,15 +25,15 @@ use Rattle.grammar_reader.proofs.grammar.fields.bound_name.Goals as goal
 
 pub returns-in-REF_KW-clause-reads : goal.returns-in-REF_KW-clause-reads
 unfolding look_of begins_below whole rule items statements expressions patterns types paths there_at shift passes is_silent begins in_mode anew row one_of any_of no_longer longest is_longer
-returns-in-REF_KW-clause-reads c cond = reads-here (saw-arm c.in-REF_KW.is (c.current.ensures.sees cond) and nothing) (after-look cond c.current.ensures.same (c.name_after_ref.ensures.reads cond))
+returns-in-REF_KW-clause-reads c cond = reads-here (saw-arm c.in-REF_KW.is (c.current.ensures.sees cond) and nothing) (after-look cond c.current.ensures.peeks.same (c.name_after_ref.ensures.reads cond))
 
 pub returns-in-MUT_KW-clause-reads : goal.returns-in-MUT_KW-clause-reads
 unfolding look_of begins_below whole rule items statements expressions patterns types paths there_at shift passes is_silent begins in_mode anew row one_of any_of no_longer longest is_longer
-returns-in-MUT_KW-clause-reads c cond = reads-here (saw-arm c.in-MUT_KW.is (c.current.ensures.sees cond) and nothing) (after-look cond c.current.ensures.same (c.name_after_mut.ensures.reads cond))
+returns-in-MUT_KW-clause-reads c cond = reads-here (saw-arm c.in-MUT_KW.is (c.current.ensures.sees cond) and nothing) (after-look cond c.current.ensures.peeks.same (c.name_after_mut.ensures.reads cond))
 
 pub returns-in_default-clause-reads : goal.returns-in_default-clause-reads
 unfolding look_of begins_below whole rule items statements expressions patterns types paths there_at shift passes is_silent begins in_mode anew row one_of any_of no_longer longest is_longer
 returns-in_default-clause-reads c cond =
     let neither = saw-not c.in_default.not-REF_KW (c.current.ensures.sees cond) and saw-not c.in_default.not-MUT_KW (c.current.ensures.sees cond) and nothing in
     reads-here (saw-not c.in_default.not-REF_KW (c.current.ensures.sees cond) and saw-not c.in_default.not-MUT_KW (c.current.ensures.sees cond) and saw-else (Kind 0 kinds.IDENT) (begins looks (⁅ One 'ref' ⁆ ▸ ⁅ One 'mut' ⁆ ▸ Name !)) neither (c.requires.begins cond) refl and nothing)
-    (after-look cond c.current.ensures.same (reads-call cond (c.name.ensures.gives cond)))
+    (after-look cond c.current.ensures.peeks.same (reads-call cond (c.name.ensures.gives cond)))

@@ -17,8 +17,8 @@ use Rattle.grammar_reader.proofs.grammar.fields.name_or_number.Goals as goal
 
 pub returns-in-IDENT-clause-reads : goal.returns-in-IDENT-clause-reads
 unfolding look_of begins_below whole rule items statements expressions patterns types paths there_at shift passes is_silent begins in_mode anew row one_of any_of no_longer longest is_longer
-returns-in-IDENT-clause-reads c cond = reads-here (saw-arm c.in-IDENT.is (c.current.ensures.sees cond) and nothing) (after-look cond c.current.ensures.same (c.take.ensures.reads cond))
+returns-in-IDENT-clause-reads c cond = reads-here (saw-arm c.in-IDENT.is (c.current.ensures.sees cond) and nothing) (after-look cond c.current.ensures.peeks.same (c.take.ensures.reads cond))
 
 pub returns-in_default-clause-reads : goal.returns-in_default-clause-reads
 unfolding look_of begins_below whole rule items statements expressions patterns types paths there_at shift passes is_silent begins in_mode anew row one_of any_of no_longer longest is_longer
-returns-in_default-clause-reads c cond = reads-here (saw-not c.in_default.not-IDENT (c.current.ensures.sees cond) and nothing) (after-look cond c.current.ensures.same (c.take-in_default.ensures.reads cond))
+returns-in_default-clause-reads c cond = reads-here (saw-not c.in_default.not-IDENT (c.current.ensures.sees cond) and nothing) (after-look cond c.current.ensures.peeks.same (c.take-in_default.ensures.reads cond))

@@ -1,5 +1,5 @@
 -- Each arm asks for its element.
-use Rattle.std.proofs.Common.{◌+◌, ◌≤◌, false, sym, subst, arith}
+use Rattle.std.proofs.Common.{◌+◌, ◌≤◌, false, sym, subst, arith, rules}
 use Rattle.rust_grammar.specs.Expressions.{expressions}
 use Rattle.rust_grammar.specs.Items.{items}
 use Rattle.rust_grammar.specs.Meaning.{begins_below, look_of}
@@ -23,82 +23,130 @@ pub returns-in-ClosureParam-clause-sees : goal.returns-in-ClosureParam-clause-se
 unfolding begins
 returns-in-ClosureParam-clause-sees c = subst (λ (e : Element). Saw false (begins looks (element_of e)) c.args.p.now c.at_single_pattern.result) (sym c.in-ClosureParam.is) (closure-param-begins (c.at_single_pattern.ensures.sees false))
 
-pub returns-in-ClosureParam-clause-looks : goal.returns-in-ClosureParam-clause-looks
-returns-in-ClosureParam-clause-looks c = subst (λ (e : Element). spent c.at_single_pattern.new.p ≤ spent c.args.p.now + looks_before e) (sym c.in-ClosureParam.is) (omega (arith, c.at_single_pattern.ensures.looks))
+pub returns-in-ClosureParam-clause-peeks : goal.returns-in-ClosureParam-clause-peeks
+returns-in-ClosureParam-clause-peeks c = record {
+  same = search rules;
+  left = omega arith;
+  looks = subst (λ (e : Element). spent c.at_single_pattern.new.p ≤ spent c.args.p.now + looks_before e) (sym c.in-ClosureParam.is) (omega (arith, c.at_single_pattern.ensures.peeks.looks));
+}
 
 pub returns-in-Expression-clause-sees : goal.returns-in-Expression-clause-sees
 unfolding begins
 returns-in-Expression-clause-sees c = subst (λ (e : Element). Saw false (begins looks (element_of e)) c.args.p.now c.at_expression.result) (sym c.in-Expression.is) (begins-call rules.expression c.at_expression.ensures.sees)
 
-pub returns-in-Expression-clause-looks : goal.returns-in-Expression-clause-looks
-returns-in-Expression-clause-looks c = subst (λ (e : Element). spent c.at_expression.new.p ≤ spent c.args.p.now + looks_before e) (sym c.in-Expression.is) (omega (arith, c.at_expression.ensures.looks))
+pub returns-in-Expression-clause-peeks : goal.returns-in-Expression-clause-peeks
+returns-in-Expression-clause-peeks c = record {
+  same = search rules;
+  left = omega arith;
+  looks = subst (λ (e : Element). spent c.at_expression.new.p ≤ spent c.args.p.now + looks_before e) (sym c.in-Expression.is) (omega (arith, c.at_expression.ensures.peeks.looks));
+}
 
 pub returns-in-FieldValue-clause-sees : goal.returns-in-FieldValue-clause-sees
 unfolding look_of begins_below whole rule items statements expressions patterns types paths there_at shift passes is_silent begins in_mode anew row one_of any_of no_longer longest is_longer
 returns-in-FieldValue-clause-sees c = subst (λ (e : Element). Saw false (begins looks (element_of e)) c.args.p.now c.at_field_value.result) (sym c.in-FieldValue.is) (c.at_field_value.ensures.sees false)
 
-pub returns-in-FieldValue-clause-looks : goal.returns-in-FieldValue-clause-looks
-returns-in-FieldValue-clause-looks c = subst (λ (e : Element). spent c.at_field_value.new.p ≤ spent c.args.p.now + looks_before e) (sym c.in-FieldValue.is) (omega (arith, c.at_field_value.ensures.looks))
+pub returns-in-FieldValue-clause-peeks : goal.returns-in-FieldValue-clause-peeks
+returns-in-FieldValue-clause-peeks c = record {
+  same = search rules;
+  left = omega arith;
+  looks = subst (λ (e : Element). spent c.at_field_value.new.p ≤ spent c.args.p.now + looks_before e) (sym c.in-FieldValue.is) (omega (arith, c.at_field_value.ensures.peeks.looks));
+}
 
 pub returns-in-GenericArg-clause-sees : goal.returns-in-GenericArg-clause-sees
 unfolding look_of begins_below whole rule items statements expressions patterns types paths there_at shift passes is_silent begins in_mode anew row one_of any_of no_longer longest is_longer
 returns-in-GenericArg-clause-sees c = subst (λ (e : Element). Saw false (begins looks (element_of e)) c.args.p.now c.at_generic_arg.result) (sym c.in-GenericArg.is) (c.at_generic_arg.ensures.sees false)
 
-pub returns-in-GenericArg-clause-looks : goal.returns-in-GenericArg-clause-looks
-returns-in-GenericArg-clause-looks c = subst (λ (e : Element). spent c.at_generic_arg.new.p ≤ spent c.args.p.now + looks_before e) (sym c.in-GenericArg.is) (omega (arith, c.at_generic_arg.ensures.looks))
+pub returns-in-GenericArg-clause-peeks : goal.returns-in-GenericArg-clause-peeks
+returns-in-GenericArg-clause-peeks c = record {
+  same = search rules;
+  left = omega arith;
+  looks = subst (λ (e : Element). spent c.at_generic_arg.new.p ≤ spent c.args.p.now + looks_before e) (sym c.in-GenericArg.is) (omega (arith, c.at_generic_arg.ensures.peeks.looks));
+}
 
 pub returns-in-GenericParam-clause-sees : goal.returns-in-GenericParam-clause-sees
 unfolding look_of begins_below whole rule items statements expressions patterns types paths there_at shift passes is_silent begins in_mode anew row one_of any_of no_longer longest is_longer
 returns-in-GenericParam-clause-sees c = subst (λ (e : Element). Saw false (begins looks (element_of e)) c.args.p.now c.at_generic_param.result) (sym c.in-GenericParam.is) (c.at_generic_param.ensures.sees false)
 
-pub returns-in-GenericParam-clause-looks : goal.returns-in-GenericParam-clause-looks
-returns-in-GenericParam-clause-looks c = subst (λ (e : Element). spent c.at_generic_param.new.p ≤ spent c.args.p.now + looks_before e) (sym c.in-GenericParam.is) (omega (arith, c.at_generic_param.ensures.looks))
+pub returns-in-GenericParam-clause-peeks : goal.returns-in-GenericParam-clause-peeks
+returns-in-GenericParam-clause-peeks c = record {
+  same = search rules;
+  left = omega arith;
+  looks = subst (λ (e : Element). spent c.at_generic_param.new.p ≤ spent c.args.p.now + looks_before e) (sym c.in-GenericParam.is) (omega (arith, c.at_generic_param.ensures.peeks.looks));
+}
 
 pub returns-in-Param-clause-sees : goal.returns-in-Param-clause-sees
 unfolding look_of begins_below whole rule items statements expressions patterns types paths there_at shift passes is_silent begins in_mode anew row one_of any_of no_longer longest is_longer
 returns-in-Param-clause-sees c = subst (λ (e : Element). Saw false (begins looks (element_of e)) c.args.p.now c.at_param.result) (sym c.in-Param.is) (c.at_param.ensures.sees false)
 
-pub returns-in-Param-clause-looks : goal.returns-in-Param-clause-looks
-returns-in-Param-clause-looks c = subst (λ (e : Element). spent c.at_param.new.p ≤ spent c.args.p.now + looks_before e) (sym c.in-Param.is) (omega (arith, c.at_param.ensures.looks))
+pub returns-in-Param-clause-peeks : goal.returns-in-Param-clause-peeks
+returns-in-Param-clause-peeks c = record {
+  same = search rules;
+  left = omega arith;
+  looks = subst (λ (e : Element). spent c.at_param.new.p ≤ spent c.args.p.now + looks_before e) (sym c.in-Param.is) (omega (arith, c.at_param.ensures.peeks.looks));
+}
 
 pub returns-in-Pattern-clause-sees : goal.returns-in-Pattern-clause-sees
 unfolding look_of begins_below whole rule items statements expressions patterns types paths there_at shift passes is_silent begins in_mode anew row one_of any_of no_longer longest is_longer
 returns-in-Pattern-clause-sees c = subst (λ (e : Element). Saw false (begins looks (element_of e)) c.args.p.now c.at_pattern.result) (sym c.in-Pattern.is) (c.at_pattern.ensures.sees false)
 
-pub returns-in-Pattern-clause-looks : goal.returns-in-Pattern-clause-looks
-returns-in-Pattern-clause-looks c = subst (λ (e : Element). spent c.at_pattern.new.p ≤ spent c.args.p.now + looks_before e) (sym c.in-Pattern.is) (omega (arith, c.at_pattern.ensures.looks))
+pub returns-in-Pattern-clause-peeks : goal.returns-in-Pattern-clause-peeks
+returns-in-Pattern-clause-peeks c = record {
+  same = search rules;
+  left = omega arith;
+  looks = subst (λ (e : Element). spent c.at_pattern.new.p ≤ spent c.args.p.now + looks_before e) (sym c.in-Pattern.is) (omega (arith, c.at_pattern.ensures.peeks.looks));
+}
 
 pub returns-in-PatternField-clause-sees : goal.returns-in-PatternField-clause-sees
 unfolding look_of begins_below whole rule items statements expressions patterns types paths there_at shift passes is_silent begins in_mode anew row one_of any_of no_longer longest is_longer
 returns-in-PatternField-clause-sees c = subst (λ (e : Element). Saw false (begins looks (element_of e)) c.args.p.now c.at_pattern_field.result) (sym c.in-PatternField.is) (c.at_pattern_field.ensures.sees false)
 
-pub returns-in-PatternField-clause-looks : goal.returns-in-PatternField-clause-looks
-returns-in-PatternField-clause-looks c = subst (λ (e : Element). spent c.at_pattern_field.new.p ≤ spent c.args.p.now + looks_before e) (sym c.in-PatternField.is) (omega (arith, c.at_pattern_field.ensures.looks))
+pub returns-in-PatternField-clause-peeks : goal.returns-in-PatternField-clause-peeks
+returns-in-PatternField-clause-peeks c = record {
+  same = search rules;
+  left = omega arith;
+  looks = subst (λ (e : Element). spent c.at_pattern_field.new.p ≤ spent c.args.p.now + looks_before e) (sym c.in-PatternField.is) (omega (arith, c.at_pattern_field.ensures.peeks.looks));
+}
 
 pub returns-in-Type-clause-sees : goal.returns-in-Type-clause-sees
 unfolding look_of begins_below whole rule items statements expressions patterns types paths there_at shift passes is_silent begins in_mode anew row one_of any_of no_longer longest is_longer
 returns-in-Type-clause-sees c = subst (λ (e : Element). Saw false (begins looks (element_of e)) c.args.p.now c.at_type.result) (sym c.in-Type.is) (c.at_type.ensures.sees false)
 
-pub returns-in-Type-clause-looks : goal.returns-in-Type-clause-looks
-returns-in-Type-clause-looks c = subst (λ (e : Element). spent c.at_type.new.p ≤ spent c.args.p.now + looks_before e) (sym c.in-Type.is) (omega (arith, c.at_type.ensures.looks))
+pub returns-in-Type-clause-peeks : goal.returns-in-Type-clause-peeks
+returns-in-Type-clause-peeks c = record {
+  same = search rules;
+  left = omega arith;
+  looks = subst (λ (e : Element). spent c.at_type.new.p ≤ spent c.args.p.now + looks_before e) (sym c.in-Type.is) (omega (arith, c.at_type.ensures.peeks.looks));
+}
 
 pub returns-in-RecordField-clause-sees : goal.returns-in-RecordField-clause-sees
 unfolding look_of begins_below whole rule items statements expressions patterns types paths there_at shift passes is_silent begins in_mode anew row one_of any_of no_longer longest is_longer
 returns-in-RecordField-clause-sees c = subst (λ (e : Element). Saw false (begins looks (element_of e)) c.args.p.now c.at_named_member.result) (sym c.in-RecordField.is) (c.at_named_member.ensures.sees false)
 
-pub returns-in-RecordField-clause-looks : goal.returns-in-RecordField-clause-looks
-returns-in-RecordField-clause-looks c = subst (λ (e : Element). spent c.at_named_member.new.p ≤ spent c.args.p.now + looks_before e) (sym c.in-RecordField.is) (omega (arith, c.at_named_member.ensures.looks))
+pub returns-in-RecordField-clause-peeks : goal.returns-in-RecordField-clause-peeks
+returns-in-RecordField-clause-peeks c = record {
+  same = search rules;
+  left = omega arith;
+  looks = subst (λ (e : Element). spent c.at_named_member.new.p ≤ spent c.args.p.now + looks_before e) (sym c.in-RecordField.is) (omega (arith, c.at_named_member.ensures.peeks.looks));
+}
 
 pub returns-in-TupleField-clause-sees : goal.returns-in-TupleField-clause-sees
 unfolding look_of begins_below whole rule items statements expressions patterns types paths there_at shift passes is_silent begins in_mode anew row one_of any_of no_longer longest is_longer
 returns-in-TupleField-clause-sees c = subst (λ (e : Element). Saw false (begins looks (element_of e)) c.args.p.now c.at_tuple_field.result) (sym c.in-TupleField.is) (c.at_tuple_field.ensures.sees false)
 
-pub returns-in-TupleField-clause-looks : goal.returns-in-TupleField-clause-looks
-returns-in-TupleField-clause-looks c = subst (λ (e : Element). spent c.at_tuple_field.new.p ≤ spent c.args.p.now + looks_before e) (sym c.in-TupleField.is) (omega (arith, c.at_tuple_field.ensures.looks))
+pub returns-in-TupleField-clause-peeks : goal.returns-in-TupleField-clause-peeks
+returns-in-TupleField-clause-peeks c = record {
+  same = search rules;
+  left = omega arith;
+  looks = subst (λ (e : Element). spent c.at_tuple_field.new.p ≤ spent c.args.p.now + looks_before e) (sym c.in-TupleField.is) (omega (arith, c.at_tuple_field.ensures.peeks.looks));
+}
 
 pub returns-in-Variant-clause-sees : goal.returns-in-Variant-clause-sees
 unfolding look_of begins_below whole rule items statements expressions patterns types paths there_at shift passes is_silent begins in_mode anew row one_of any_of no_longer longest is_longer
 returns-in-Variant-clause-sees c = subst (λ (e : Element). Saw false (begins looks (element_of e)) c.args.p.now c.at_named_member-in-Variant.result) (sym c.in-Variant.is) (c.at_named_member-in-Variant.ensures.sees false)
 
-pub returns-in-Variant-clause-looks : goal.returns-in-Variant-clause-looks
-returns-in-Variant-clause-looks c = subst (λ (e : Element). spent c.at_named_member-in-Variant.new.p ≤ spent c.args.p.now + looks_before e) (sym c.in-Variant.is) (omega (arith, c.at_named_member-in-Variant.ensures.looks))
+pub returns-in-Variant-clause-peeks : goal.returns-in-Variant-clause-peeks
+returns-in-Variant-clause-peeks c = record {
+  same = search rules;
+  left = omega arith;
+  looks = subst (λ (e : Element). spent c.at_named_member-in-Variant.new.p ≤ spent c.args.p.now + looks_before e) (sym c.in-Variant.is) (omega (arith, c.at_named_member-in-Variant.ensures.peeks.looks));
+}

@@ -1,10 +1,10 @@
 -- Each path sees what the look asks.
 use Rattle.rust_grammar.specs.Notation.{one_of, row}
 use Rattle.rust_grammar.specs.Rule.{there_at}
-use Rattle.rust_productions.proofs.ByHand.{does-then}
 use Rattle.rust_productions.proofs.Facts.{saw-so}
 use Rattle.rust_productions.proofs.Seen.{saw-always, saw-before, saw-no-left}
 use Rattle.grammar_reader.proofs.Elements.{saw-both, saw-denied, saw-never}
+use Rattle.rust_productions.proofs.Peeking.{peeks-then}
 use Rattle.grammar_reader.proofs.grammar.paths.at_angle.Goals as goal
 
 pub returns-then-not-at-clause-sees : goal.returns-then-not-at-clause-sees
@@ -14,7 +14,7 @@ returns-then-not-at-clause-sees c cond = saw-no-left (saw-always (saw-so (c.at.e
 pub returns-clause-sees : goal.returns-clause-sees
 unfolding row one_of there_at
 returns-clause-sees c cond =
-    saw-both (saw-always (saw-so (c.at.ensures.sees cond) c.if-not-at.false)) (saw-denied (saw-never (saw-always (saw-before c.at.ensures.same (c.at_second.ensures.sees cond)))))
+    saw-both (saw-always (saw-so (c.at.ensures.sees cond) c.if-not-at.false)) (saw-denied (saw-never (saw-always (saw-before c.at.ensures.peeks.same (c.at_second.ensures.sees cond)))))
 
-pub returns-clause-same : goal.returns-clause-same
-returns-clause-same c = does-then c.at.ensures.same c.at_second.ensures.same
+pub returns-clause-peeks : goal.returns-clause-peeks
+returns-clause-peeks c = peeks-then c.at.ensures.peeks c.at_second.ensures.peeks

@@ -9,9 +9,9 @@ use Rattle.rust_grammar.specs.Rule.{begins, in_mode, anew, is_silent, passes, sh
 use Rattle.rust_grammar.specs.Statements.{statements}
 use Rattle.rust_grammar.specs.Types.{types}
 use Rattle.rust_grammar.specs.Whole.{rule, whole}
-use Rattle.rust_productions.proofs.ByHand.{does-then}
 use Rattle.rust_productions.proofs.Facts.{saw-so}
 use Rattle.rust_productions.proofs.Seen.{saw-always, saw-before, saw-either-left, saw-either-right}
+use Rattle.rust_productions.proofs.Peeking.{peeks-then}
 use Rattle.grammar_reader.proofs.grammar.paths.at_generic_args.Goals as goal
 
 pub returns-then-at_colons_before_args-clause-sees : goal.returns-then-at_colons_before_args-clause-sees
@@ -20,7 +20,7 @@ returns-then-at_colons_before_args-clause-sees c cond = saw-either-left (saw-so 
 
 pub returns-clause-sees : goal.returns-clause-sees
 unfolding look_of begins_below whole rule items statements expressions patterns types paths there_at shift passes is_silent begins in_mode anew row one_of any_of no_longer longest is_longer
-returns-clause-sees c cond = saw-either-right (saw-so (c.at_colons_before_args.ensures.sees cond) c.if-at_colons_before_args.false) (saw-always (saw-before c.at_colons_before_args.ensures.same (c.at.ensures.sees cond)))
+returns-clause-sees c cond = saw-either-right (saw-so (c.at_colons_before_args.ensures.sees cond) c.if-at_colons_before_args.false) (saw-always (saw-before c.at_colons_before_args.ensures.peeks.same (c.at.ensures.sees cond)))
 
-pub returns-clause-same : goal.returns-clause-same
-returns-clause-same c = does-then c.at_colons_before_args.ensures.same c.at.ensures.same
+pub returns-clause-peeks : goal.returns-clause-peeks
+returns-clause-peeks c = peeks-then c.at_colons_before_args.ensures.peeks c.at.ensures.peeks

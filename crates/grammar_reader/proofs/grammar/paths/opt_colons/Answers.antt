@@ -24,10 +24,10 @@ pub returns-then-at_colons_before_args-clause-reads : goal.returns-then-at_colon
 unfolding look_of begins_below whole rule items statements expressions patterns types paths there_at shift passes is_silent begins in_mode anew row one_of any_of no_longer longest is_longer
 returns-then-at_colons_before_args-clause-reads c cond =
     reads-here (saw-left (saw-so (c.at_colons_before_args.ensures.sees cond) c.if-at_colons_before_args.true) and nothing)
-    (after-look cond c.at_colons_before_args.ensures.same (c.take_pair.ensures.reads cond _ _))
+    (after-look cond c.at_colons_before_args.ensures.peeks.same (c.take_pair.ensures.reads cond _ _))
 
 pub returns-else-at_colons_before_args-clause-reads : goal.returns-else-at_colons_before_args-clause-reads
 unfolding look_of begins_below whole rule items statements expressions patterns types paths there_at shift passes is_silent begins in_mode anew row one_of any_of no_longer longest is_longer
 returns-else-at_colons_before_args-clause-reads c cond =
-    reads-here (saw-else (Kind 0 kinds.L_ANGLE) (looks rules.generic_args) (saw-so (c.at_colons_before_args.ensures.sees cond) c.if-at_colons_before_args.false and nothing) (c.requires.begins cond) refl and nothing)
-    (reads-nothing cond c.at_colons_before_args.ensures.same)
+    reads-here (saw-else (Kind 0 kinds.L_ANGLE) (looks rules.generic_args) (saw-so (c.at_colons_before_args.ensures.sees cond) c.if-at_colons_before_args.false and nothing) (c.requires.begins.sees cond) refl and nothing)
+    (reads-nothing cond c.at_colons_before_args.ensures.peeks.same)

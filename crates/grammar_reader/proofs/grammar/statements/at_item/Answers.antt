@@ -2,11 +2,11 @@
 use Rattle.std.proofs.Common.{inl, inr, refl}
 use Rattle.rust_grammar.specs.Notation.{any_of, one_of, row}
 use Rattle.rust_grammar.specs.Rule.{there_at}
-use Rattle.rust_productions.proofs.ByHand.{does-then}
 use Rattle.rust_productions.proofs.Facts.{nothing, ◌and◌}
 use Rattle.rust_productions.proofs.Looking.{saw-arm, saw-not}
 use Rattle.rust_productions.proofs.Seen.{saw-always, saw-before, saw-either-right, saw-told}
 use Rattle.grammar_reader.proofs.Elements.{saw-both, saw-never}
+use Rattle.rust_productions.proofs.Peeking.{peeks-then}
 use Rattle.grammar_reader.proofs.grammar.statements.at_item.Goals as goal
 
 pub returns-in-POUND-clause-sees : goal.returns-in-POUND-clause-sees
@@ -17,10 +17,10 @@ pub returns-in-UNSAFE_KW-clause-sees : goal.returns-in-UNSAFE_KW-clause-sees
 unfolding any_of one_of row there_at
 returns-in-UNSAFE_KW-clause-sees c cond =
     let first = saw-arm c.in-UNSAFE_KW.is (c.current.ensures.sees cond) in
-    saw-either-right (saw-told (first and nothing) refl) (saw-never (saw-both (saw-always first) (saw-before c.current.ensures.same (c.at_item_after_unsafe.ensures.sees cond))))
+    saw-either-right (saw-told (first and nothing) refl) (saw-never (saw-both (saw-always first) (saw-before c.current.ensures.peeks.same (c.at_item_after_unsafe.ensures.sees cond))))
 
-pub returns-in-UNSAFE_KW-clause-same : goal.returns-in-UNSAFE_KW-clause-same
-returns-in-UNSAFE_KW-clause-same c = does-then c.current.ensures.same c.at_item_after_unsafe.ensures.same
+pub returns-in-UNSAFE_KW-clause-peeks : goal.returns-in-UNSAFE_KW-clause-peeks
+returns-in-UNSAFE_KW-clause-peeks c = peeks-then c.current.ensures.peeks c.at_item_after_unsafe.ensures.peeks
 
 pub returns-in_default-clause-sees : goal.returns-in_default-clause-sees
 unfolding any_of one_of row there_at

@@ -1,5 +1,5 @@
 -- What stands after an expression, path by path.
-use Rattle.std.proofs.Common.{true}
+use Rattle.std.proofs.Common.{true, arith}
 use Rattle.rust_grammar.specs.Expressions.{expressions}
 use Rattle.rust_grammar.specs.Items.{items}
 use Rattle.rust_grammar.specs.Meaning.{begins_below, look_of}
@@ -18,22 +18,26 @@ use Rattle.grammar_reader.proofs.Ends.{reads-end}
 use Rattle.grammar_reader.proofs.grammar.statements.statement_end.Goals as goal
 
 pub wrap-requires : goal.wrap-requires
-wrap-requires c = (c.take.ensures.reads true).does.innermost _ (c.at.ensures.same.innermost _ c.requires)
+wrap-requires c = (c.take.ensures.reads true).does.innermost _ (c.at.ensures.peeks.same.innermost _ c.requires)
 
 pub returns-then-at-clause-reads : goal.returns-then-at-clause-reads
 unfolding look_of begins_below whole rule items statements expressions patterns types paths there_at shift passes is_silent begins in_mode anew row one_of any_of no_longer longest is_longer
-returns-then-at-clause-reads c = λ cond. reads-end c.args.end (reads-here (saw-so (c.at.ensures.sees cond) c.if-at.true and nothing) (after-look cond c.at.ensures.same (reads-wrap cond (c.take.ensures.reads cond) c.wrap.ensures.wraps)))
+returns-then-at-clause-reads c = λ cond. reads-end c.args.end (reads-here (saw-so (c.at.ensures.sees cond) c.if-at.true and nothing) (after-look cond c.at.ensures.peeks.same (reads-wrap cond (c.take.ensures.reads cond) c.wrap.ensures.wraps)))
 
 pub returns-then-at_end_of-clause-reads : goal.returns-then-at_end_of-clause-reads
 unfolding look_of begins_below whole rule items statements expressions patterns types paths there_at shift passes is_silent begins in_mode anew row one_of any_of no_longer longest is_longer
-returns-then-at_end_of-clause-reads c = λ cond. reads-end c.args.end (reads-else cond (saw-so (c.at.ensures.sees cond) c.if-at.false) (after-look cond c.at.ensures.same (reads-or cond (saw-so (c.at_end_of.ensures.sees cond) c.if-at_end_of.true) (reads-when cond (reads-nothing cond c.at_end_of.ensures.same)))))
+returns-then-at_end_of-clause-reads c = λ cond. reads-end c.args.end (reads-else cond (saw-so (c.at.ensures.sees cond) c.if-at.false) (after-look cond c.at.ensures.peeks.same (reads-or cond (saw-so (c.at_end_of.ensures.sees cond) c.if-at_end_of.true) (reads-when cond (reads-nothing cond c.at_end_of.ensures.peeks.same)))))
 
-pub returns-then-at_end_of-clause-marker : goal.returns-then-at_end_of-clause-marker
-returns-then-at_end_of-clause-marker c = c.at_end_of.ensures.same.innermost _ (c.at.ensures.same.innermost _ c.requires)
+pub returns-then-at_end_of-clause-asks : goal.returns-then-at_end_of-clause-asks
+returns-then-at_end_of-clause-asks c = record {
+  left = omega arith;
+  looks = omega arith;
+  marker = c.at_end_of.ensures.peeks.same.innermost _ (c.at.ensures.peeks.same.innermost _ c.requires);
+}
 
 pub wrap-requires-2 : goal.wrap-requires-2
-wrap-requires-2 c = (c.error.ensures.reads true).does.innermost _ (c.at_end_of.ensures.same.innermost _ (c.at.ensures.same.innermost _ c.requires))
+wrap-requires-2 c = (c.error.ensures.reads true).does.innermost _ (c.at_end_of.ensures.peeks.same.innermost _ (c.at.ensures.peeks.same.innermost _ c.requires))
 
 pub returns-clause-reads : goal.returns-clause-reads
 unfolding look_of begins_below whole rule items statements expressions patterns types paths there_at shift passes is_silent begins in_mode anew row one_of any_of no_longer longest is_longer
-returns-clause-reads c = λ cond. let none = saw-so (c.at.ensures.sees cond) c.if-at.false in reads-end c.args.end (reads-else cond none (reads-else cond (saw-before c.at.ensures.same (saw-so (c.at_end_of.ensures.sees cond) c.if-at_end_of.false)) (reads-here (none and nothing) (after-look cond c.at.ensures.same (after-look cond c.at_end_of.ensures.same (reads-wrap cond (c.error.ensures.reads cond) c.wrap-2.ensures.wraps))))))
+returns-clause-reads c = λ cond. let none = saw-so (c.at.ensures.sees cond) c.if-at.false in reads-end c.args.end (reads-else cond none (reads-else cond (saw-before c.at.ensures.peeks.same (saw-so (c.at_end_of.ensures.sees cond) c.if-at_end_of.false)) (reads-here (none and nothing) (after-look cond c.at.ensures.peeks.same (after-look cond c.at_end_of.ensures.peeks.same (reads-wrap cond (c.error.ensures.reads cond) c.wrap-2.ensures.wraps))))))

@@ -1,5 +1,5 @@
 -- Each path reads what the rule comes to there.
-use Rattle.std.proofs.Common.{refl}
+use Rattle.std.proofs.Common.{refl, arith}
 use Rattle.rust_grammar.specs.Expressions.{expressions}
 use Rattle.rust_grammar.specs.Items.{items}
 use Rattle.rust_grammar.specs.Meaning.{begins_below, look_of}
@@ -10,9 +10,9 @@ use Rattle.rust_grammar.specs.Rule.{begins, in_mode, anew, is_silent, passes, sh
 use Rattle.rust_grammar.specs.Statements.{statements}
 use Rattle.rust_grammar.specs.Types.{types}
 use Rattle.rust_grammar.specs.Whole.{rule, whole}
-use Rattle.rust_productions.proofs.ByHand.{does-then}
 use Rattle.rust_productions.proofs.Facts.{nothing, saw-so, ◌and◌}
 use Rattle.rust_productions.proofs.Seen.{saw-before, saw-told}
+use Rattle.rust_productions.proofs.Peeking.{peeks-then, peeks-within}
 use Rattle.rust_productions.proofs.grammar.expressions.at_macro_block.Goals as goal
 
 pub returns-then-not-at-clause-sees : goal.returns-then-not-at-clause-sees
@@ -21,21 +21,21 @@ returns-then-not-at-clause-sees c cond = saw-told (saw-so (c.at.ensures.sees con
 
 pub returns-then-not-at_second-clause-sees : goal.returns-then-not-at_second-clause-sees
 unfolding look_of begins_below whole rule items statements expressions patterns types paths there_at shift passes is_silent begins in_mode anew row one_of any_of no_longer longest is_longer
-returns-then-not-at_second-clause-sees c cond = saw-told (saw-so (c.at.ensures.sees cond) c.if-not-at.false and saw-before c.at.ensures.same (saw-so (c.at_second.ensures.sees cond) c.if-not-at_second.true) and nothing) refl
+returns-then-not-at_second-clause-sees c cond = saw-told (saw-so (c.at.ensures.sees cond) c.if-not-at.false and saw-before c.at.ensures.peeks.same (saw-so (c.at_second.ensures.sees cond) c.if-not-at_second.true) and nothing) refl
 
-pub returns-then-not-at_second-clause-same : goal.returns-then-not-at_second-clause-same
-returns-then-not-at_second-clause-same c = does-then c.at.ensures.same (c.at_second.ensures.same)
+pub returns-then-not-at_second-clause-peeks : goal.returns-then-not-at_second-clause-peeks
+returns-then-not-at_second-clause-peeks c = peeks-within (peeks-then c.at.ensures.peeks c.at_second.ensures.peeks) (omega arith)
 
 pub returns-then-not-at_third-clause-sees : goal.returns-then-not-at_third-clause-sees
 unfolding look_of begins_below whole rule items statements expressions patterns types paths there_at shift passes is_silent begins in_mode anew row one_of any_of no_longer longest is_longer
-returns-then-not-at_third-clause-sees c cond = saw-told (saw-so (c.at.ensures.sees cond) c.if-not-at.false and saw-before c.at.ensures.same (saw-so (c.at_second.ensures.sees cond) c.if-not-at_second.false) and saw-before c.at.ensures.same (saw-before c.at_second.ensures.same (saw-so (c.at_third.ensures.sees cond) c.if-not-at_third.true)) and nothing) refl
+returns-then-not-at_third-clause-sees c cond = saw-told (saw-so (c.at.ensures.sees cond) c.if-not-at.false and saw-before c.at.ensures.peeks.same (saw-so (c.at_second.ensures.sees cond) c.if-not-at_second.false) and saw-before c.at.ensures.peeks.same (saw-before c.at_second.ensures.peeks.same (saw-so (c.at_third.ensures.sees cond) c.if-not-at_third.true)) and nothing) refl
 
-pub returns-then-not-at_third-clause-same : goal.returns-then-not-at_third-clause-same
-returns-then-not-at_third-clause-same c = does-then c.at.ensures.same (does-then c.at_second.ensures.same (c.at_third.ensures.same))
+pub returns-then-not-at_third-clause-peeks : goal.returns-then-not-at_third-clause-peeks
+returns-then-not-at_third-clause-peeks c = peeks-then c.at.ensures.peeks (peeks-then c.at_second.ensures.peeks c.at_third.ensures.peeks)
 
 pub returns-clause-sees : goal.returns-clause-sees
 unfolding look_of begins_below whole rule items statements expressions patterns types paths there_at shift passes is_silent begins in_mode anew row one_of any_of no_longer longest is_longer
-returns-clause-sees c cond = saw-told (saw-so (c.at.ensures.sees cond) c.if-not-at.false and saw-before c.at.ensures.same (saw-so (c.at_second.ensures.sees cond) c.if-not-at_second.false) and saw-before c.at.ensures.same (saw-before c.at_second.ensures.same (saw-so (c.at_third.ensures.sees cond) c.if-not-at_third.false)) and nothing) refl
+returns-clause-sees c cond = saw-told (saw-so (c.at.ensures.sees cond) c.if-not-at.false and saw-before c.at.ensures.peeks.same (saw-so (c.at_second.ensures.sees cond) c.if-not-at_second.false) and saw-before c.at.ensures.peeks.same (saw-before c.at_second.ensures.peeks.same (saw-so (c.at_third.ensures.sees cond) c.if-not-at_third.false)) and nothing) refl
 
-pub returns-clause-same : goal.returns-clause-same
-returns-clause-same c = does-then c.at.ensures.same (does-then c.at_second.ensures.same (c.at_third.ensures.same))
+pub returns-clause-peeks : goal.returns-clause-peeks
+returns-clause-peeks c = peeks-then c.at.ensures.peeks (peeks-then c.at_second.ensures.peeks c.at_third.ensures.peeks)

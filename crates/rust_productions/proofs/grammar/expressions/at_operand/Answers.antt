@@ -11,10 +11,10 @@ use Rattle.rust_grammar.specs.Statements.{statements}
 use Rattle.rust_grammar.specs.Types.{types}
 use Rattle.rust_grammar.specs.Whole.{rule, whole}
 use Rattle.rust_grammar.specs.Rule as rules
-use Rattle.rust_productions.proofs.ByHand.{does-then}
 use Rattle.rust_productions.proofs.Facts.{begun, nothing, saw-so, ◌and◌}
 use Rattle.rust_productions.proofs.Looking.{left-arm, saw-arm, saw-not}
 use Rattle.rust_productions.proofs.Seen.{begins-row, saw-before}
+use Rattle.rust_productions.proofs.Peeking.{peeks-then}
 use Rattle.rust_productions.proofs.grammar.expressions.at_operand.Goals as goal
 
 pub returns-then-at_atom-clause-sees : goal.returns-then-at_atom-clause-sees
@@ -23,14 +23,14 @@ returns-then-at_atom-clause-sees c = begins-row rules.prefixed (begun rules.atom
 
 pub returns-in-MINUS-clause-sees : goal.returns-in-MINUS-clause-sees
 unfolding look_of begins_below whole rule items statements expressions patterns types paths there_at shift passes is_silent begins in_mode anew row one_of any_of no_longer longest is_longer
-returns-in-MINUS-clause-sees c = elim c.in-MINUS.is [ inl a0 ↦ begins-row rules.prefixed (begun rules.atom (saw-so c.at_atom.ensures.sees c.if-at_atom.false) (saw-before c.at_atom.ensures.same (left-arm a0 (c.current.ensures.end c.args.condition)) and saw-before c.at_atom.ensures.same (saw-arm a0 (c.current.ensures.sees c.args.condition)) and nothing)) refl | inr b0 ↦ elim b0 [ inl a1 ↦ begins-row rules.prefixed (begun rules.atom (saw-so c.at_atom.ensures.sees c.if-at_atom.false) (saw-before c.at_atom.ensures.same (left-arm a1 (c.current.ensures.end c.args.condition)) and saw-before c.at_atom.ensures.same (saw-arm a1 (c.current.ensures.sees c.args.condition)) and nothing)) refl | inr b1 ↦ elim b1 [ inl a2 ↦ begins-row rules.prefixed (begun rules.atom (saw-so c.at_atom.ensures.sees c.if-at_atom.false) (saw-before c.at_atom.ensures.same (left-arm a2 (c.current.ensures.end c.args.condition)) and saw-before c.at_atom.ensures.same (saw-arm a2 (c.current.ensures.sees c.args.condition)) and nothing)) refl | inr b2 ↦ begins-row rules.prefixed (begun rules.atom (saw-so c.at_atom.ensures.sees c.if-at_atom.false) (saw-before c.at_atom.ensures.same (left-arm b2 (c.current.ensures.end c.args.condition)) and saw-before c.at_atom.ensures.same (saw-arm b2 (c.current.ensures.sees c.args.condition)) and nothing)) refl ] ] ]
+returns-in-MINUS-clause-sees c = elim c.in-MINUS.is [ inl a0 ↦ begins-row rules.prefixed (begun rules.atom (saw-so c.at_atom.ensures.sees c.if-at_atom.false) (saw-before c.at_atom.ensures.peeks.same (left-arm a0 (c.current.ensures.end c.args.condition)) and saw-before c.at_atom.ensures.peeks.same (saw-arm a0 (c.current.ensures.sees c.args.condition)) and nothing)) refl | inr b0 ↦ elim b0 [ inl a1 ↦ begins-row rules.prefixed (begun rules.atom (saw-so c.at_atom.ensures.sees c.if-at_atom.false) (saw-before c.at_atom.ensures.peeks.same (left-arm a1 (c.current.ensures.end c.args.condition)) and saw-before c.at_atom.ensures.peeks.same (saw-arm a1 (c.current.ensures.sees c.args.condition)) and nothing)) refl | inr b1 ↦ elim b1 [ inl a2 ↦ begins-row rules.prefixed (begun rules.atom (saw-so c.at_atom.ensures.sees c.if-at_atom.false) (saw-before c.at_atom.ensures.peeks.same (left-arm a2 (c.current.ensures.end c.args.condition)) and saw-before c.at_atom.ensures.peeks.same (saw-arm a2 (c.current.ensures.sees c.args.condition)) and nothing)) refl | inr b2 ↦ begins-row rules.prefixed (begun rules.atom (saw-so c.at_atom.ensures.sees c.if-at_atom.false) (saw-before c.at_atom.ensures.peeks.same (left-arm b2 (c.current.ensures.end c.args.condition)) and saw-before c.at_atom.ensures.peeks.same (saw-arm b2 (c.current.ensures.sees c.args.condition)) and nothing)) refl ] ] ]
 
-pub returns-in-MINUS-clause-same : goal.returns-in-MINUS-clause-same
-returns-in-MINUS-clause-same c = does-then c.at_atom.ensures.same (c.current.ensures.same)
+pub returns-in-MINUS-clause-peeks : goal.returns-in-MINUS-clause-peeks
+returns-in-MINUS-clause-peeks c = peeks-then c.at_atom.ensures.peeks c.current.ensures.peeks
 
 pub returns-in_default-clause-sees : goal.returns-in_default-clause-sees
 unfolding look_of begins_below whole rule items statements expressions patterns types paths there_at shift passes is_silent begins in_mode anew row one_of any_of no_longer longest is_longer
-returns-in_default-clause-sees c = begins-row rules.prefixed (begun rules.atom (saw-so c.at_atom.ensures.sees c.if-at_atom.false) (saw-before c.at_atom.ensures.same (saw-not c.in_default.not-MINUS (c.current.ensures.sees c.args.condition)) and saw-before c.at_atom.ensures.same (saw-not c.in_default.not-BANG (c.current.ensures.sees c.args.condition)) and saw-before c.at_atom.ensures.same (saw-not c.in_default.not-STAR (c.current.ensures.sees c.args.condition)) and saw-before c.at_atom.ensures.same (saw-not c.in_default.not-AMP (c.current.ensures.sees c.args.condition)) and nothing)) refl
+returns-in_default-clause-sees c = begins-row rules.prefixed (begun rules.atom (saw-so c.at_atom.ensures.sees c.if-at_atom.false) (saw-before c.at_atom.ensures.peeks.same (saw-not c.in_default.not-MINUS (c.current.ensures.sees c.args.condition)) and saw-before c.at_atom.ensures.peeks.same (saw-not c.in_default.not-BANG (c.current.ensures.sees c.args.condition)) and saw-before c.at_atom.ensures.peeks.same (saw-not c.in_default.not-STAR (c.current.ensures.sees c.args.condition)) and saw-before c.at_atom.ensures.peeks.same (saw-not c.in_default.not-AMP (c.current.ensures.sees c.args.condition)) and nothing)) refl
 
-pub returns-in_default-clause-same : goal.returns-in_default-clause-same
-returns-in_default-clause-same c = does-then c.at_atom.ensures.same (c.current.ensures.same)
+pub returns-in_default-clause-peeks : goal.returns-in_default-clause-peeks
+returns-in_default-clause-peeks c = peeks-then c.at_atom.ensures.peeks c.current.ensures.peeks

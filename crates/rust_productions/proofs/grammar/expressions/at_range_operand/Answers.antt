@@ -12,10 +12,10 @@ use Rattle.rust_grammar.specs.Rule.{Unless, begins, in_mode, anew, is_silent, pa
 use Rattle.rust_grammar.specs.Statements.{statements}
 use Rattle.rust_grammar.specs.Types.{types}
 use Rattle.rust_grammar.specs.Whole.{rule, whole}
-use Rattle.rust_productions.proofs.ByHand.{does-then}
 use Rattle.rust_productions.proofs.Facts.{begun, nothing, saw-so, ◌and◌}
 use Rattle.rust_productions.proofs.Layering.{saw-disjunction}
 use Rattle.rust_productions.proofs.Seen.{saw-before, starts-here}
+use Rattle.rust_productions.proofs.Peeking.{peeks-then}
 use Rattle.rust_productions.proofs.grammar.expressions.at_range_operand.Goals as goal
 
 pub returns-then-at_body-clause-sees : goal.returns-then-at_body-clause-sees
@@ -24,10 +24,10 @@ returns-then-at_body-clause-sees c = starts-here (Unless body_begins Disjunction
 
 pub returns-clause-sees : goal.returns-clause-sees
 unfolding look_of begins_below whole rule items statements expressions patterns types paths there_at shift passes is_silent begins in_mode anew row one_of any_of no_longer longest is_longer
-returns-clause-sees c = starts-here (Unless body_begins Disjunction) (saw-so c.at_body.ensures.sees c.if-at_body.false and begun rules.disjunction (saw-disjunction (saw-before c.at_body.ensures.same c.at_operand.ensures.sees)) nothing) refl
+returns-clause-sees c = starts-here (Unless body_begins Disjunction) (saw-so c.at_body.ensures.sees c.if-at_body.false and begun rules.disjunction (saw-disjunction (saw-before c.at_body.ensures.peeks.same c.at_operand.ensures.sees)) nothing) refl
 
 pub returns-clause-operand : goal.returns-clause-operand
-returns-clause-operand c = λ is. saw-before c.at_body.ensures.same (saw-so c.at_operand.ensures.sees is)
+returns-clause-operand c = λ is. saw-before c.at_body.ensures.peeks.same (saw-so c.at_operand.ensures.sees is)
 
-pub returns-clause-same : goal.returns-clause-same
-returns-clause-same c = does-then c.at_body.ensures.same c.at_operand.ensures.same
+pub returns-clause-peeks : goal.returns-clause-peeks
+returns-clause-peeks c = peeks-then c.at_body.ensures.peeks c.at_operand.ensures.peeks

@@ -12,10 +12,10 @@ use Rattle.rust_grammar.specs.Types.{types}
 use Rattle.rust_grammar.specs.Whole.{rule, whole}
 use Rattle.rust_grammar.specs.Rule as rules
 use Rattle.rust_productions.proofs.Begins.{saw-expr-path, saw-type-path}
-use Rattle.rust_productions.proofs.ByHand.{does-then}
 use Rattle.rust_productions.proofs.Facts.{begun, nothing, saw-so, ◌and◌}
 use Rattle.rust_productions.proofs.Looking.{left-arm, saw-arm, saw-not}
 use Rattle.rust_productions.proofs.Seen.{begins-row, saw-before}
+use Rattle.rust_productions.proofs.Peeking.{peeks-then}
 use Rattle.rust_productions.proofs.grammar.generic_params.at_bound.Goals as goal
 
 pub returns-then-at_path-clause-sees : goal.returns-then-at_path-clause-sees
@@ -24,14 +24,14 @@ returns-then-at_path-clause-sees c cond = begins-row rules.bound (begun rules.ty
 
 pub returns-in-LIFETIME_IDENT-clause-sees : goal.returns-in-LIFETIME_IDENT-clause-sees
 unfolding look_of begins_below whole rule items statements expressions patterns types paths there_at shift passes is_silent begins in_mode anew row one_of any_of no_longer longest is_longer
-returns-in-LIFETIME_IDENT-clause-sees c cond = elim c.in-LIFETIME_IDENT.is [ inl a0 ↦ begins-row rules.bound (begun rules.type_path (saw-type-path (saw-so (c.at_path.ensures.sees cond) c.if-at_path.false)) (begun rules.expr_path (saw-expr-path (saw-so (c.at_path.ensures.sees cond) c.if-at_path.false)) (begun rules.path (saw-so (c.at_path.ensures.sees cond) c.if-at_path.false) (saw-before c.at_path.ensures.same (left-arm a0 (c.current.ensures.end cond)) and saw-before c.at_path.ensures.same (saw-arm a0 (c.current.ensures.sees cond)) and nothing)))) refl | inr b0 ↦ begins-row rules.bound (begun rules.type_path (saw-type-path (saw-so (c.at_path.ensures.sees cond) c.if-at_path.false)) (begun rules.expr_path (saw-expr-path (saw-so (c.at_path.ensures.sees cond) c.if-at_path.false)) (begun rules.path (saw-so (c.at_path.ensures.sees cond) c.if-at_path.false) (saw-before c.at_path.ensures.same (left-arm b0 (c.current.ensures.end cond)) and saw-before c.at_path.ensures.same (saw-arm b0 (c.current.ensures.sees cond)) and nothing)))) refl ]
+returns-in-LIFETIME_IDENT-clause-sees c cond = elim c.in-LIFETIME_IDENT.is [ inl a0 ↦ begins-row rules.bound (begun rules.type_path (saw-type-path (saw-so (c.at_path.ensures.sees cond) c.if-at_path.false)) (begun rules.expr_path (saw-expr-path (saw-so (c.at_path.ensures.sees cond) c.if-at_path.false)) (begun rules.path (saw-so (c.at_path.ensures.sees cond) c.if-at_path.false) (saw-before c.at_path.ensures.peeks.same (left-arm a0 (c.current.ensures.end cond)) and saw-before c.at_path.ensures.peeks.same (saw-arm a0 (c.current.ensures.sees cond)) and nothing)))) refl | inr b0 ↦ begins-row rules.bound (begun rules.type_path (saw-type-path (saw-so (c.at_path.ensures.sees cond) c.if-at_path.false)) (begun rules.expr_path (saw-expr-path (saw-so (c.at_path.ensures.sees cond) c.if-at_path.false)) (begun rules.path (saw-so (c.at_path.ensures.sees cond) c.if-at_path.false) (saw-before c.at_path.ensures.peeks.same (left-arm b0 (c.current.ensures.end cond)) and saw-before c.at_path.ensures.peeks.same (saw-arm b0 (c.current.ensures.sees cond)) and nothing)))) refl ]
 
-pub returns-in-LIFETIME_IDENT-clause-same : goal.returns-in-LIFETIME_IDENT-clause-same
-returns-in-LIFETIME_IDENT-clause-same c = does-then c.at_path.ensures.same (c.current.ensures.same)
+pub returns-in-LIFETIME_IDENT-clause-peeks : goal.returns-in-LIFETIME_IDENT-clause-peeks
+returns-in-LIFETIME_IDENT-clause-peeks c = peeks-then c.at_path.ensures.peeks c.current.ensures.peeks
 
 pub returns-in_default-clause-sees : goal.returns-in_default-clause-sees
 unfolding look_of begins_below whole rule items statements expressions patterns types paths there_at shift passes is_silent begins in_mode anew row one_of any_of no_longer longest is_longer
-returns-in_default-clause-sees c cond = begins-row rules.bound (begun rules.type_path (saw-type-path (saw-so (c.at_path.ensures.sees cond) c.if-at_path.false)) (begun rules.expr_path (saw-expr-path (saw-so (c.at_path.ensures.sees cond) c.if-at_path.false)) (begun rules.path (saw-so (c.at_path.ensures.sees cond) c.if-at_path.false) (saw-before c.at_path.ensures.same (saw-not c.in_default.not-LIFETIME_IDENT (c.current.ensures.sees cond)) and saw-before c.at_path.ensures.same (saw-not c.in_default.not-QUESTION (c.current.ensures.sees cond)) and nothing)))) refl
+returns-in_default-clause-sees c cond = begins-row rules.bound (begun rules.type_path (saw-type-path (saw-so (c.at_path.ensures.sees cond) c.if-at_path.false)) (begun rules.expr_path (saw-expr-path (saw-so (c.at_path.ensures.sees cond) c.if-at_path.false)) (begun rules.path (saw-so (c.at_path.ensures.sees cond) c.if-at_path.false) (saw-before c.at_path.ensures.peeks.same (saw-not c.in_default.not-LIFETIME_IDENT (c.current.ensures.sees cond)) and saw-before c.at_path.ensures.peeks.same (saw-not c.in_default.not-QUESTION (c.current.ensures.sees cond)) and nothing)))) refl
 
-pub returns-in_default-clause-same : goal.returns-in_default-clause-same
-returns-in_default-clause-same c = does-then c.at_path.ensures.same (c.current.ensures.same)
+pub returns-in_default-clause-peeks : goal.returns-in_default-clause-peeks
+returns-in_default-clause-peeks c = peeks-then c.at_path.ensures.peeks c.current.ensures.peeks

@@ -11,9 +11,9 @@ use Rattle.rust_grammar.specs.Statements.{statements}
 use Rattle.rust_grammar.specs.Types.{types}
 use Rattle.rust_grammar.specs.Whole.{rule, whole}
 use Rattle.rust_grammar.specs.Rule as rules
-use Rattle.rust_productions.proofs.ByHand.{does-then}
 use Rattle.rust_productions.proofs.Facts.{begun, nothing, saw-so, ◌and◌}
 use Rattle.rust_productions.proofs.Seen.{begins-row, saw-before}
+use Rattle.rust_productions.proofs.Peeking.{peeks-then}
 use Rattle.rust_productions.proofs.grammar.generic_params.at_where_pred.Goals as goal
 
 pub returns-then-at-clause-sees : goal.returns-then-at-clause-sees
@@ -22,14 +22,14 @@ returns-then-at-clause-sees c cond = begins-row rules.where_pred (saw-so (c.at.e
 
 pub returns-then-at_type-clause-sees : goal.returns-then-at_type-clause-sees
 unfolding look_of begins_below whole rule items statements expressions patterns types paths there_at shift passes is_silent begins in_mode anew row one_of any_of no_longer longest is_longer
-returns-then-at_type-clause-sees c cond = begins-row rules.where_pred (saw-so (c.at.ensures.sees cond) c.if-at.false and begun rules.any_type (saw-before c.at.ensures.same (saw-so (c.at_type.ensures.sees cond) c.if-at_type.true)) (nothing)) refl
+returns-then-at_type-clause-sees c cond = begins-row rules.where_pred (saw-so (c.at.ensures.sees cond) c.if-at.false and begun rules.any_type (saw-before c.at.ensures.peeks.same (saw-so (c.at_type.ensures.sees cond) c.if-at_type.true)) (nothing)) refl
 
-pub returns-then-at_type-clause-same : goal.returns-then-at_type-clause-same
-returns-then-at_type-clause-same c = does-then c.at.ensures.same (c.at_type.ensures.same)
+pub returns-then-at_type-clause-peeks : goal.returns-then-at_type-clause-peeks
+returns-then-at_type-clause-peeks c = peeks-then c.at.ensures.peeks c.at_type.ensures.peeks
 
 pub returns-clause-sees : goal.returns-clause-sees
 unfolding look_of begins_below whole rule items statements expressions patterns types paths there_at shift passes is_silent begins in_mode anew row one_of any_of no_longer longest is_longer
-returns-clause-sees c cond = begins-row rules.where_pred (saw-so (c.at.ensures.sees cond) c.if-at.false and begun rules.any_type (saw-before c.at.ensures.same (saw-so (c.at_type.ensures.sees cond) c.if-at_type.false)) (nothing)) refl
+returns-clause-sees c cond = begins-row rules.where_pred (saw-so (c.at.ensures.sees cond) c.if-at.false and begun rules.any_type (saw-before c.at.ensures.peeks.same (saw-so (c.at_type.ensures.sees cond) c.if-at_type.false)) (nothing)) refl
 
-pub returns-clause-same : goal.returns-clause-same
-returns-clause-same c = does-then c.at.ensures.same (c.at_type.ensures.same)
+pub returns-clause-peeks : goal.returns-clause-peeks
+returns-clause-peeks c = peeks-then c.at.ensures.peeks c.at_type.ensures.peeks

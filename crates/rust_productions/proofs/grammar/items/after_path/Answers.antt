@@ -16,15 +16,15 @@ use Rattle.rust_productions.proofs.Facts.{nothing, saw-so, ◌and◌}
 use Rattle.rust_productions.proofs.grammar.items.after_path.Goals as goal
 
 pub complete-requires : goal.complete-requires
-complete-requires c = (c.macro_tokens.ensures.reads true).does.innermost _ ((c.take.ensures.reads true).does.innermost _ (c.at.ensures.same.innermost _ c.requires))
+complete-requires c = (c.macro_tokens.ensures.reads true).does.innermost _ ((c.take.ensures.reads true).does.innermost _ (c.at.ensures.peeks.same.innermost _ c.requires))
 
 pub returns-then-at-clause-completes : goal.returns-then-at-clause-completes
 unfolding look_of begins_below whole rule items statements expressions patterns types paths there_at shift passes is_silent begins in_mode anew row one_of any_of no_longer longest is_longer
-returns-then-at-clause-completes c = λ cond. completes-here (saw-so (c.at.ensures.sees cond) c.if-at.true and nothing) (completes-look c.at.ensures.same (completes-wrap (reads-then cond (c.take.ensures.reads cond) (c.macro_tokens.ensures.reads cond)) c.complete.ensures.closes))
+returns-then-at-clause-completes c = λ cond. completes-here (saw-so (c.at.ensures.sees cond) c.if-at.true and nothing) (completes-look c.at.ensures.peeks.same (completes-wrap (reads-then cond (c.take.ensures.reads cond) (c.macro_tokens.ensures.reads cond)) c.complete.ensures.closes))
 
 pub complete-requires-2 : goal.complete-requires-2
-complete-requires-2 c = (c.error.ensures.reads true).does.innermost _ (c.at.ensures.same.innermost _ c.requires)
+complete-requires-2 c = (c.error.ensures.reads true).does.innermost _ (c.at.ensures.peeks.same.innermost _ c.requires)
 
 pub returns-clause-completes : goal.returns-clause-completes
 unfolding look_of begins_below whole rule items statements expressions patterns types paths there_at shift passes is_silent begins in_mode anew row one_of any_of no_longer longest is_longer
-returns-clause-completes c = λ cond. completes-here (saw-so (c.at.ensures.sees cond) c.if-at.false and nothing) (completes-look c.at.ensures.same (completes-wrap (c.error.ensures.reads cond) c.complete-2.ensures.closes))
+returns-clause-completes c = λ cond. completes-here (saw-so (c.at.ensures.sees cond) c.if-at.false and nothing) (completes-look c.at.ensures.peeks.same (completes-wrap (c.error.ensures.reads cond) c.complete-2.ensures.closes))

@@ -10,10 +10,10 @@ use Rattle.rust_grammar.specs.Rule.{begins, in_mode, anew, is_silent, passes, sh
 use Rattle.rust_grammar.specs.Statements.{statements}
 use Rattle.rust_grammar.specs.Types.{types}
 use Rattle.rust_grammar.specs.Whole.{rule, whole}
-use Rattle.rust_productions.proofs.ByHand.{does-then}
 use Rattle.rust_productions.proofs.Facts.{nothing, ◌and◌}
 use Rattle.rust_productions.proofs.Looking.{saw-arm, saw-not}
 use Rattle.rust_productions.proofs.Seen.{saw-after, saw-before, saw-told}
+use Rattle.rust_productions.proofs.Peeking.{peeks-then}
 use Rattle.rust_productions.proofs.grammar.items.at_fn.Goals as goal
 
 pub returns-in-FN_KW-clause-sees : goal.returns-in-FN_KW-clause-sees
@@ -22,23 +22,23 @@ returns-in-FN_KW-clause-sees c cond = saw-told (saw-arm c.in-FN_KW.is (c.current
 
 pub at_fn_after_const-requires : goal.at_fn_after_const-requires
 unfolding look_of begins_below whole rule items statements expressions patterns types paths there_at shift passes is_silent begins in_mode anew row one_of any_of no_longer longest is_longer
-at_fn_after_const-requires c = λ cond. saw-after c.current.ensures.same (saw-told (saw-arm c.in-CONST_KW.is (c.current.ensures.sees cond) and nothing) refl)
+at_fn_after_const-requires c = λ cond. saw-after c.current.ensures.peeks.same (saw-told (saw-arm c.in-CONST_KW.is (c.current.ensures.sees cond) and nothing) refl)
 
 pub returns-in-CONST_KW-clause-sees : goal.returns-in-CONST_KW-clause-sees
-returns-in-CONST_KW-clause-sees c cond = saw-before c.current.ensures.same (c.at_fn_after_const.ensures.sees cond)
+returns-in-CONST_KW-clause-sees c cond = saw-before c.current.ensures.peeks.same (c.at_fn_after_const.ensures.sees cond)
 
-pub returns-in-CONST_KW-clause-same : goal.returns-in-CONST_KW-clause-same
-returns-in-CONST_KW-clause-same c = does-then c.current.ensures.same c.at_fn_after_const.ensures.same
+pub returns-in-CONST_KW-clause-peeks : goal.returns-in-CONST_KW-clause-peeks
+returns-in-CONST_KW-clause-peeks c = peeks-then c.current.ensures.peeks c.at_fn_after_const.ensures.peeks
 
 pub at_fn_after_unsafe-requires : goal.at_fn_after_unsafe-requires
 unfolding look_of begins_below whole rule items statements expressions patterns types paths there_at shift passes is_silent begins in_mode anew row one_of any_of no_longer longest is_longer
-at_fn_after_unsafe-requires c = λ cond. saw-after c.current.ensures.same (saw-told (saw-arm c.in-UNSAFE_KW.is (c.current.ensures.sees cond) and nothing) refl)
+at_fn_after_unsafe-requires c = λ cond. saw-after c.current.ensures.peeks.same (saw-told (saw-arm c.in-UNSAFE_KW.is (c.current.ensures.sees cond) and nothing) refl)
 
 pub returns-in-UNSAFE_KW-clause-sees : goal.returns-in-UNSAFE_KW-clause-sees
-returns-in-UNSAFE_KW-clause-sees c cond = saw-before c.current.ensures.same (c.at_fn_after_unsafe.ensures.sees cond)
+returns-in-UNSAFE_KW-clause-sees c cond = saw-before c.current.ensures.peeks.same (c.at_fn_after_unsafe.ensures.sees cond)
 
-pub returns-in-UNSAFE_KW-clause-same : goal.returns-in-UNSAFE_KW-clause-same
-returns-in-UNSAFE_KW-clause-same c = does-then c.current.ensures.same c.at_fn_after_unsafe.ensures.same
+pub returns-in-UNSAFE_KW-clause-peeks : goal.returns-in-UNSAFE_KW-clause-peeks
+returns-in-UNSAFE_KW-clause-peeks c = peeks-then c.current.ensures.peeks c.at_fn_after_unsafe.ensures.peeks
 
 pub returns-in_default-clause-sees : goal.returns-in_default-clause-sees
 unfolding look_of begins_below whole rule items statements expressions patterns types paths there_at shift passes is_silent begins in_mode anew row one_of any_of no_longer longest is_longer

@@ -10,10 +10,10 @@ use Rattle.rust_grammar.specs.Rule.{begins, in_mode, anew, is_silent, passes, sh
 use Rattle.rust_grammar.specs.Statements.{statements}
 use Rattle.rust_grammar.specs.Types.{types}
 use Rattle.rust_grammar.specs.Whole.{rule, whole}
-use Rattle.rust_productions.proofs.ByHand.{does-then}
 use Rattle.rust_productions.proofs.Facts.{saw-so}
 use Rattle.rust_productions.proofs.Seen.{saw-always, saw-before, saw-either-left, saw-either-right, saw-no-left}
 use Rattle.rust_productions.proofs.Words.{saw-both}
+use Rattle.rust_productions.proofs.Peeking.{peeks-then, peeks-within}
 use Rattle.rust_productions.proofs.grammar.items.at_unsafe.Goals as goal
 
 pub returns-then-at-clause-sees : goal.returns-then-at-clause-sees
@@ -22,17 +22,17 @@ returns-then-at-clause-sees c cond = saw-either-left (saw-always (saw-so (c.at.e
 
 pub returns-then-not-at-clause-sees : goal.returns-then-not-at-clause-sees
 unfolding look_of begins_below whole rule items statements expressions patterns types paths there_at shift passes is_silent begins in_mode anew row one_of any_of no_longer longest is_longer
-returns-then-not-at-clause-sees c cond = saw-either-right (saw-always (saw-so (c.at.ensures.sees cond) c.if-at.false)) (saw-no-left (saw-before c.at.ensures.same (saw-so (c.at-2.ensures.sees cond) c.if-not-at.true)))
+returns-then-not-at-clause-sees c cond = saw-either-right (saw-always (saw-so (c.at.ensures.sees cond) c.if-at.false)) (saw-no-left (saw-before c.at.ensures.peeks.same (saw-so (c.at-2.ensures.sees cond) c.if-not-at.true)))
 
-pub returns-then-not-at-clause-same : goal.returns-then-not-at-clause-same
-returns-then-not-at-clause-same c = does-then c.at.ensures.same c.at-2.ensures.same
+pub returns-then-not-at-clause-peeks : goal.returns-then-not-at-clause-peeks
+returns-then-not-at-clause-peeks c = peeks-within (peeks-then c.at.ensures.peeks c.at-2.ensures.peeks) (omega arith)
 
 pub returns-clause-sees : goal.returns-clause-sees
 unfolding look_of begins_below whole rule items statements expressions patterns types paths there_at shift passes is_silent begins in_mode anew row one_of any_of no_longer longest is_longer
-returns-clause-sees c cond = saw-either-right (saw-always (saw-so (c.at.ensures.sees cond) c.if-at.false)) (saw-both (saw-before c.at.ensures.same (saw-so (c.at-2.ensures.sees cond) c.if-not-at.false)) (saw-always (saw-before c.at.ensures.same (saw-before c.at-2.ensures.same (c.at_second.ensures.sees cond)))))
+returns-clause-sees c cond = saw-either-right (saw-always (saw-so (c.at.ensures.sees cond) c.if-at.false)) (saw-both (saw-before c.at.ensures.peeks.same (saw-so (c.at-2.ensures.sees cond) c.if-not-at.false)) (saw-always (saw-before c.at.ensures.peeks.same (saw-before c.at-2.ensures.peeks.same (c.at_second.ensures.sees cond)))))
 
-pub returns-clause-same : goal.returns-clause-same
-returns-clause-same c = does-then c.at.ensures.same (does-then c.at-2.ensures.same c.at_second.ensures.same)
+pub returns-clause-peeks : goal.returns-clause-peeks
+returns-clause-peeks c = peeks-then c.at.ensures.peeks (peeks-then c.at-2.ensures.peeks c.at_second.ensures.peeks)
 
 pub returns-clause-some : goal.returns-clause-some
-returns-clause-some c = λ e f. omega (arith, c.at.ensures.left, c.at-2.ensures.some c.if-not-at.false (λ g. absurd (omega (arith, g))))
+returns-clause-some c = λ e f. omega (arith, c.at.ensures.peeks.left, c.at-2.ensures.some c.if-not-at.false (λ g. absurd (omega (arith, g))))

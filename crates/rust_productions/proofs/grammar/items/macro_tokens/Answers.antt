@@ -16,8 +16,8 @@ use Rattle.rust_productions.proofs.grammar.items.macro_tokens.Goals as goal
 
 pub returns-then-at-clause-reads : goal.returns-then-at-clause-reads
 unfolding look_of begins_below whole rule items statements expressions patterns types paths there_at shift passes is_silent begins in_mode anew row one_of any_of no_longer longest is_longer
-returns-then-at-clause-reads c = λ cond. reads-here (saw-so (c.at.ensures.sees cond) c.if-at.true and nothing) (after-look cond c.at.ensures.same (reads-call cond (c.token_tree.ensures.gives cond)))
+returns-then-at-clause-reads c = λ cond. reads-here (saw-so (c.at.ensures.sees cond) c.if-at.true and nothing) (after-look cond c.at.ensures.peeks.same (reads-call cond (c.token_tree.ensures.gives cond)))
 
 pub returns-clause-reads : goal.returns-clause-reads
 unfolding look_of begins_below whole rule items statements expressions patterns types paths there_at shift passes is_silent begins in_mode anew row one_of any_of no_longer longest is_longer
-returns-clause-reads c = λ cond. reads-here (saw-so (c.at.ensures.sees cond) c.if-at.false and nothing) (after-look cond c.at.ensures.same (reads-then cond (c.expect_token_tree.ensures.reads cond) (c.expect.ensures.reads cond)))
+returns-clause-reads c = λ cond. reads-here (saw-so (c.at.ensures.sees cond) c.if-at.false and nothing) (after-look cond c.at.ensures.peeks.same (reads-then cond (c.expect_token_tree.ensures.reads cond) (c.expect.ensures.reads cond)))

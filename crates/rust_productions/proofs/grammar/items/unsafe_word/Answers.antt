@@ -18,12 +18,12 @@ use Rattle.rust_productions.proofs.grammar.items.unsafe_word.Goals as goal
 
 pub returns-then-at-clause-reads : goal.returns-then-at-clause-reads
 unfolding look_of begins_below whole rule items statements expressions patterns types paths there_at shift passes is_silent begins in_mode anew row one_of any_of no_longer longest is_longer
-returns-then-at-clause-reads c cond = reads-then cond (reads-none cond (saw-other c.requires.other (saw-so (c.at.ensures.sees cond) c.if-at.true)) c.at.ensures.same) (c.take.ensures.reads cond)
+returns-then-at-clause-reads c cond = reads-then cond (reads-none cond (saw-other c.requires.word.other (saw-so (c.at.ensures.sees cond) c.if-at.true)) c.at.ensures.peeks.same) (c.take.ensures.reads cond)
 
 pub take-requires-3 : goal.take-requires-3
 unfolding look_of begins_below whole rule items statements expressions patterns types paths there_at shift passes is_silent begins in_mode anew row one_of any_of no_longer longest is_longer
-take-requires-3 c = let word = saw-second (saw-so (c.at.ensures.sees true) c.if-at.false) (c.requires.begins true) in omega (arith, c.at.ensures.left, c.take-2.ensures.left, two-left c.requires.inside word)
+take-requires-3 c = let word = saw-second (saw-so (c.at.ensures.sees true) c.if-at.false) (c.requires.begins.sees true) in omega (arith, c.at.ensures.peeks.left, c.take-2.ensures.left, two-left c.requires.word.inside word)
 
 pub returns-clause-reads : goal.returns-clause-reads
 unfolding look_of begins_below whole rule items statements expressions patterns types paths there_at shift passes is_silent begins in_mode anew row one_of any_of no_longer longest is_longer
-returns-clause-reads c cond = reads-then cond (reads-opt cond (saw-first (saw-so (c.at.ensures.sees cond) c.if-at.false) (c.requires.begins cond)) (after-look cond c.at.ensures.same (c.take-2.ensures.reads cond))) (c.take-3.ensures.reads cond)
+returns-clause-reads c cond = reads-then cond (reads-opt cond (saw-first (saw-so (c.at.ensures.sees cond) c.if-at.false) (c.requires.begins.sees cond)) (after-look cond c.at.ensures.peeks.same (c.take-2.ensures.reads cond))) (c.take-3.ensures.reads cond)

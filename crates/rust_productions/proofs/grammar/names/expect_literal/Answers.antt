@@ -17,8 +17,8 @@ use Rattle.rust_productions.proofs.grammar.names.expect_literal.Goals as goal
 
 pub returns-then-at_literal-clause-reads : goal.returns-then-at_literal-clause-reads
 unfolding look_of begins_below whole rule items statements expressions patterns types paths there_at shift passes is_silent begins in_mode anew row one_of any_of no_longer longest is_longer
-returns-then-at_literal-clause-reads c cond = reads-here (begun rules.literal (saw-so (c.at_literal.ensures.sees cond) c.if-at_literal.true) (nothing)) (after-look cond c.at_literal.ensures.same (reads-call cond (c.literal.ensures.gives cond)))
+returns-then-at_literal-clause-reads c cond = reads-here (begun rules.literal (saw-so (c.at_literal.ensures.sees cond) c.if-at_literal.true) (nothing)) (after-look cond c.at_literal.ensures.peeks.same (reads-call cond (c.literal.ensures.gives cond)))
 
 pub returns-clause-reads : goal.returns-clause-reads
 unfolding look_of begins_below whole rule items statements expressions patterns types paths there_at shift passes is_silent begins in_mode anew row one_of any_of no_longer longest is_longer
-returns-clause-reads c cond = reads-here (begun rules.literal (saw-so (c.at_literal.ensures.sees cond) c.if-at_literal.false) (nothing)) (after-look cond c.at_literal.ensures.same ((c.error.ensures.reads cond)))
+returns-clause-reads c cond = reads-here (begun rules.literal (saw-so (c.at_literal.ensures.sees cond) c.if-at_literal.false) (nothing)) (after-look cond c.at_literal.ensures.peeks.same ((c.error.ensures.reads cond)))

@@ -12,10 +12,10 @@ use Rattle.rust_grammar.specs.Statements.{statements}
 use Rattle.rust_grammar.specs.Types.{types}
 use Rattle.rust_grammar.specs.Whole.{rule, whole}
 use Rattle.rust_productions.specs.Layers.{operators, operators_at}
-use Rattle.rust_productions.proofs.ByHand.{does-then}
 use Rattle.rust_productions.proofs.Facts.{nothing, saw-so, ◌and◌}
 use Rattle.rust_productions.proofs.Operators.{no-end, none-next, operator-next}
 use Rattle.rust_productions.proofs.Seen.{saw-before}
+use Rattle.rust_productions.proofs.Peeking.{peeks-then}
 use Rattle.rust_productions.proofs.grammar.operators.after_equals.Goals as goal
 
 pub returns-then-at_joined-clause-next : goal.returns-then-at_joined-clause-next
@@ -24,14 +24,14 @@ returns-then-at_joined-clause-next c = operator-next 8 variants.EQ2 2 c.new.ensu
 
 pub returns-then-at_joined-2-clause-next : goal.returns-then-at_joined-2-clause-next
 unfolding look_of begins_below whole rule items statements expressions patterns types paths there_at shift passes is_silent begins in_mode anew row one_of any_of no_longer longest is_longer operators_at operators
-returns-then-at_joined-2-clause-next c = none-next c.none.ensures (λ d. c.requires.first d and (saw-so (c.at_joined.ensures.sees d) c.if-at_joined.false and (saw-before c.at_joined.ensures.same (saw-so (c.at_joined-2.ensures.sees d) c.if-at_joined-2.true) and nothing))) refl
+returns-then-at_joined-2-clause-next c = none-next c.none.ensures (λ d. c.requires.first d and (saw-so (c.at_joined.ensures.sees d) c.if-at_joined.false and (saw-before c.at_joined.ensures.peeks.same (saw-so (c.at_joined-2.ensures.sees d) c.if-at_joined-2.true) and nothing))) refl
 
-pub returns-then-at_joined-2-clause-same : goal.returns-then-at_joined-2-clause-same
-returns-then-at_joined-2-clause-same c = (does-then c.at_joined.ensures.same c.at_joined-2.ensures.same)
+pub returns-then-at_joined-2-clause-peeks : goal.returns-then-at_joined-2-clause-peeks
+returns-then-at_joined-2-clause-peeks c = peeks-then c.at_joined.ensures.peeks c.at_joined-2.ensures.peeks
 
 pub returns-clause-next : goal.returns-clause-next
 unfolding look_of begins_below whole rule items statements expressions patterns types paths there_at shift passes is_silent begins in_mode anew row one_of any_of no_longer longest is_longer operators_at operators
-returns-clause-next c = operator-next 12 variants.EQ 1 c.new-2.ensures (omega arith) (omega arith) c.requires.some (λ d. c.requires.first d and (saw-so (c.at_joined.ensures.sees d) c.if-at_joined.false and (saw-before c.at_joined.ensures.same (saw-so (c.at_joined-2.ensures.sees d) c.if-at_joined-2.false) and nothing))) refl refl
+returns-clause-next c = operator-next 12 variants.EQ 1 c.new-2.ensures (omega arith) (omega arith) c.requires.some (λ d. c.requires.first d and (saw-so (c.at_joined.ensures.sees d) c.if-at_joined.false and (saw-before c.at_joined.ensures.peeks.same (saw-so (c.at_joined-2.ensures.sees d) c.if-at_joined-2.false) and nothing))) refl refl
 
-pub returns-clause-same : goal.returns-clause-same
-returns-clause-same c = (does-then c.at_joined.ensures.same c.at_joined-2.ensures.same)
+pub returns-clause-peeks : goal.returns-clause-peeks
+returns-clause-peeks c = peeks-then c.at_joined.ensures.peeks c.at_joined-2.ensures.peeks

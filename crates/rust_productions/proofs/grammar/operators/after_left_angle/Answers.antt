@@ -12,10 +12,10 @@ use Rattle.rust_grammar.specs.Statements.{statements}
 use Rattle.rust_grammar.specs.Types.{types}
 use Rattle.rust_grammar.specs.Whole.{rule, whole}
 use Rattle.rust_productions.specs.Layers.{operators, operators_at}
-use Rattle.rust_productions.proofs.ByHand.{does-then}
 use Rattle.rust_productions.proofs.Facts.{nothing, saw-so, ◌and◌}
 use Rattle.rust_productions.proofs.Operators.{no-end, operator-next}
 use Rattle.rust_productions.proofs.Seen.{saw-before}
+use Rattle.rust_productions.proofs.Peeking.{peeks-then, peeks-within, stays-then}
 use Rattle.rust_productions.proofs.grammar.operators.after_left_angle.Goals as goal
 
 pub returns-then-not-at_joint-clause-next : goal.returns-then-not-at_joint-clause-next
@@ -24,28 +24,28 @@ returns-then-not-at_joint-clause-next c = operator-next 8 variants.L_ANGLE 1 c.n
 
 pub returns-then-at_second-clause-next : goal.returns-then-at_second-clause-next
 unfolding look_of begins_below whole rule items statements expressions patterns types paths there_at shift passes is_silent begins in_mode anew row one_of any_of no_longer longest is_longer operators_at operators
-returns-then-at_second-clause-next c = operator-next 8 variants.LTEQ 2 c.new-then-at_second.ensures (omega arith) (omega arith) (omega (arith, c.at_joint.ensures.left, c.at_second.ensures.some c.if-at_second.true (no-end variants.EQ refl))) (λ d. c.requires.first d and (saw-so (c.at_joint.ensures.sees d) c.if-not-at_joint.false and (saw-before c.at_joint.ensures.same (saw-so (c.at_second.ensures.sees d) c.if-at_second.true) and nothing))) refl refl
+returns-then-at_second-clause-next c = operator-next 8 variants.LTEQ 2 c.new-then-at_second.ensures (omega arith) (omega arith) (omega (arith, c.at_joint.ensures.stays.left, c.at_second.ensures.some c.if-at_second.true (no-end variants.EQ refl))) (λ d. c.requires.first d and (saw-so (c.at_joint.ensures.sees d) c.if-not-at_joint.false and (saw-before c.at_joint.ensures.same (saw-so (c.at_second.ensures.sees d) c.if-at_second.true) and nothing))) refl refl
 
-pub returns-then-at_second-clause-same : goal.returns-then-at_second-clause-same
-returns-then-at_second-clause-same c = (does-then c.at_joint.ensures.same c.at_second.ensures.same)
+pub returns-then-at_second-clause-peeks : goal.returns-then-at_second-clause-peeks
+returns-then-at_second-clause-peeks c = peeks-within (stays-then c.at_joint.ensures.same c.at_joint.ensures.stays c.at_second.ensures.peeks) (omega arith)
 
 pub returns-then-not-at_second-clause-next : goal.returns-then-not-at_second-clause-next
 unfolding look_of begins_below whole rule items statements expressions patterns types paths there_at shift passes is_silent begins in_mode anew row one_of any_of no_longer longest is_longer operators_at operators
-returns-then-not-at_second-clause-next c = operator-next 8 variants.L_ANGLE 1 c.new-then-not-at_second.ensures (omega arith) (omega arith) c.requires.some (λ d. c.requires.first d and (saw-so (c.at_joint.ensures.sees d) c.if-not-at_joint.false and (saw-before c.at_joint.ensures.same (saw-so (c.at_second.ensures.sees d) c.if-at_second.false) and (saw-before c.at_joint.ensures.same (saw-before c.at_second.ensures.same (saw-so (c.at_second-2.ensures.sees d) c.if-not-at_second.true)) and nothing)))) refl refl
+returns-then-not-at_second-clause-next c = operator-next 8 variants.L_ANGLE 1 c.new-then-not-at_second.ensures (omega arith) (omega arith) c.requires.some (λ d. c.requires.first d and (saw-so (c.at_joint.ensures.sees d) c.if-not-at_joint.false and (saw-before c.at_joint.ensures.same (saw-so (c.at_second.ensures.sees d) c.if-at_second.false) and (saw-before c.at_joint.ensures.same (saw-before c.at_second.ensures.peeks.same (saw-so (c.at_second-2.ensures.sees d) c.if-not-at_second.true)) and nothing)))) refl refl
 
-pub returns-then-not-at_second-clause-same : goal.returns-then-not-at_second-clause-same
-returns-then-not-at_second-clause-same c = (does-then c.at_joint.ensures.same (does-then c.at_second.ensures.same c.at_second-2.ensures.same))
+pub returns-then-not-at_second-clause-peeks : goal.returns-then-not-at_second-clause-peeks
+returns-then-not-at_second-clause-peeks c = peeks-within (stays-then c.at_joint.ensures.same c.at_joint.ensures.stays (peeks-then c.at_second.ensures.peeks c.at_second-2.ensures.peeks)) (omega arith)
 
 pub returns-then-at_joined_after-clause-next : goal.returns-then-at_joined_after-clause-next
 unfolding look_of begins_below whole rule items statements expressions patterns types paths there_at shift passes is_silent begins in_mode anew row one_of any_of no_longer longest is_longer operators_at operators
-returns-then-at_joined_after-clause-next c = operator-next 12 variants.SHLEQ 3 c.new-then-at_joined_after.ensures (omega arith) (omega arith) (omega (arith, c.at_joint.ensures.left, c.at_second.ensures.left, c.at_second-2.ensures.left, c.at_joined_after.ensures.some c.if-at_joined_after.true (no-end variants.EQ refl))) (λ d. c.requires.first d and (saw-so (c.at_joint.ensures.sees d) c.if-not-at_joint.false and (saw-before c.at_joint.ensures.same (saw-so (c.at_second.ensures.sees d) c.if-at_second.false) and (saw-before c.at_joint.ensures.same (saw-before c.at_second.ensures.same (saw-so (c.at_second-2.ensures.sees d) c.if-not-at_second.false)) and (saw-before c.at_joint.ensures.same (saw-before c.at_second.ensures.same (saw-before c.at_second-2.ensures.same (saw-so (c.at_joined_after.ensures.sees d) c.if-at_joined_after.true))) and nothing))))) refl refl
+returns-then-at_joined_after-clause-next c = operator-next 12 variants.SHLEQ 3 c.new-then-at_joined_after.ensures (omega arith) (omega arith) (omega (arith, c.at_joint.ensures.stays.left, c.at_second.ensures.peeks.left, c.at_second-2.ensures.peeks.left, c.at_joined_after.ensures.some c.if-at_joined_after.true (no-end variants.EQ refl))) (λ d. c.requires.first d and (saw-so (c.at_joint.ensures.sees d) c.if-not-at_joint.false and (saw-before c.at_joint.ensures.same (saw-so (c.at_second.ensures.sees d) c.if-at_second.false) and (saw-before c.at_joint.ensures.same (saw-before c.at_second.ensures.peeks.same (saw-so (c.at_second-2.ensures.sees d) c.if-not-at_second.false)) and (saw-before c.at_joint.ensures.same (saw-before c.at_second.ensures.peeks.same (saw-before c.at_second-2.ensures.peeks.same (saw-so (c.at_joined_after.ensures.sees d) c.if-at_joined_after.true))) and nothing))))) refl refl
 
-pub returns-then-at_joined_after-clause-same : goal.returns-then-at_joined_after-clause-same
-returns-then-at_joined_after-clause-same c = (does-then c.at_joint.ensures.same (does-then c.at_second.ensures.same (does-then c.at_second-2.ensures.same c.at_joined_after.ensures.same)))
+pub returns-then-at_joined_after-clause-peeks : goal.returns-then-at_joined_after-clause-peeks
+returns-then-at_joined_after-clause-peeks c = stays-then c.at_joint.ensures.same c.at_joint.ensures.stays (peeks-then c.at_second.ensures.peeks (peeks-then c.at_second-2.ensures.peeks c.at_joined_after.ensures.peeks))
 
 pub returns-clause-next : goal.returns-clause-next
 unfolding look_of begins_below whole rule items statements expressions patterns types paths there_at shift passes is_silent begins in_mode anew row one_of any_of no_longer longest is_longer operators_at operators
-returns-clause-next c = operator-next 4 variants.SHL 2 c.new-2.ensures (omega arith) (omega arith) (omega (arith, c.at_joint.ensures.left, c.at_second.ensures.left, c.at_second-2.ensures.some c.if-not-at_second.false (no-end variants.L_ANGLE refl))) (λ d. c.requires.first d and (saw-so (c.at_joint.ensures.sees d) c.if-not-at_joint.false and (saw-before c.at_joint.ensures.same (saw-so (c.at_second.ensures.sees d) c.if-at_second.false) and (saw-before c.at_joint.ensures.same (saw-before c.at_second.ensures.same (saw-so (c.at_second-2.ensures.sees d) c.if-not-at_second.false)) and (saw-before c.at_joint.ensures.same (saw-before c.at_second.ensures.same (saw-before c.at_second-2.ensures.same (saw-so (c.at_joined_after.ensures.sees d) c.if-at_joined_after.false))) and nothing))))) refl refl
+returns-clause-next c = operator-next 4 variants.SHL 2 c.new-2.ensures (omega arith) (omega arith) (omega (arith, c.at_joint.ensures.stays.left, c.at_second.ensures.peeks.left, c.at_second-2.ensures.some c.if-not-at_second.false (no-end variants.L_ANGLE refl))) (λ d. c.requires.first d and (saw-so (c.at_joint.ensures.sees d) c.if-not-at_joint.false and (saw-before c.at_joint.ensures.same (saw-so (c.at_second.ensures.sees d) c.if-at_second.false) and (saw-before c.at_joint.ensures.same (saw-before c.at_second.ensures.peeks.same (saw-so (c.at_second-2.ensures.sees d) c.if-not-at_second.false)) and (saw-before c.at_joint.ensures.same (saw-before c.at_second.ensures.peeks.same (saw-before c.at_second-2.ensures.peeks.same (saw-so (c.at_joined_after.ensures.sees d) c.if-at_joined_after.false))) and nothing))))) refl refl
 
-pub returns-clause-same : goal.returns-clause-same
-returns-clause-same c = (does-then c.at_joint.ensures.same (does-then c.at_second.ensures.same (does-then c.at_second-2.ensures.same c.at_joined_after.ensures.same)))
+pub returns-clause-peeks : goal.returns-clause-peeks
+returns-clause-peeks c = stays-then c.at_joint.ensures.same c.at_joint.ensures.stays (peeks-then c.at_second.ensures.peeks (peeks-then c.at_second-2.ensures.peeks c.at_joined_after.ensures.peeks))

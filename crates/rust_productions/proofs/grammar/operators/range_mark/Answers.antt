@@ -16,6 +16,7 @@ use Rattle.rust_productions.proofs.ByHand.{does-then}
 use Rattle.rust_productions.proofs.Facts.{nothing, saw-so, ◌and◌}
 use Rattle.rust_productions.proofs.Operators.{no-end}
 use Rattle.rust_productions.proofs.Seen.{saw-before, saw-told}
+use Rattle.rust_productions.proofs.Peeking.{peeks-then, peeks-within, stays-then}
 use Rattle.rust_productions.proofs.grammar.operators.range_mark.Goals as goal
 
 pub returns-then-not-at-clause-mark : goal.returns-then-not-at-clause-mark
@@ -24,28 +25,32 @@ returns-then-not-at-clause-mark c = record { dots = λ d. saw-told (saw-so (c.at
 
 pub returns-then-not-at_joint-clause-mark : goal.returns-then-not-at_joint-clause-mark
 unfolding look_of begins_below whole rule items statements expressions patterns types paths there_at shift passes is_silent begins in_mode anew row one_of any_of no_longer longest is_longer operators_at operators
-returns-then-not-at_joint-clause-mark c = record { dots = λ d. saw-told (saw-so (c.at.ensures.sees d) c.if-not-at.false and (saw-before c.at.ensures.same (saw-so (c.at_joint.ensures.sees d) c.if-not-at_joint.true) and nothing)) refl; dots_eq = λ d. saw-told (saw-so (c.at.ensures.sees d) c.if-not-at.false and (saw-before c.at.ensures.same (saw-so (c.at_joint.ensures.sees d) c.if-not-at_joint.true) and nothing)) refl; some = tt }
+returns-then-not-at_joint-clause-mark c = record { dots = λ d. saw-told (saw-so (c.at.ensures.sees d) c.if-not-at.false and (saw-before c.at.ensures.peeks.same (saw-so (c.at_joint.ensures.sees d) c.if-not-at_joint.true) and nothing)) refl; dots_eq = λ d. saw-told (saw-so (c.at.ensures.sees d) c.if-not-at.false and (saw-before c.at.ensures.peeks.same (saw-so (c.at_joint.ensures.sees d) c.if-not-at_joint.true) and nothing)) refl; some = tt }
 
-pub returns-then-not-at_joint-clause-same : goal.returns-then-not-at_joint-clause-same
-returns-then-not-at_joint-clause-same c = (does-then c.at.ensures.same c.at_joint.ensures.same)
+pub returns-then-not-at_joint-clause-peeks : goal.returns-then-not-at_joint-clause-peeks
+returns-then-not-at_joint-clause-peeks c = record {
+  same = (does-then c.at.ensures.peeks.same c.at_joint.ensures.same);
+  left = omega arith;
+  looks = omega arith;
+}
 
 pub returns-then-not-at_second-clause-mark : goal.returns-then-not-at_second-clause-mark
 unfolding look_of begins_below whole rule items statements expressions patterns types paths there_at shift passes is_silent begins in_mode anew row one_of any_of no_longer longest is_longer operators_at operators
-returns-then-not-at_second-clause-mark c = record { dots = λ d. saw-told (saw-so (c.at.ensures.sees d) c.if-not-at.false and (saw-before c.at.ensures.same (saw-so (c.at_joint.ensures.sees d) c.if-not-at_joint.false) and (saw-before c.at.ensures.same (saw-before c.at_joint.ensures.same (saw-so (c.at_second.ensures.sees d) c.if-not-at_second.true)) and nothing))) refl; dots_eq = λ d. saw-told (saw-so (c.at.ensures.sees d) c.if-not-at.false and (saw-before c.at.ensures.same (saw-so (c.at_joint.ensures.sees d) c.if-not-at_joint.false) and (saw-before c.at.ensures.same (saw-before c.at_joint.ensures.same (saw-so (c.at_second.ensures.sees d) c.if-not-at_second.true)) and nothing))) refl; some = tt }
+returns-then-not-at_second-clause-mark c = record { dots = λ d. saw-told (saw-so (c.at.ensures.sees d) c.if-not-at.false and (saw-before c.at.ensures.peeks.same (saw-so (c.at_joint.ensures.sees d) c.if-not-at_joint.false) and (saw-before c.at.ensures.peeks.same (saw-before c.at_joint.ensures.same (saw-so (c.at_second.ensures.sees d) c.if-not-at_second.true)) and nothing))) refl; dots_eq = λ d. saw-told (saw-so (c.at.ensures.sees d) c.if-not-at.false and (saw-before c.at.ensures.peeks.same (saw-so (c.at_joint.ensures.sees d) c.if-not-at_joint.false) and (saw-before c.at.ensures.peeks.same (saw-before c.at_joint.ensures.same (saw-so (c.at_second.ensures.sees d) c.if-not-at_second.true)) and nothing))) refl; some = tt }
 
-pub returns-then-not-at_second-clause-same : goal.returns-then-not-at_second-clause-same
-returns-then-not-at_second-clause-same c = (does-then c.at.ensures.same (does-then c.at_joint.ensures.same c.at_second.ensures.same))
+pub returns-then-not-at_second-clause-peeks : goal.returns-then-not-at_second-clause-peeks
+returns-then-not-at_second-clause-peeks c = peeks-within (peeks-then c.at.ensures.peeks (stays-then c.at_joint.ensures.same c.at_joint.ensures.stays c.at_second.ensures.peeks)) (omega arith)
 
 pub returns-then-at_joined_after-clause-mark : goal.returns-then-at_joined_after-clause-mark
 unfolding look_of begins_below whole rule items statements expressions patterns types paths there_at shift passes is_silent begins in_mode anew row one_of any_of no_longer longest is_longer operators_at operators
-returns-then-at_joined_after-clause-mark c = record { dots = λ d. saw-told (saw-so (c.at.ensures.sees d) c.if-not-at.false and (saw-before c.at.ensures.same (saw-so (c.at_joint.ensures.sees d) c.if-not-at_joint.false) and (saw-before c.at.ensures.same (saw-before c.at_joint.ensures.same (saw-so (c.at_second.ensures.sees d) c.if-not-at_second.false)) and (saw-before c.at.ensures.same (saw-before c.at_joint.ensures.same (saw-before c.at_second.ensures.same (saw-so (c.at_joined_after.ensures.sees d) c.if-at_joined_after.true))) and nothing)))) refl; dots_eq = λ d. saw-told (saw-so (c.at.ensures.sees d) c.if-not-at.false and (saw-before c.at.ensures.same (saw-so (c.at_joint.ensures.sees d) c.if-not-at_joint.false) and (saw-before c.at.ensures.same (saw-before c.at_joint.ensures.same (saw-so (c.at_second.ensures.sees d) c.if-not-at_second.false)) and (saw-before c.at.ensures.same (saw-before c.at_joint.ensures.same (saw-before c.at_second.ensures.same (saw-so (c.at_joined_after.ensures.sees d) c.if-at_joined_after.true))) and nothing)))) refl; some = omega (arith, c.at.ensures.left, c.at_joint.ensures.left, c.at_second.ensures.left, c.at_joined_after.ensures.some c.if-at_joined_after.true (no-end variants.EQ refl)) }
+returns-then-at_joined_after-clause-mark c = record { dots = λ d. saw-told (saw-so (c.at.ensures.sees d) c.if-not-at.false and (saw-before c.at.ensures.peeks.same (saw-so (c.at_joint.ensures.sees d) c.if-not-at_joint.false) and (saw-before c.at.ensures.peeks.same (saw-before c.at_joint.ensures.same (saw-so (c.at_second.ensures.sees d) c.if-not-at_second.false)) and (saw-before c.at.ensures.peeks.same (saw-before c.at_joint.ensures.same (saw-before c.at_second.ensures.peeks.same (saw-so (c.at_joined_after.ensures.sees d) c.if-at_joined_after.true))) and nothing)))) refl; dots_eq = λ d. saw-told (saw-so (c.at.ensures.sees d) c.if-not-at.false and (saw-before c.at.ensures.peeks.same (saw-so (c.at_joint.ensures.sees d) c.if-not-at_joint.false) and (saw-before c.at.ensures.peeks.same (saw-before c.at_joint.ensures.same (saw-so (c.at_second.ensures.sees d) c.if-not-at_second.false)) and (saw-before c.at.ensures.peeks.same (saw-before c.at_joint.ensures.same (saw-before c.at_second.ensures.peeks.same (saw-so (c.at_joined_after.ensures.sees d) c.if-at_joined_after.true))) and nothing)))) refl; some = omega (arith, c.at.ensures.peeks.left, c.at_joint.ensures.stays.left, c.at_second.ensures.peeks.left, c.at_joined_after.ensures.some c.if-at_joined_after.true (no-end variants.EQ refl)) }
 
-pub returns-then-at_joined_after-clause-same : goal.returns-then-at_joined_after-clause-same
-returns-then-at_joined_after-clause-same c = (does-then c.at.ensures.same (does-then c.at_joint.ensures.same (does-then c.at_second.ensures.same c.at_joined_after.ensures.same)))
+pub returns-then-at_joined_after-clause-peeks : goal.returns-then-at_joined_after-clause-peeks
+returns-then-at_joined_after-clause-peeks c = peeks-then c.at.ensures.peeks (stays-then c.at_joint.ensures.same c.at_joint.ensures.stays (peeks-then c.at_second.ensures.peeks c.at_joined_after.ensures.peeks))
 
 pub returns-clause-mark : goal.returns-clause-mark
 unfolding look_of begins_below whole rule items statements expressions patterns types paths there_at shift passes is_silent begins in_mode anew row one_of any_of no_longer longest is_longer operators_at operators
-returns-clause-mark c = record { dots = λ d. saw-told (saw-so (c.at.ensures.sees d) c.if-not-at.false and (saw-before c.at.ensures.same (saw-so (c.at_joint.ensures.sees d) c.if-not-at_joint.false) and (saw-before c.at.ensures.same (saw-before c.at_joint.ensures.same (saw-so (c.at_second.ensures.sees d) c.if-not-at_second.false)) and (saw-before c.at.ensures.same (saw-before c.at_joint.ensures.same (saw-before c.at_second.ensures.same (saw-so (c.at_joined_after.ensures.sees d) c.if-at_joined_after.false))) and nothing)))) refl; dots_eq = λ d. saw-told (saw-so (c.at.ensures.sees d) c.if-not-at.false and (saw-before c.at.ensures.same (saw-so (c.at_joint.ensures.sees d) c.if-not-at_joint.false) and (saw-before c.at.ensures.same (saw-before c.at_joint.ensures.same (saw-so (c.at_second.ensures.sees d) c.if-not-at_second.false)) and (saw-before c.at.ensures.same (saw-before c.at_joint.ensures.same (saw-before c.at_second.ensures.same (saw-so (c.at_joined_after.ensures.sees d) c.if-at_joined_after.false))) and nothing)))) refl; some = omega (arith, c.at.ensures.left, c.at_joint.ensures.left, c.at_second.ensures.some c.if-not-at_second.false (no-end variants.DOT refl)) }
+returns-clause-mark c = record { dots = λ d. saw-told (saw-so (c.at.ensures.sees d) c.if-not-at.false and (saw-before c.at.ensures.peeks.same (saw-so (c.at_joint.ensures.sees d) c.if-not-at_joint.false) and (saw-before c.at.ensures.peeks.same (saw-before c.at_joint.ensures.same (saw-so (c.at_second.ensures.sees d) c.if-not-at_second.false)) and (saw-before c.at.ensures.peeks.same (saw-before c.at_joint.ensures.same (saw-before c.at_second.ensures.peeks.same (saw-so (c.at_joined_after.ensures.sees d) c.if-at_joined_after.false))) and nothing)))) refl; dots_eq = λ d. saw-told (saw-so (c.at.ensures.sees d) c.if-not-at.false and (saw-before c.at.ensures.peeks.same (saw-so (c.at_joint.ensures.sees d) c.if-not-at_joint.false) and (saw-before c.at.ensures.peeks.same (saw-before c.at_joint.ensures.same (saw-so (c.at_second.ensures.sees d) c.if-not-at_second.false)) and (saw-before c.at.ensures.peeks.same (saw-before c.at_joint.ensures.same (saw-before c.at_second.ensures.peeks.same (saw-so (c.at_joined_after.ensures.sees d) c.if-at_joined_after.false))) and nothing)))) refl; some = omega (arith, c.at.ensures.peeks.left, c.at_joint.ensures.stays.left, c.at_second.ensures.some c.if-not-at_second.false (no-end variants.DOT refl)) }
 
-pub returns-clause-same : goal.returns-clause-same
-returns-clause-same c = (does-then c.at.ensures.same (does-then c.at_joint.ensures.same (does-then c.at_second.ensures.same c.at_joined_after.ensures.same)))
+pub returns-clause-peeks : goal.returns-clause-peeks
+returns-clause-peeks c = peeks-then c.at.ensures.peeks (stays-then c.at_joint.ensures.same c.at_joint.ensures.stays (peeks-then c.at_second.ensures.peeks c.at_joined_after.ensures.peeks))

@@ -11,8 +11,8 @@ token-requires-clause-left c = enough-left c.args.operator.width c.args.p.now (c
 pub returns-clause-reads : goal.returns-clause-reads
 returns-clause-reads c = λ d. record { does = does-as (λ s e. sym (c.requires.next.reads d s c.requires.is e)) (does-token _ c.args.operator.width _ _ c.token.ensures.nodes c.token.ensures.same) }
 
-pub returns-clause-left : goal.returns-clause-left
-returns-clause-left c = omega (arith, (c.requires.next.some c.requires.is).0, fewer-tokens c.args.operator.width _ _ c.token.ensures.same (c.requires.next.some c.requires.is).1)
-
-pub returns-clause-looks : goal.returns-clause-looks
-returns-clause-looks c = omega (arith, (c.requires.next.some c.requires.is).0, paid-looks c.args.operator.width _ _ c.token.ensures.same (c.requires.next.some c.requires.is).1)
+pub returns-clause-takes : goal.returns-clause-takes
+returns-clause-takes c = record {
+  left = omega (arith, (c.requires.next.some c.requires.is).0, fewer-tokens c.args.operator.width _ _ c.token.ensures.same (c.requires.next.some c.requires.is).1);
+  looks = omega (arith, (c.requires.next.some c.requires.is).0, paid-looks c.args.operator.width _ _ c.token.ensures.same (c.requires.next.some c.requires.is).1);
+}

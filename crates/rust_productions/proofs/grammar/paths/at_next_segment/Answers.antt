@@ -10,10 +10,10 @@ use Rattle.rust_grammar.specs.Rule.{begins, in_mode, anew, is_silent, passes, sh
 use Rattle.rust_grammar.specs.Statements.{statements}
 use Rattle.rust_grammar.specs.Types.{types}
 use Rattle.rust_grammar.specs.Whole.{rule, whole}
-use Rattle.rust_productions.proofs.ByHand.{does-then}
 use Rattle.rust_productions.proofs.Facts.{nothing, saw-so, ◌and◌}
 use Rattle.rust_productions.proofs.Looking.{saw-arm, saw-not}
 use Rattle.rust_productions.proofs.Seen.{saw-before, saw-told}
+use Rattle.rust_productions.proofs.Peeking.{peeks-then}
 use Rattle.rust_productions.proofs.grammar.paths.at_next_segment.Goals as goal
 
 pub returns-then-not-at_colons-clause-sees : goal.returns-then-not-at_colons-clause-sees
@@ -22,14 +22,14 @@ returns-then-not-at_colons-clause-sees c cond = saw-told (saw-so (c.at_colons.en
 
 pub returns-in-STAR-clause-sees : goal.returns-in-STAR-clause-sees
 unfolding look_of begins_below whole rule items statements expressions patterns types paths there_at shift passes is_silent begins in_mode anew row one_of any_of no_longer longest is_longer
-returns-in-STAR-clause-sees c cond = elim c.in-STAR.is [ inl a0 ↦ saw-told (saw-so (c.at_colons.ensures.sees cond) c.if-not-at_colons.false and saw-before c.at_colons.ensures.same (saw-arm a0 (c.nth.ensures.sees cond)) and nothing) refl | inr b0 ↦ saw-told (saw-so (c.at_colons.ensures.sees cond) c.if-not-at_colons.false and saw-before c.at_colons.ensures.same (saw-arm b0 (c.nth.ensures.sees cond)) and nothing) refl ]
+returns-in-STAR-clause-sees c cond = elim c.in-STAR.is [ inl a0 ↦ saw-told (saw-so (c.at_colons.ensures.sees cond) c.if-not-at_colons.false and saw-before c.at_colons.ensures.peeks.same (saw-arm a0 (c.nth.ensures.sees cond)) and nothing) refl | inr b0 ↦ saw-told (saw-so (c.at_colons.ensures.sees cond) c.if-not-at_colons.false and saw-before c.at_colons.ensures.peeks.same (saw-arm b0 (c.nth.ensures.sees cond)) and nothing) refl ]
 
-pub returns-in-STAR-clause-same : goal.returns-in-STAR-clause-same
-returns-in-STAR-clause-same c = does-then c.at_colons.ensures.same (c.nth.ensures.same)
+pub returns-in-STAR-clause-peeks : goal.returns-in-STAR-clause-peeks
+returns-in-STAR-clause-peeks c = peeks-then c.at_colons.ensures.peeks c.nth.ensures.peeks
 
 pub returns-in_default-clause-sees : goal.returns-in_default-clause-sees
 unfolding look_of begins_below whole rule items statements expressions patterns types paths there_at shift passes is_silent begins in_mode anew row one_of any_of no_longer longest is_longer
-returns-in_default-clause-sees c cond = saw-told (saw-so (c.at_colons.ensures.sees cond) c.if-not-at_colons.false and saw-before c.at_colons.ensures.same (saw-not c.in_default.not-STAR (c.nth.ensures.sees cond)) and saw-before c.at_colons.ensures.same (saw-not c.in_default.not-L_CURLY (c.nth.ensures.sees cond)) and nothing) refl
+returns-in_default-clause-sees c cond = saw-told (saw-so (c.at_colons.ensures.sees cond) c.if-not-at_colons.false and saw-before c.at_colons.ensures.peeks.same (saw-not c.in_default.not-STAR (c.nth.ensures.sees cond)) and saw-before c.at_colons.ensures.peeks.same (saw-not c.in_default.not-L_CURLY (c.nth.ensures.sees cond)) and nothing) refl
 
-pub returns-in_default-clause-same : goal.returns-in_default-clause-same
-returns-in_default-clause-same c = does-then c.at_colons.ensures.same (c.nth.ensures.same)
+pub returns-in_default-clause-peeks : goal.returns-in_default-clause-peeks
+returns-in_default-clause-peeks c = peeks-then c.at_colons.ensures.peeks c.nth.ensures.peeks

@@ -21,8 +21,8 @@ complete-requires c = (c.name_ref.ensures.gives true).does.innermost _ (c.start-
 
 pub returns-then-at_name_ref-clause-reads : goal.returns-then-at_name_ref-clause-reads
 unfolding look_of begins_below whole rule items statements expressions patterns types paths there_at shift passes is_silent begins in_mode anew row one_of any_of no_longer longest is_longer
-returns-then-at_name_ref-clause-reads c cond = reads-here (begun rules.name_ref (saw-so (c.at_name_ref.ensures.sees cond) c.if-at_name_ref.true) (nothing)) (after-look cond c.at_name_ref.ensures.same (reads-node cond c.start-segment.ensures.opens (reads-then cond (reads-call cond (c.name_ref.ensures.gives cond)) (reads-nothing cond (does-nothing _))) c.complete.ensures.closes))
+returns-then-at_name_ref-clause-reads c cond = reads-here (begun rules.name_ref (saw-so (c.at_name_ref.ensures.sees cond) c.if-at_name_ref.true) (nothing)) (after-look cond c.at_name_ref.ensures.peeks.same (reads-node cond c.start-segment.ensures.opens (reads-then cond (reads-call cond (c.name_ref.ensures.gives cond)) (reads-nothing cond (does-nothing _))) c.complete.ensures.closes))
 
 pub returns-clause-reads : goal.returns-clause-reads
 unfolding look_of begins_below whole rule items statements expressions patterns types paths there_at shift passes is_silent begins in_mode anew row one_of any_of no_longer longest is_longer
-returns-clause-reads c cond = reads-here (begun rules.name_ref (saw-so (c.at_name_ref.ensures.sees cond) c.if-at_name_ref.false) (nothing)) (after-look cond c.at_name_ref.ensures.same ((c.error.ensures.reads cond)))
+returns-clause-reads c cond = reads-here (begun rules.name_ref (saw-so (c.at_name_ref.ensures.sees cond) c.if-at_name_ref.false) (nothing)) (after-look cond c.at_name_ref.ensures.peeks.same ((c.error.ensures.reads cond)))

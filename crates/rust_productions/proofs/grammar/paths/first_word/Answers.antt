@@ -19,8 +19,8 @@ use Rattle.rust_productions.proofs.grammar.paths.first_word.Goals as goal
 
 pub returns-then-at_colons-clause-reads : goal.returns-then-at_colons-clause-reads
 unfolding look_of begins_below whole rule items statements expressions patterns types paths there_at shift passes is_silent begins in_mode anew row one_of any_of no_longer longest is_longer
-returns-then-at_colons-clause-reads c cond = reads-here (saw-so (c.at_colons.ensures.sees cond) c.if-at_colons.true and nothing) (after-look cond c.at_colons.ensures.same (reads-then cond ((c.take_pair.ensures.reads cond _ _)) (reads-then cond ((c.expect_name_ref.ensures.reads cond)) (reads-nothing cond (does-nothing _)))))
+returns-then-at_colons-clause-reads c cond = reads-here (saw-so (c.at_colons.ensures.sees cond) c.if-at_colons.true and nothing) (after-look cond c.at_colons.ensures.peeks.same (reads-then cond ((c.take_pair.ensures.reads cond _ _)) (reads-then cond ((c.expect_name_ref.ensures.reads cond)) (reads-nothing cond (does-nothing _)))))
 
 pub returns-clause-reads : goal.returns-clause-reads
 unfolding look_of begins_below whole rule items statements expressions patterns types paths there_at shift passes is_silent begins in_mode anew row one_of any_of no_longer longest is_longer
-returns-clause-reads c cond = reads-here (begun rules.name_ref (begins-else rules.name_ref rules.path refl (saw-so (c.at_colons.ensures.sees cond) c.if-at_colons.false and nothing) (c.requires.begins cond) refl) (saw-so (c.at_colons.ensures.sees cond) c.if-at_colons.false and nothing)) (after-look cond c.at_colons.ensures.same (reads-then cond (reads-call cond (c.name_ref.ensures.gives cond)) (reads-nothing cond (does-nothing _))))
+returns-clause-reads c cond = reads-here (begun rules.name_ref (begins-else rules.name_ref rules.path refl (saw-so (c.at_colons.ensures.sees cond) c.if-at_colons.false and nothing) (c.requires.begins cond) refl) (saw-so (c.at_colons.ensures.sees cond) c.if-at_colons.false and nothing)) (after-look cond c.at_colons.ensures.peeks.same (reads-then cond (reads-call cond (c.name_ref.ensures.gives cond)) (reads-nothing cond (does-nothing _))))

@@ -28,20 +28,24 @@ turns-init c = (λ cond. first-turn, omega arith, omega arith, c.requires)
 
 pub turns-preserved : goal.turns-preserved
 unfolding tokens look_of begins_below whole rule items statements expressions patterns types paths there_at shift passes is_silent begins in_mode anew row one_of any_of no_longer longest is_longer
-turns-preserved c = (λ cond. next-turn cond (Unless colons_before_more (PATH <⟨ One '::' ▸ (PATH_SEGMENT ⟨ Ref ▸ Nothing ⟩) ! ⟩)) (ends-at-end cond (Unless colons_before_more (PATH <⟨ One '::' ▸ (PATH_SEGMENT ⟨ Ref ▸ Nothing ⟩) ! ⟩)) refl) _ _ _ (c.turns.invariant.0 cond) (saw-so (c.at_next_segment.ensures.sees cond) c.turns-test.true) (after-look cond c.at_next_segment.ensures.same (reads-unless cond ((c.next_segment-path.ensures.reads cond)))) (omega (arith, c.next_segment-path.ensures.left, c.at_next_segment.ensures.left)), omega (arith, c.turns.invariant.1), omega (arith, c.turns.invariant.2), c.next_segment-path.ensures.marker)
+turns-preserved c = (λ cond. next-turn cond (Unless colons_before_more (PATH <⟨ One '::' ▸ (PATH_SEGMENT ⟨ Ref ▸ Nothing ⟩) ! ⟩)) (ends-at-end cond (Unless colons_before_more (PATH <⟨ One '::' ▸ (PATH_SEGMENT ⟨ Ref ▸ Nothing ⟩) ! ⟩)) refl) _ _ _ (c.turns.invariant.0 cond) (saw-so (c.at_next_segment.ensures.sees cond) c.turns-test.true) (after-look cond c.at_next_segment.ensures.peeks.same (reads-unless cond ((c.next_segment-path.ensures.reads cond)))) (omega (arith, c.next_segment-path.ensures.takes.left, c.at_next_segment.ensures.peeks.left)), omega (arith, c.turns.invariant.1), omega (arith, c.turns.invariant.2), c.next_segment-path.ensures.takes.marker)
 
 pub returns-clause-reads : goal.returns-clause-reads
 unfolding tokens look_of begins_below whole rule items statements expressions patterns types paths there_at shift passes is_silent begins in_mode anew row one_of any_of no_longer longest is_longer
-returns-clause-reads c cond = last-turn cond (Unless colons_before_more (PATH <⟨ One '::' ▸ (PATH_SEGMENT ⟨ Ref ▸ Nothing ⟩) ! ⟩)) (ends-at-end cond (Unless colons_before_more (PATH <⟨ One '::' ▸ (PATH_SEGMENT ⟨ Ref ▸ Nothing ⟩) ! ⟩)) refl) _ _ _ (c.turns.invariant.0 cond) (saw-so (c.at_next_segment.ensures.sees cond) c.turns-test.false) c.at_next_segment.ensures.same
+returns-clause-reads c cond = last-turn cond (Unless colons_before_more (PATH <⟨ One '::' ▸ (PATH_SEGMENT ⟨ Ref ▸ Nothing ⟩) ! ⟩)) (ends-at-end cond (Unless colons_before_more (PATH <⟨ One '::' ▸ (PATH_SEGMENT ⟨ Ref ▸ Nothing ⟩) ! ⟩)) refl) _ _ _ (c.turns.invariant.0 cond) (saw-so (c.at_next_segment.ensures.sees cond) c.turns-test.false) c.at_next_segment.ensures.peeks.same
 
 pub next_segment-path-requires-clause-innermost : goal.next_segment-path-requires-clause-innermost
-next_segment-path-requires-clause-innermost c = c.at_next_segment.ensures.same.innermost _ c.turns.invariant.3
+next_segment-path-requires-clause-innermost c = c.at_next_segment.ensures.peeks.same.innermost _ c.turns.invariant.3
 
-pub returns-clause-marker : goal.returns-clause-marker
-returns-clause-marker c = c.at_next_segment.ensures.same.innermost _ c.turns.invariant.3
+pub returns-clause-asks : goal.returns-clause-asks
+returns-clause-asks c = record {
+  left = omega arith;
+  looks = omega arith;
+  marker = c.at_next_segment.ensures.peeks.same.innermost _ c.turns.invariant.3;
+}
 
 pub next_segment-path-requires-clause-some : goal.next_segment-path-requires-clause-some
-next_segment-path-requires-clause-some c = omega (arith, c.at_next_segment.ensures.some c.turns-test.true, c.at_next_segment.ensures.left)
+next_segment-path-requires-clause-some c = omega (arith, c.at_next_segment.ensures.some c.turns-test.true, c.at_next_segment.ensures.peeks.left)
 
 pub returns-clause-ends : goal.returns-clause-ends
-returns-clause-ends c cond = saw-after c.at_next_segment.ensures.same (saw-so (c.at_next_segment.ensures.sees cond) c.turns-test.false)
+returns-clause-ends c cond = saw-after c.at_next_segment.ensures.peeks.same (saw-so (c.at_next_segment.ensures.sees cond) c.turns-test.false)

@@ -16,13 +16,13 @@ use Rattle.rust_productions.proofs.Seen.{saw-inside, saw-left-out}
 use Rattle.rust_productions.proofs.grammar.paths.path.Goals as goal
 
 pub first_segment-requires-clause-begins : goal.first_segment-requires-clause-begins
-first_segment-requires-clause-begins c cond = saw-inside c.start-frame.ensures.opens (c.requires.begins cond)
+first_segment-requires-clause-begins c cond = saw-inside c.start-frame.ensures.opens (c.requires.begins.sees cond)
 
 pub next_segments-frame-requires : goal.next_segments-frame-requires
 next_segments-frame-requires c = (c.first_segment.ensures.reads true).does.innermost _ (c.start-frame.ensures.marker)
 
 pub abandon-requires : goal.abandon-requires
-abandon-requires c = c.next_segments-frame.ensures.marker
+abandon-requires c = c.next_segments-frame.ensures.asks.marker
 
 pub returns-clause-gives : goal.returns-clause-gives
 unfolding look_of begins_below whole rule items statements expressions patterns types paths there_at shift passes is_silent begins in_mode anew row one_of any_of no_longer longest is_longer

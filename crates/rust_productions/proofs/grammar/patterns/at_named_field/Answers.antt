@@ -10,10 +10,10 @@ use Rattle.rust_grammar.specs.Rule.{begins, in_mode, anew, is_silent, passes, sh
 use Rattle.rust_grammar.specs.Statements.{statements}
 use Rattle.rust_grammar.specs.Types.{types}
 use Rattle.rust_grammar.specs.Whole.{rule, whole}
-use Rattle.rust_productions.proofs.ByHand.{does-then}
 use Rattle.rust_productions.proofs.Facts.{nothing, saw-so, ◌and◌}
 use Rattle.rust_productions.proofs.Looking.{left-arm, saw-arm, saw-not}
 use Rattle.rust_productions.proofs.Seen.{saw-before, saw-told}
+use Rattle.rust_productions.proofs.Peeking.{peeks-then}
 use Rattle.rust_productions.proofs.grammar.patterns.at_named_field.Goals as goal
 
 pub returns-then-not-at_second-clause-sees : goal.returns-then-not-at_second-clause-sees
@@ -22,14 +22,14 @@ returns-then-not-at_second-clause-sees c cond = saw-told (saw-so (c.at_second.en
 
 pub returns-in-IDENT-clause-sees : goal.returns-in-IDENT-clause-sees
 unfolding look_of begins_below whole rule items statements expressions patterns types paths there_at shift passes is_silent begins in_mode anew row one_of any_of no_longer longest is_longer
-returns-in-IDENT-clause-sees c cond = elim c.in-IDENT.is [ inl a0 ↦ saw-told (saw-so (c.at_second.ensures.sees cond) c.if-not-at_second.false and saw-before c.at_second.ensures.same (left-arm a0 (c.current.ensures.end cond)) and saw-before c.at_second.ensures.same (saw-arm a0 (c.current.ensures.sees cond)) and nothing) refl | inr b0 ↦ saw-told (saw-so (c.at_second.ensures.sees cond) c.if-not-at_second.false and saw-before c.at_second.ensures.same (left-arm b0 (c.current.ensures.end cond)) and saw-before c.at_second.ensures.same (saw-arm b0 (c.current.ensures.sees cond)) and nothing) refl ]
+returns-in-IDENT-clause-sees c cond = elim c.in-IDENT.is [ inl a0 ↦ saw-told (saw-so (c.at_second.ensures.sees cond) c.if-not-at_second.false and saw-before c.at_second.ensures.peeks.same (left-arm a0 (c.current.ensures.end cond)) and saw-before c.at_second.ensures.peeks.same (saw-arm a0 (c.current.ensures.sees cond)) and nothing) refl | inr b0 ↦ saw-told (saw-so (c.at_second.ensures.sees cond) c.if-not-at_second.false and saw-before c.at_second.ensures.peeks.same (left-arm b0 (c.current.ensures.end cond)) and saw-before c.at_second.ensures.peeks.same (saw-arm b0 (c.current.ensures.sees cond)) and nothing) refl ]
 
-pub returns-in-IDENT-clause-same : goal.returns-in-IDENT-clause-same
-returns-in-IDENT-clause-same c = does-then c.at_second.ensures.same (c.current.ensures.same)
+pub returns-in-IDENT-clause-peeks : goal.returns-in-IDENT-clause-peeks
+returns-in-IDENT-clause-peeks c = peeks-then c.at_second.ensures.peeks c.current.ensures.peeks
 
 pub returns-in_default-clause-sees : goal.returns-in_default-clause-sees
 unfolding look_of begins_below whole rule items statements expressions patterns types paths there_at shift passes is_silent begins in_mode anew row one_of any_of no_longer longest is_longer
-returns-in_default-clause-sees c cond = saw-told (saw-so (c.at_second.ensures.sees cond) c.if-not-at_second.false and saw-before c.at_second.ensures.same (saw-not c.in_default.not-IDENT (c.current.ensures.sees cond)) and saw-before c.at_second.ensures.same (saw-not c.in_default.not-INT_NUMBER (c.current.ensures.sees cond)) and nothing) refl
+returns-in_default-clause-sees c cond = saw-told (saw-so (c.at_second.ensures.sees cond) c.if-not-at_second.false and saw-before c.at_second.ensures.peeks.same (saw-not c.in_default.not-IDENT (c.current.ensures.sees cond)) and saw-before c.at_second.ensures.peeks.same (saw-not c.in_default.not-INT_NUMBER (c.current.ensures.sees cond)) and nothing) refl
 
-pub returns-in_default-clause-same : goal.returns-in_default-clause-same
-returns-in_default-clause-same c = does-then c.at_second.ensures.same (c.current.ensures.same)
+pub returns-in_default-clause-peeks : goal.returns-in_default-clause-peeks
+returns-in_default-clause-peeks c = peeks-then c.at_second.ensures.peeks c.current.ensures.peeks

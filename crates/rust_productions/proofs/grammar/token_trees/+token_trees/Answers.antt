@@ -26,11 +26,11 @@ use Rattle.rust_productions.proofs.grammar.token_trees.+token_trees.Goals as goa
 
 pub inner-returns-then-at_token_tree-clause-reads : goal.inner-returns-then-at_token_tree-clause-reads
 unfolding look_of begins_below whole rule items statements expressions patterns types paths there_at shift passes is_silent begins in_mode anew row one_of any_of no_longer longest is_longer
-inner-returns-then-at_token_tree-clause-reads t c cond = reads-here (begun rules.token_tree (saw-so (c.at_token_tree.ensures.sees cond) c.if-at_token_tree.true) (nothing)) (after-look cond c.at_token_tree.ensures.same (reads-call cond (c.token_tree.ensures.gives cond)))
+inner-returns-then-at_token_tree-clause-reads t c cond = reads-here (begun rules.token_tree (saw-so (c.at_token_tree.ensures.sees cond) c.if-at_token_tree.true) (nothing)) (after-look cond c.at_token_tree.ensures.peeks.same (reads-call cond (c.token_tree.ensures.gives cond)))
 
 pub inner-returns-clause-reads : goal.inner-returns-clause-reads
 unfolding look_of begins_below whole rule items statements expressions patterns types paths there_at shift passes is_silent begins in_mode anew row one_of any_of no_longer longest is_longer
-inner-returns-clause-reads t c cond = reads-here (begun rules.token_tree (saw-so (c.at_token_tree.ensures.sees cond) c.if-at_token_tree.false) (nothing)) (after-look cond c.at_token_tree.ensures.same ((c.take_any.ensures.reads cond)))
+inner-returns-clause-reads t c cond = reads-here (begun rules.token_tree (saw-so (c.at_token_tree.ensures.sees cond) c.if-at_token_tree.false) (nothing)) (after-look cond c.at_token_tree.ensures.peeks.same ((c.take_any.ensures.reads cond)))
 
 pub bracketed-complete-requires : goal.bracketed-complete-requires
 bracketed-complete-requires t c = (c.expect.ensures.reads true).does.innermost _ ((c.inner_tokens.ensures.reads true).does.innermost _ ((c.take.ensures.reads true).does.innermost _ (c.start-tree.ensures.marker)))
@@ -41,26 +41,26 @@ bracketed-returns-clause-reads t c cond = reads-node cond c.start-tree.ensures.o
 
 pub token_tree-returns-in-L_PAREN-clause-gives : goal.token_tree-returns-in-L_PAREN-clause-gives
 unfolding look_of begins_below whole rule items statements expressions patterns types paths there_at shift passes is_silent begins in_mode anew row one_of any_of no_longer longest is_longer
-token_tree-returns-in-L_PAREN-clause-gives t c cond = gives-anew (anew-here (left-arm c.in-L_PAREN.is (c.current.ensures.end cond) and saw-arm c.in-L_PAREN.is (c.current.ensures.sees cond) and nothing) (anew-after refl (after-look cond c.current.ensures.same ((c.bracketed.ensures.reads cond)))))
+token_tree-returns-in-L_PAREN-clause-gives t c cond = gives-anew (anew-here (left-arm c.in-L_PAREN.is (c.current.ensures.end cond) and saw-arm c.in-L_PAREN.is (c.current.ensures.sees cond) and nothing) (anew-after refl (after-look cond c.current.ensures.peeks.same ((c.bracketed.ensures.reads cond)))))
 
 pub token_tree-returns-in-L_BRACK-clause-gives : goal.token_tree-returns-in-L_BRACK-clause-gives
 unfolding look_of begins_below whole rule items statements expressions patterns types paths there_at shift passes is_silent begins in_mode anew row one_of any_of no_longer longest is_longer
-token_tree-returns-in-L_BRACK-clause-gives t c cond = gives-anew (anew-here (left-arm c.in-L_BRACK.is (c.current.ensures.end cond) and saw-arm c.in-L_BRACK.is (c.current.ensures.sees cond) and nothing) (anew-after refl (after-look cond c.current.ensures.same ((c.bracketed-in-L_BRACK.ensures.reads cond)))))
+token_tree-returns-in-L_BRACK-clause-gives t c cond = gives-anew (anew-here (left-arm c.in-L_BRACK.is (c.current.ensures.end cond) and saw-arm c.in-L_BRACK.is (c.current.ensures.sees cond) and nothing) (anew-after refl (after-look cond c.current.ensures.peeks.same ((c.bracketed-in-L_BRACK.ensures.reads cond)))))
 
 pub token_tree-returns-in_default-clause-gives : goal.token_tree-returns-in_default-clause-gives
 unfolding look_of begins_below whole rule items statements expressions patterns types paths there_at shift passes is_silent begins in_mode anew row one_of any_of no_longer longest is_longer
-token_tree-returns-in_default-clause-gives t c cond = gives-anew (anew-here (saw-not c.in_default.not-L_PAREN (c.current.ensures.sees cond) and saw-not c.in_default.not-L_BRACK (c.current.ensures.sees cond) and nothing) (anew-after refl (after-look cond c.current.ensures.same ((c.bracketed-in_default.ensures.reads cond)))))
+token_tree-returns-in_default-clause-gives t c cond = gives-anew (anew-here (saw-not c.in_default.not-L_PAREN (c.current.ensures.sees cond) and saw-not c.in_default.not-L_BRACK (c.current.ensures.sees cond) and nothing) (anew-after refl (after-look cond c.current.ensures.peeks.same ((c.bracketed-in_default.ensures.reads cond)))))
 
 pub inner_tokens-turns-init : goal.inner_tokens-turns-init
 inner_tokens-turns-init t c = (λ cond. first-turn, omega arith, omega arith)
 
 pub inner_tokens-turns-preserved : goal.inner_tokens-turns-preserved
 unfolding tokens look_of begins_below whole rule items statements expressions patterns types paths there_at shift passes is_silent begins in_mode anew row one_of any_of no_longer longest is_longer
-inner_tokens-turns-preserved t c = (λ cond. next-turn cond (TokenTree or When (Both Left (Not (one_of 0 ('r_paren' ∷ 'r_curly' ∷ ']' ∷ [])))) Any) (ends-at-end cond (TokenTree or When (Both Left (Not (one_of 0 ('r_paren' ∷ 'r_curly' ∷ ']' ∷ [])))) Any) refl) _ _ _ (c.turns.invariant.0 cond) (saw-so (c.at_inner.ensures.sees cond) c.turns-test.true) (after-look cond c.at_inner.ensures.same ((c.inner.ensures.reads cond))) (omega (arith, c.inner.ensures.left, c.at_inner.ensures.left)), omega (arith, c.turns.invariant.1), omega (arith, c.turns.invariant.2))
+inner_tokens-turns-preserved t c = (λ cond. next-turn cond (TokenTree or When (Both Left (Not (one_of 0 ('r_paren' ∷ 'r_curly' ∷ ']' ∷ [])))) Any) (ends-at-end cond (TokenTree or When (Both Left (Not (one_of 0 ('r_paren' ∷ 'r_curly' ∷ ']' ∷ [])))) Any) refl) _ _ _ (c.turns.invariant.0 cond) (saw-so (c.at_inner.ensures.sees cond) c.turns-test.true) (after-look cond c.at_inner.ensures.peeks.same ((c.inner.ensures.reads cond))) (omega (arith, c.inner.ensures.takes.left, c.at_inner.ensures.peeks.left)), omega (arith, c.turns.invariant.1), omega (arith, c.turns.invariant.2))
 
 pub inner_tokens-returns-clause-reads : goal.inner_tokens-returns-clause-reads
 unfolding tokens look_of begins_below whole rule items statements expressions patterns types paths there_at shift passes is_silent begins in_mode anew row one_of any_of no_longer longest is_longer
-inner_tokens-returns-clause-reads t c cond = last-turn cond (TokenTree or When (Both Left (Not (one_of 0 ('r_paren' ∷ 'r_curly' ∷ ']' ∷ [])))) Any) (ends-at-end cond (TokenTree or When (Both Left (Not (one_of 0 ('r_paren' ∷ 'r_curly' ∷ ']' ∷ [])))) Any) refl) _ _ _ (c.turns.invariant.0 cond) (saw-so (c.at_inner.ensures.sees cond) c.turns-test.false) c.at_inner.ensures.same
+inner_tokens-returns-clause-reads t c cond = last-turn cond (TokenTree or When (Both Left (Not (one_of 0 ('r_paren' ∷ 'r_curly' ∷ ']' ∷ [])))) Any) (ends-at-end cond (TokenTree or When (Both Left (Not (one_of 0 ('r_paren' ∷ 'r_curly' ∷ ']' ∷ [])))) Any) refl) _ _ _ (c.turns.invariant.0 cond) (saw-so (c.at_inner.ensures.sees cond) c.turns-test.false) c.at_inner.ensures.peeks.same
 
 pub inner_tokens-inner-requires : goal.inner_tokens-inner-requires
-inner_tokens-inner-requires t c = omega (arith, c.at_inner.ensures.some c.turns-test.true, c.at_inner.ensures.left)
+inner_tokens-inner-requires t c = omega (arith, c.at_inner.ensures.some c.turns-test.true, c.at_inner.ensures.peeks.left)

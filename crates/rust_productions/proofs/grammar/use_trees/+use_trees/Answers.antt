@@ -30,26 +30,26 @@ use Rattle.rust_productions.proofs.grammar.use_trees.+use_trees.Goals as goal
 
 pub star_or_list-returns-then-at-clause-reads : goal.star_or_list-returns-then-at-clause-reads
 unfolding look_of begins_below whole rule items statements expressions patterns types paths there_at shift passes is_silent begins in_mode anew row one_of any_of no_longer longest is_longer
-star_or_list-returns-then-at-clause-reads t c cond = reads-here (saw-so (c.at.ensures.sees cond) c.if-at.true and nothing) (after-look cond c.at.ensures.same ((c.take.ensures.reads cond)))
+star_or_list-returns-then-at-clause-reads t c cond = reads-here (saw-so (c.at.ensures.sees cond) c.if-at.true and nothing) (after-look cond c.at.ensures.peeks.same ((c.take.ensures.reads cond)))
 
 pub star_or_list-returns-clause-reads : goal.star_or_list-returns-clause-reads
 unfolding look_of begins_below whole rule items statements expressions patterns types paths there_at shift passes is_silent begins in_mode anew row one_of any_of no_longer longest is_longer
-star_or_list-returns-clause-reads t c cond = reads-here (saw-so (c.at.ensures.sees cond) c.if-at.false and nothing) (after-look cond c.at.ensures.same (reads-call cond (c.use_list.ensures.gives cond)))
+star_or_list-returns-clause-reads t c cond = reads-here (saw-so (c.at.ensures.sees cond) c.if-at.false and nothing) (after-look cond c.at.ensures.peeks.same (reads-call cond (c.use_list.ensures.gives cond)))
 
 pub after_path-returns-then-at_colons_before_more-clause-reads : goal.after_path-returns-then-at_colons_before_more-clause-reads
 unfolding look_of begins_below whole rule items statements expressions patterns types paths there_at shift passes is_silent begins in_mode anew row one_of any_of no_longer longest is_longer
-after_path-returns-then-at_colons_before_more-clause-reads t c cond = reads-here (saw-left (saw-left (saw-so (c.at_colons_before_more.ensures.sees cond) c.if-at_colons_before_more.true)) and saw-so (c.at_colons_before_more.ensures.sees cond) c.if-at_colons_before_more.true and nothing) (after-look cond c.at_colons_before_more.ensures.same (reads-then cond ((c.take_pair.ensures.reads cond _ _)) ((c.star_or_list.ensures.reads cond))))
+after_path-returns-then-at_colons_before_more-clause-reads t c cond = reads-here (saw-left (saw-left (saw-so (c.at_colons_before_more.ensures.sees cond) c.if-at_colons_before_more.true)) and saw-so (c.at_colons_before_more.ensures.sees cond) c.if-at_colons_before_more.true and nothing) (after-look cond c.at_colons_before_more.ensures.peeks.same (reads-then cond ((c.take_pair.ensures.reads cond _ _)) ((c.star_or_list.ensures.reads cond))))
 
 pub after_path-returns-then-at-clause-reads : goal.after_path-returns-then-at-clause-reads
 unfolding look_of begins_below whole rule items statements expressions patterns types paths there_at shift passes is_silent begins in_mode anew row one_of any_of no_longer longest is_longer
-after_path-returns-then-at-clause-reads t c cond = reads-here (saw-so (c.at_colons_before_more.ensures.sees cond) c.if-at_colons_before_more.false and saw-before c.at_colons_before_more.ensures.same (saw-so (c.at.ensures.sees cond) c.if-at.true) and nothing) (after-look cond c.at_colons_before_more.ensures.same (after-look cond c.at.ensures.same ((c.rename.ensures.reads cond))))
+after_path-returns-then-at-clause-reads t c cond = reads-here (saw-so (c.at_colons_before_more.ensures.sees cond) c.if-at_colons_before_more.false and saw-before c.at_colons_before_more.ensures.peeks.same (saw-so (c.at.ensures.sees cond) c.if-at.true) and nothing) (after-look cond c.at_colons_before_more.ensures.peeks.same (after-look cond c.at.ensures.peeks.same ((c.rename.ensures.reads cond))))
 
 pub after_path-returns-else-at-clause-reads : goal.after_path-returns-else-at-clause-reads
 unfolding look_of begins_below whole rule items statements expressions patterns types paths there_at shift passes is_silent begins in_mode anew row one_of any_of no_longer longest is_longer
-after_path-returns-else-at-clause-reads t c cond = reads-here (saw-none (Both (Kind 0 COLON) (Both (Joint 0) (Kind 1 COLON))) (Both (Not colons_before_more) (Both (Kind 0 COLON) (Both (Joint 0) (Kind 1 COLON)))) (saw-so (c.at_colons_before_more.ensures.sees cond) c.if-at_colons_before_more.false and nothing) (c.requires.ends cond) refl and saw-before c.at_colons_before_more.ensures.same (saw-so (c.at.ensures.sees cond) c.if-at.false) and nothing) (reads-nothing cond (does-then c.at_colons_before_more.ensures.same c.at.ensures.same))
+after_path-returns-else-at-clause-reads t c cond = reads-here (saw-none (Both (Kind 0 COLON) (Both (Joint 0) (Kind 1 COLON))) (Both (Not colons_before_more) (Both (Kind 0 COLON) (Both (Joint 0) (Kind 1 COLON)))) (saw-so (c.at_colons_before_more.ensures.sees cond) c.if-at_colons_before_more.false and nothing) (c.requires.ends cond) refl and saw-before c.at_colons_before_more.ensures.peeks.same (saw-so (c.at.ensures.sees cond) c.if-at.false) and nothing) (reads-nothing cond (does-then c.at_colons_before_more.ensures.peeks.same c.at.ensures.peeks.same))
 
-pub path_tree-path-requires-clause-begins : goal.path_tree-path-requires-clause-begins
-path_tree-path-requires-clause-begins t c cond = c.requires.begins cond
+pub path_tree-path-requires : goal.path_tree-path-requires
+path_tree-path-requires t c = record { begins = record { sees = c.requires.begins; some = c.requires.some } }
 
 pub path_tree-returns-clause-reads : goal.path_tree-returns-clause-reads
 unfolding look_of begins_below whole rule items statements expressions patterns types paths there_at shift passes is_silent begins in_mode anew row one_of any_of no_longer longest is_longer
@@ -60,35 +60,35 @@ path_tree-after_path-requires t c = (omega arith, λ cond. c.path.ensures.ends c
 
 pub after_colons-returns-then-at-clause-reads : goal.after_colons-returns-then-at-clause-reads
 unfolding look_of begins_below whole rule items statements expressions patterns types paths there_at shift passes is_silent begins in_mode anew row one_of any_of no_longer longest is_longer
-after_colons-returns-then-at-clause-reads t c cond = reads-here (saw-so (c.at.ensures.sees cond) c.if-at.true and nothing) (after-look cond c.at.ensures.same ((c.take.ensures.reads cond)))
+after_colons-returns-then-at-clause-reads t c cond = reads-here (saw-so (c.at.ensures.sees cond) c.if-at.true and nothing) (after-look cond c.at.ensures.peeks.same ((c.take.ensures.reads cond)))
 
 pub after_colons-returns-clause-reads : goal.after_colons-returns-clause-reads
 unfolding look_of begins_below whole rule items statements expressions patterns types paths there_at shift passes is_silent begins in_mode anew row one_of any_of no_longer longest is_longer
-after_colons-returns-clause-reads t c cond = reads-here (saw-so (c.at.ensures.sees cond) c.if-at.false and saw-else (Kind 0 kinds.L_CURLY) (one_of 0 ('*' ∷ 'l_curly' ∷ [])) (saw-so (c.at.ensures.sees cond) c.if-at.false and nothing) (c.requires.next cond) refl and nothing) (after-look cond c.at.ensures.same (reads-call cond (c.use_list.ensures.gives cond)))
+after_colons-returns-clause-reads t c cond = reads-here (saw-so (c.at.ensures.sees cond) c.if-at.false and saw-else (Kind 0 kinds.L_CURLY) (one_of 0 ('*' ∷ 'l_curly' ∷ [])) (saw-so (c.at.ensures.sees cond) c.if-at.false and nothing) (c.requires.next cond) refl and nothing) (after-look cond c.at.ensures.peeks.same (reads-call cond (c.use_list.ensures.gives cond)))
 
 pub inside-returns-then-at_colons_before_more-clause-reads : goal.inside-returns-then-at_colons_before_more-clause-reads
 unfolding look_of begins_below whole rule items statements expressions patterns types paths there_at shift passes is_silent begins in_mode anew row one_of any_of no_longer longest is_longer
-inside-returns-then-at_colons_before_more-clause-reads t c cond = reads-here (saw-left (saw-left (saw-so (c.at_colons_before_more.ensures.sees cond) c.if-at_colons_before_more.true)) and saw-so (c.at_colons_before_more.ensures.sees cond) c.if-at_colons_before_more.true and nothing) (after-look cond c.at_colons_before_more.ensures.same (reads-then cond ((c.take_pair.ensures.reads cond _ _)) ((c.after_colons.ensures.reads cond))))
+inside-returns-then-at_colons_before_more-clause-reads t c cond = reads-here (saw-left (saw-left (saw-so (c.at_colons_before_more.ensures.sees cond) c.if-at_colons_before_more.true)) and saw-so (c.at_colons_before_more.ensures.sees cond) c.if-at_colons_before_more.true and nothing) (after-look cond c.at_colons_before_more.ensures.peeks.same (reads-then cond ((c.take_pair.ensures.reads cond _ _)) ((c.after_colons.ensures.reads cond))))
 
 pub inside-returns-in-STAR-clause-reads : goal.inside-returns-in-STAR-clause-reads
 unfolding look_of begins_below whole rule items statements expressions patterns types paths there_at shift passes is_silent begins in_mode anew row one_of any_of no_longer longest is_longer
-inside-returns-in-STAR-clause-reads t c cond = reads-here (saw-so (c.at_colons_before_more.ensures.sees cond) c.if-at_colons_before_more.false and saw-before c.at_colons_before_more.ensures.same (left-arm c.in-STAR.is (c.current.ensures.end cond)) and saw-before c.at_colons_before_more.ensures.same (saw-arm c.in-STAR.is (c.current.ensures.sees cond)) and nothing) (after-look cond c.at_colons_before_more.ensures.same (after-look cond c.current.ensures.same ((c.take.ensures.reads cond))))
+inside-returns-in-STAR-clause-reads t c cond = reads-here (saw-so (c.at_colons_before_more.ensures.sees cond) c.if-at_colons_before_more.false and saw-before c.at_colons_before_more.ensures.peeks.same (left-arm c.in-STAR.is (c.current.ensures.end cond)) and saw-before c.at_colons_before_more.ensures.peeks.same (saw-arm c.in-STAR.is (c.current.ensures.sees cond)) and nothing) (after-look cond c.at_colons_before_more.ensures.peeks.same (after-look cond c.current.ensures.peeks.same ((c.take.ensures.reads cond))))
 
 pub inside-returns-in-L_CURLY-clause-reads : goal.inside-returns-in-L_CURLY-clause-reads
 unfolding look_of begins_below whole rule items statements expressions patterns types paths there_at shift passes is_silent begins in_mode anew row one_of any_of no_longer longest is_longer
-inside-returns-in-L_CURLY-clause-reads t c cond = reads-here (begun rules.use_list (begins-else rules.use_list rules.use_tree refl (saw-so (c.at_colons_before_more.ensures.sees cond) c.if-at_colons_before_more.false and saw-before c.at_colons_before_more.ensures.same (left-arm c.in-L_CURLY.is (c.current.ensures.end cond)) and saw-before c.at_colons_before_more.ensures.same (saw-arm c.in-L_CURLY.is (c.current.ensures.sees cond)) and nothing) (c.requires.begins cond) refl) (saw-so (c.at_colons_before_more.ensures.sees cond) c.if-at_colons_before_more.false and saw-before c.at_colons_before_more.ensures.same (left-arm c.in-L_CURLY.is (c.current.ensures.end cond)) and saw-before c.at_colons_before_more.ensures.same (saw-arm c.in-L_CURLY.is (c.current.ensures.sees cond)) and nothing)) (after-look cond c.at_colons_before_more.ensures.same (after-look cond c.current.ensures.same (reads-call cond (c.use_list.ensures.gives cond))))
+inside-returns-in-L_CURLY-clause-reads t c cond = reads-here (begun rules.use_list (begins-else rules.use_list rules.use_tree refl (saw-so (c.at_colons_before_more.ensures.sees cond) c.if-at_colons_before_more.false and saw-before c.at_colons_before_more.ensures.peeks.same (left-arm c.in-L_CURLY.is (c.current.ensures.end cond)) and saw-before c.at_colons_before_more.ensures.peeks.same (saw-arm c.in-L_CURLY.is (c.current.ensures.sees cond)) and nothing) (c.requires.begins cond) refl) (saw-so (c.at_colons_before_more.ensures.sees cond) c.if-at_colons_before_more.false and saw-before c.at_colons_before_more.ensures.peeks.same (left-arm c.in-L_CURLY.is (c.current.ensures.end cond)) and saw-before c.at_colons_before_more.ensures.peeks.same (saw-arm c.in-L_CURLY.is (c.current.ensures.sees cond)) and nothing)) (after-look cond c.at_colons_before_more.ensures.peeks.same (after-look cond c.current.ensures.peeks.same (reads-call cond (c.use_list.ensures.gives cond))))
 
 pub inside-returns-in_default-clause-reads : goal.inside-returns-in_default-clause-reads
 unfolding look_of begins_below whole rule items statements expressions patterns types paths there_at shift passes is_silent begins in_mode anew row one_of any_of no_longer longest is_longer
-inside-returns-in_default-clause-reads t c cond = reads-here (saw-so (c.at_colons_before_more.ensures.sees cond) c.if-at_colons_before_more.false and saw-before c.at_colons_before_more.ensures.same (saw-not c.in_default.not-STAR (c.current.ensures.sees cond)) and saw-before c.at_colons_before_more.ensures.same (saw-not c.in_default.not-L_CURLY (c.current.ensures.sees cond)) and nothing) (after-look cond c.at_colons_before_more.ensures.same (after-look cond c.current.ensures.same ((c.path_tree.ensures.reads cond))))
+inside-returns-in_default-clause-reads t c cond = reads-here (saw-so (c.at_colons_before_more.ensures.sees cond) c.if-at_colons_before_more.false and saw-before c.at_colons_before_more.ensures.peeks.same (saw-not c.in_default.not-STAR (c.current.ensures.sees cond)) and saw-before c.at_colons_before_more.ensures.peeks.same (saw-not c.in_default.not-L_CURLY (c.current.ensures.sees cond)) and nothing) (after-look cond c.at_colons_before_more.ensures.peeks.same (after-look cond c.current.ensures.peeks.same ((c.path_tree.ensures.reads cond))))
 
 pub inside-after_colons-requires : goal.inside-after_colons-requires
 unfolding look_of begins_below whole rule items statements expressions patterns types paths there_at shift passes is_silent begins in_mode anew row one_of any_of no_longer longest is_longer
-inside-after_colons-requires t c = (omega arith, (λ cond. saw-taken (one_of 0 ('*' ∷ 'l_curly' ∷ [])) refl (c.take_pair.ensures.reads true COLON COLON) (saw-after c.at_colons_before_more.ensures.same (saw-right (saw-so (c.at_colons_before_more.ensures.sees cond) c.if-at_colons_before_more.true))), (omega (arith, c.at_colons_before_more.ensures.some c.if-at_colons_before_more.true))))
+inside-after_colons-requires t c = (omega arith, (λ cond. saw-taken (one_of 0 ('*' ∷ 'l_curly' ∷ [])) refl (c.take_pair.ensures.reads true COLON COLON) (saw-after c.at_colons_before_more.ensures.peeks.same (saw-right (saw-so (c.at_colons_before_more.ensures.sees cond) c.if-at_colons_before_more.true))), (omega (arith, c.at_colons_before_more.ensures.some c.if-at_colons_before_more.true))))
 
 pub inside-path_tree-requires : goal.inside-path_tree-requires
 unfolding look_of begins_below whole rule items statements expressions patterns types paths there_at shift passes is_silent begins in_mode anew row one_of any_of no_longer longest is_longer
-inside-path_tree-requires t c = (omega arith, (λ cond. saw-after c.current.ensures.same (saw-after c.at_colons_before_more.ensures.same (begins-else rules.path rules.use_tree refl (saw-so (c.at_colons_before_more.ensures.sees cond) c.if-at_colons_before_more.false and saw-before c.at_colons_before_more.ensures.same (saw-not c.in_default.not-STAR (c.current.ensures.sees cond)) and saw-before c.at_colons_before_more.ensures.same (saw-not c.in_default.not-L_CURLY (c.current.ensures.sees cond)) and nothing) (c.requires.begins cond) refl)), omega arith))
+inside-path_tree-requires t c = (omega arith, (λ cond. saw-after c.current.ensures.peeks.same (saw-after c.at_colons_before_more.ensures.peeks.same (begins-else rules.path rules.use_tree refl (saw-so (c.at_colons_before_more.ensures.sees cond) c.if-at_colons_before_more.false and saw-before c.at_colons_before_more.ensures.peeks.same (saw-not c.in_default.not-STAR (c.current.ensures.sees cond)) and saw-before c.at_colons_before_more.ensures.peeks.same (saw-not c.in_default.not-L_CURLY (c.current.ensures.sees cond)) and nothing) (c.requires.begins cond) refl)), omega arith))
 
 pub use_tree-complete-requires : goal.use_tree-complete-requires
 use_tree-complete-requires t c = (c.inside.ensures.reads true).does.innermost _ (c.start-tree.ensures.marker)
@@ -109,25 +109,25 @@ use_list-returns-clause-gives t c cond = gives-anew (anew-after refl (reads-node
 
 pub use_turn-returns-then-at_use_tree-clause-reads : goal.use_turn-returns-then-at_use_tree-clause-reads
 unfolding look_of begins_below whole rule items statements expressions patterns types paths there_at shift passes is_silent begins in_mode anew row one_of any_of no_longer longest is_longer
-use_turn-returns-then-at_use_tree-clause-reads t c = reads-here (begun rules.use_tree (saw-so (c.at_use_tree.ensures.sees false) c.if-at_use_tree.true) (nothing)) (after-look false c.at_use_tree.ensures.same (reads-then false (reads-call false (c.use_tree.ensures.gives false)) ((c.comma.ensures.reads false))))
+use_turn-returns-then-at_use_tree-clause-reads t c = reads-here (begun rules.use_tree (saw-so (c.at_use_tree.ensures.sees false) c.if-at_use_tree.true) (nothing)) (after-look false c.at_use_tree.ensures.peeks.same (reads-then false (reads-call false (c.use_tree.ensures.gives false)) ((c.comma.ensures.reads false))))
 
 pub use_turn-returns-clause-reads : goal.use_turn-returns-clause-reads
 unfolding look_of begins_below whole rule items statements expressions patterns types paths there_at shift passes is_silent begins in_mode anew row one_of any_of no_longer longest is_longer
-use_turn-returns-clause-reads t c = reads-here (begun rules.use_tree (saw-so (c.at_use_tree.ensures.sees false) c.if-at_use_tree.false) (nothing)) (after-look false c.at_use_tree.ensures.same ((c.skip.ensures.reads false)))
+use_turn-returns-clause-reads t c = reads-here (begun rules.use_tree (saw-so (c.at_use_tree.ensures.sees false) c.if-at_use_tree.false) (nothing)) (after-look false c.at_use_tree.ensures.peeks.same ((c.skip.ensures.reads false)))
 
 pub use_turn-use_tree-requires : goal.use_turn-use_tree-requires
-use_turn-use_tree-requires t c = (omega arith, (λ cond. saw-after c.at_use_tree.ensures.same (saw-so (c.at_use_tree.ensures.sees cond) c.if-at_use_tree.true), omega arith))
+use_turn-use_tree-requires t c = (omega arith, (λ cond. saw-after c.at_use_tree.ensures.peeks.same (saw-so (c.at_use_tree.ensures.sees cond) c.if-at_use_tree.true), omega arith))
 
 pub use_turns-turns-init : goal.use_turns-turns-init
 use_turns-turns-init t c = (first-turn, omega arith, omega arith)
 
 pub use_turns-turns-preserved : goal.use_turns-turns-preserved
 unfolding tokens look_of begins_below whole rule items statements expressions patterns types paths there_at shift passes is_silent begins in_mode anew row one_of any_of no_longer longest is_longer
-use_turns-turns-preserved t c = (next-turn false (Unless (until 'r_curly') (UseTree ▸ (One 'comma' or When (next 'r_curly') Nothing or Say (Expected COMMA)) or When (Both Left (Not (one_of 0 stops))) (Skip (UnexpectedIn USE_TREE_LIST)))) (ends-at-end false (Unless (until 'r_curly') (UseTree ▸ (One 'comma' or When (next 'r_curly') Nothing or Say (Expected COMMA)) or When (Both Left (Not (one_of 0 stops))) (Skip (UnexpectedIn USE_TREE_LIST)))) refl) _ _ _ (c.turns.invariant.0) (saw-so (c.at_use_turn.ensures.sees false) c.turns-test.true) (after-look false c.at_use_turn.ensures.same (reads-unless false (c.use_turn.ensures.reads))) (omega (arith, c.use_turn.ensures.left, c.at_use_turn.ensures.left)), omega (arith, c.turns.invariant.1), omega (arith, c.turns.invariant.2))
+use_turns-turns-preserved t c = (next-turn false (Unless (until 'r_curly') (UseTree ▸ (One 'comma' or When (next 'r_curly') Nothing or Say (Expected COMMA)) or When (Both Left (Not (one_of 0 stops))) (Skip (UnexpectedIn USE_TREE_LIST)))) (ends-at-end false (Unless (until 'r_curly') (UseTree ▸ (One 'comma' or When (next 'r_curly') Nothing or Say (Expected COMMA)) or When (Both Left (Not (one_of 0 stops))) (Skip (UnexpectedIn USE_TREE_LIST)))) refl) _ _ _ (c.turns.invariant.0) (saw-so (c.at_use_turn.ensures.sees false) c.turns-test.true) (after-look false c.at_use_turn.ensures.peeks.same (reads-unless false (c.use_turn.ensures.reads))) (omega (arith, c.use_turn.ensures.takes.left, c.at_use_turn.ensures.peeks.left)), omega (arith, c.turns.invariant.1), omega (arith, c.turns.invariant.2))
 
 pub use_turns-returns-clause-reads : goal.use_turns-returns-clause-reads
 unfolding tokens look_of begins_below whole rule items statements expressions patterns types paths there_at shift passes is_silent begins in_mode anew row one_of any_of no_longer longest is_longer
-use_turns-returns-clause-reads t c = last-turn false (Unless (until 'r_curly') (UseTree ▸ (One 'comma' or When (next 'r_curly') Nothing or Say (Expected COMMA)) or When (Both Left (Not (one_of 0 stops))) (Skip (UnexpectedIn USE_TREE_LIST)))) (ends-at-end false (Unless (until 'r_curly') (UseTree ▸ (One 'comma' or When (next 'r_curly') Nothing or Say (Expected COMMA)) or When (Both Left (Not (one_of 0 stops))) (Skip (UnexpectedIn USE_TREE_LIST)))) refl) _ _ _ (c.turns.invariant.0) (saw-so (c.at_use_turn.ensures.sees false) c.turns-test.false) c.at_use_turn.ensures.same
+use_turns-returns-clause-reads t c = last-turn false (Unless (until 'r_curly') (UseTree ▸ (One 'comma' or When (next 'r_curly') Nothing or Say (Expected COMMA)) or When (Both Left (Not (one_of 0 stops))) (Skip (UnexpectedIn USE_TREE_LIST)))) (ends-at-end false (Unless (until 'r_curly') (UseTree ▸ (One 'comma' or When (next 'r_curly') Nothing or Say (Expected COMMA)) or When (Both Left (Not (one_of 0 stops))) (Skip (UnexpectedIn USE_TREE_LIST)))) refl) _ _ _ (c.turns.invariant.0) (saw-so (c.at_use_turn.ensures.sees false) c.turns-test.false) c.at_use_turn.ensures.peeks.same
 
 pub use_turns-use_turn-requires : goal.use_turns-use_turn-requires
-use_turns-use_turn-requires t c = omega (arith, c.at_use_turn.ensures.some c.turns-test.true, c.at_use_turn.ensures.left)
+use_turns-use_turn-requires t c = omega (arith, c.at_use_turn.ensures.some c.turns-test.true, c.at_use_turn.ensures.peeks.left)

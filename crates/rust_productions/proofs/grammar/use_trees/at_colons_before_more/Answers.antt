@@ -1,5 +1,5 @@
 -- Each path reads what the rule comes to there.
-use Rattle.std.proofs.Common.{refl}
+use Rattle.std.proofs.Common.{refl, arith}
 use Rattle.rust_grammar.specs.Expressions.{expressions}
 use Rattle.rust_grammar.specs.Items.{items}
 use Rattle.rust_grammar.specs.Meaning.{begins_below, look_of}
@@ -10,9 +10,9 @@ use Rattle.rust_grammar.specs.Rule.{begins, in_mode, anew, is_silent, passes, sh
 use Rattle.rust_grammar.specs.Statements.{statements}
 use Rattle.rust_grammar.specs.Types.{types}
 use Rattle.rust_grammar.specs.Whole.{rule, whole}
-use Rattle.rust_productions.proofs.ByHand.{does-then}
 use Rattle.rust_productions.proofs.Facts.{nothing, saw-so, ◌and◌}
 use Rattle.rust_productions.proofs.Seen.{saw-before, saw-told}
+use Rattle.rust_productions.proofs.Peeking.{peeks-then, peeks-within}
 use Rattle.rust_productions.proofs.grammar.use_trees.at_colons_before_more.Goals as goal
 
 pub returns-then-not-at_colons-clause-sees : goal.returns-then-not-at_colons-clause-sees
@@ -21,21 +21,21 @@ returns-then-not-at_colons-clause-sees c cond = saw-told (saw-so (c.at_colons.en
 
 pub returns-then-at_third-clause-sees : goal.returns-then-at_third-clause-sees
 unfolding look_of begins_below whole rule items statements expressions patterns types paths there_at shift passes is_silent begins in_mode anew row one_of any_of no_longer longest is_longer
-returns-then-at_third-clause-sees c cond = saw-told (saw-so (c.at_colons.ensures.sees cond) c.if-not-at_colons.false and saw-before c.at_colons.ensures.same (saw-so (c.at_third.ensures.sees cond) c.if-at_third.true) and nothing) refl
+returns-then-at_third-clause-sees c cond = saw-told (saw-so (c.at_colons.ensures.sees cond) c.if-not-at_colons.false and saw-before c.at_colons.ensures.peeks.same (saw-so (c.at_third.ensures.sees cond) c.if-at_third.true) and nothing) refl
 
-pub returns-then-at_third-clause-same : goal.returns-then-at_third-clause-same
-returns-then-at_third-clause-same c = does-then c.at_colons.ensures.same (c.at_third.ensures.same)
+pub returns-then-at_third-clause-peeks : goal.returns-then-at_third-clause-peeks
+returns-then-at_third-clause-peeks c = peeks-within (peeks-then c.at_colons.ensures.peeks c.at_third.ensures.peeks) (omega arith)
 
 pub returns-then-at_third-2-clause-sees : goal.returns-then-at_third-2-clause-sees
 unfolding look_of begins_below whole rule items statements expressions patterns types paths there_at shift passes is_silent begins in_mode anew row one_of any_of no_longer longest is_longer
-returns-then-at_third-2-clause-sees c cond = saw-told (saw-so (c.at_colons.ensures.sees cond) c.if-not-at_colons.false and saw-before c.at_colons.ensures.same (saw-so (c.at_third.ensures.sees cond) c.if-at_third.false) and saw-before c.at_colons.ensures.same (saw-before c.at_third.ensures.same (saw-so (c.at_third-2.ensures.sees cond) c.if-at_third-2.true)) and nothing) refl
+returns-then-at_third-2-clause-sees c cond = saw-told (saw-so (c.at_colons.ensures.sees cond) c.if-not-at_colons.false and saw-before c.at_colons.ensures.peeks.same (saw-so (c.at_third.ensures.sees cond) c.if-at_third.false) and saw-before c.at_colons.ensures.peeks.same (saw-before c.at_third.ensures.peeks.same (saw-so (c.at_third-2.ensures.sees cond) c.if-at_third-2.true)) and nothing) refl
 
-pub returns-then-at_third-2-clause-same : goal.returns-then-at_third-2-clause-same
-returns-then-at_third-2-clause-same c = does-then c.at_colons.ensures.same (does-then c.at_third.ensures.same (c.at_third-2.ensures.same))
+pub returns-then-at_third-2-clause-peeks : goal.returns-then-at_third-2-clause-peeks
+returns-then-at_third-2-clause-peeks c = peeks-then c.at_colons.ensures.peeks (peeks-then c.at_third.ensures.peeks c.at_third-2.ensures.peeks)
 
 pub returns-clause-sees : goal.returns-clause-sees
 unfolding look_of begins_below whole rule items statements expressions patterns types paths there_at shift passes is_silent begins in_mode anew row one_of any_of no_longer longest is_longer
-returns-clause-sees c cond = saw-told (saw-so (c.at_colons.ensures.sees cond) c.if-not-at_colons.false and saw-before c.at_colons.ensures.same (saw-so (c.at_third.ensures.sees cond) c.if-at_third.false) and saw-before c.at_colons.ensures.same (saw-before c.at_third.ensures.same (saw-so (c.at_third-2.ensures.sees cond) c.if-at_third-2.false)) and nothing) refl
+returns-clause-sees c cond = saw-told (saw-so (c.at_colons.ensures.sees cond) c.if-not-at_colons.false and saw-before c.at_colons.ensures.peeks.same (saw-so (c.at_third.ensures.sees cond) c.if-at_third.false) and saw-before c.at_colons.ensures.peeks.same (saw-before c.at_third.ensures.peeks.same (saw-so (c.at_third-2.ensures.sees cond) c.if-at_third-2.false)) and nothing) refl
 
-pub returns-clause-same : goal.returns-clause-same
-returns-clause-same c = does-then c.at_colons.ensures.same (does-then c.at_third.ensures.same (c.at_third-2.ensures.same))
+pub returns-clause-peeks : goal.returns-clause-peeks
+returns-clause-peeks c = peeks-then c.at_colons.ensures.peeks (peeks-then c.at_third.ensures.peeks c.at_third-2.ensures.peeks)

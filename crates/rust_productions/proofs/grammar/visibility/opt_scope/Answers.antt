@@ -16,8 +16,8 @@ use Rattle.rust_productions.proofs.grammar.visibility.opt_scope.Goals as goal
 
 pub returns-then-at_scope-clause-reads : goal.returns-then-at_scope-clause-reads
 unfolding look_of begins_below whole rule items statements expressions patterns types paths there_at shift passes is_silent begins in_mode anew row one_of any_of no_longer longest is_longer
-returns-then-at_scope-clause-reads c cond = reads-here (saw-so (c.at_scope.ensures.sees cond) c.if-at_scope.true and nothing) (after-look cond c.at_scope.ensures.same (reads-then cond ((c.take.ensures.reads cond)) (reads-then cond ((c.eat.ensures.reads cond)) (reads-then cond ((c.expect_path.ensures.reads cond)) ((c.expect.ensures.reads cond))))))
+returns-then-at_scope-clause-reads c cond = reads-here (saw-so (c.at_scope.ensures.sees cond) c.if-at_scope.true and nothing) (after-look cond c.at_scope.ensures.peeks.same (reads-then cond ((c.take.ensures.reads cond)) (reads-then cond ((c.eat.ensures.reads cond)) (reads-then cond ((c.expect_path.ensures.reads cond)) ((c.expect.ensures.reads cond))))))
 
 pub returns-else-at_scope-clause-reads : goal.returns-else-at_scope-clause-reads
 unfolding look_of begins_below whole rule items statements expressions patterns types paths there_at shift passes is_silent begins in_mode anew row one_of any_of no_longer longest is_longer
-returns-else-at_scope-clause-reads c cond = reads-here (saw-so (c.at_scope.ensures.sees cond) c.if-at_scope.false and nothing) (reads-nothing cond c.at_scope.ensures.same)
+returns-else-at_scope-clause-reads c cond = reads-here (saw-so (c.at_scope.ensures.sees cond) c.if-at_scope.false and nothing) (reads-nothing cond c.at_scope.ensures.peeks.same)

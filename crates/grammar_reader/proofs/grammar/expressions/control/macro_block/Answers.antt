@@ -1,11 +1,11 @@
 -- What is read in the nodes.
-use Rattle.std.proofs.Common.{true}
+use Rattle.std.proofs.Common.{arith, true}
 use Rattle.rust_productions.proofs.ByHand.{reads-call, reads-node, reads-then}
 use Rattle.rust_productions.proofs.Seen.{saw-inside}
 use Rattle.grammar_reader.proofs.grammar.expressions.control.macro_block.Goals as goal
 
-pub word_path-requires-clause-begins : goal.word_path-requires-clause-begins
-word_path-requires-clause-begins c = λ cond. saw-inside c.start-call.ensures.opens (saw-inside c.start-node.ensures.opens (c.requires.begins cond))
+pub word_path-requires : goal.word_path-requires
+word_path-requires c = record { begins = record { sees = λ cond. saw-inside c.start-call.ensures.opens (saw-inside c.start-node.ensures.opens (c.requires.begins cond)); some = omega arith } }
 
 pub complete-requires : goal.complete-requires
 complete-requires c = (c.token_tree.ensures.gives true).does.innermost _ ((c.take.ensures.reads true).does.innermost _ ((c.word_path.ensures.gives true).does.innermost _ c.start-call.ensures.marker))

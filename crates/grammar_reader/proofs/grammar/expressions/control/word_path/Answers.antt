@@ -36,7 +36,7 @@ abandon-requires c = c.complete-3.ensures.closes.innermost _ (c.complete-2.ensur
 pub returns-clause-gives : goal.returns-clause-gives
 unfolding look_of begins_below whole rule items statements expressions patterns types paths there_at shift passes is_silent begins in_mode anew row one_of any_of no_longer longest is_longer
 returns-clause-gives c = λ cond.
-    let seen = saw-inside c.start-segment.ensures.opens (saw-inside c.start-path.ensures.opens (saw-inside c.start-frame.ensures.opens (c.requires.begins cond))) in
+    let seen = saw-inside c.start-segment.ensures.opens (saw-inside c.start-path.ensures.opens (saw-inside c.start-frame.ensures.opens (c.requires.begins.sees cond))) in
     let name = gives-anew {x = rules.name_ref} (anew-after refl (reads-here (saw-left seen and nothing) (reads-node cond c.start-name.ensures.opens (c.take.ensures.reads cond) c.complete.ensures.closes))) in
     let bang : Saw cond (Kind 0 BANG) c.complete.new.p true = saw-closed c.complete.ensures.closes (saw-taken (Kind 0 BANG) refl (c.take.ensures.reads cond) (saw-inside c.start-name.ensures.opens (saw-left (saw-right seen)))) in
     let segment = reads-here (saw-left seen and nothing) (reads-then cond (reads-call cond name) (reads-here (bang and nothing) (reads-nothing cond (does-nothing _)))) in

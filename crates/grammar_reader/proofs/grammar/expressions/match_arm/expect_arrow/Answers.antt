@@ -16,8 +16,8 @@ use Rattle.grammar_reader.proofs.grammar.expressions.match_arm.expect_arrow.Goal
 
 pub returns-then-at_pair-clause-reads : goal.returns-then-at_pair-clause-reads
 unfolding look_of begins_below whole rule items statements expressions patterns types paths there_at shift passes is_silent begins in_mode anew row one_of any_of no_longer longest is_longer
-returns-then-at_pair-clause-reads c cond = reads-here (saw-so (c.at_pair.ensures.sees cond) c.if-at_pair.true and nothing) (after-look cond c.at_pair.ensures.same (c.take_pair.ensures.reads cond _ _))
+returns-then-at_pair-clause-reads c cond = reads-here (saw-so (c.at_pair.ensures.sees cond) c.if-at_pair.true and nothing) (after-look cond c.at_pair.ensures.peeks.same (c.take_pair.ensures.reads cond _ _))
 
 pub returns-clause-reads : goal.returns-clause-reads
 unfolding look_of begins_below whole rule items statements expressions patterns types paths there_at shift passes is_silent begins in_mode anew row one_of any_of no_longer longest is_longer
-returns-clause-reads c cond = reads-here (saw-so (c.at_pair.ensures.sees cond) c.if-at_pair.false and nothing) (after-look cond c.at_pair.ensures.same (c.error.ensures.reads cond))
+returns-clause-reads c cond = reads-here (saw-so (c.at_pair.ensures.sees cond) c.if-at_pair.false and nothing) (after-look cond c.at_pair.ensures.peeks.same (c.error.ensures.reads cond))

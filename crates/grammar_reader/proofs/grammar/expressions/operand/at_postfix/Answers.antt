@@ -10,10 +10,10 @@ use Rattle.rust_grammar.specs.Rule.{begins, in_mode, anew, is_silent, passes, sh
 use Rattle.rust_grammar.specs.Statements.{statements}
 use Rattle.rust_grammar.specs.Types.{types}
 use Rattle.rust_grammar.specs.Whole.{rule, whole}
-use Rattle.rust_productions.proofs.ByHand.{does-then}
 use Rattle.rust_productions.proofs.Facts.{nothing, saw-so, ◌and◌}
 use Rattle.rust_productions.proofs.Looking.{saw-arm, saw-not}
 use Rattle.rust_productions.proofs.Seen.{saw-before, saw-told}
+use Rattle.rust_productions.proofs.Peeking.{peeks-then}
 use Rattle.grammar_reader.proofs.grammar.expressions.operand.at_postfix.Goals as goal
 
 pub returns-in-L_PAREN-clause-sees : goal.returns-in-L_PAREN-clause-sees
@@ -30,17 +30,17 @@ returns-in-QUESTION-clause-sees c cond = saw-told (saw-arm c.in-QUESTION.is (c.c
 
 pub returns-then-at_pair-clause-sees : goal.returns-then-at_pair-clause-sees
 unfolding look_of begins_below whole rule items statements expressions patterns types paths there_at shift passes is_silent begins in_mode anew row one_of any_of no_longer longest is_longer
-returns-then-at_pair-clause-sees c = λ cond. saw-told (saw-arm c.in-DOT.is (c.current.ensures.sees cond) and saw-before c.current.ensures.same (saw-so (c.at_pair.ensures.sees cond) c.if-at_pair.true) and nothing) refl
+returns-then-at_pair-clause-sees c = λ cond. saw-told (saw-arm c.in-DOT.is (c.current.ensures.sees cond) and saw-before c.current.ensures.peeks.same (saw-so (c.at_pair.ensures.sees cond) c.if-at_pair.true) and nothing) refl
 
-pub returns-then-at_pair-clause-same : goal.returns-then-at_pair-clause-same
-returns-then-at_pair-clause-same c = does-then c.current.ensures.same c.at_pair.ensures.same
+pub returns-then-at_pair-clause-peeks : goal.returns-then-at_pair-clause-peeks
+returns-then-at_pair-clause-peeks c = peeks-then c.current.ensures.peeks c.at_pair.ensures.peeks
 
 pub returns-else-at_pair-clause-sees : goal.returns-else-at_pair-clause-sees
 unfolding look_of begins_below whole rule items statements expressions patterns types paths there_at shift passes is_silent begins in_mode anew row one_of any_of no_longer longest is_longer
-returns-else-at_pair-clause-sees c = λ cond. saw-told (saw-arm c.in-DOT.is (c.current.ensures.sees cond) and saw-before c.current.ensures.same (saw-so (c.at_pair.ensures.sees cond) c.if-at_pair.false) and nothing) refl
+returns-else-at_pair-clause-sees c = λ cond. saw-told (saw-arm c.in-DOT.is (c.current.ensures.sees cond) and saw-before c.current.ensures.peeks.same (saw-so (c.at_pair.ensures.sees cond) c.if-at_pair.false) and nothing) refl
 
-pub returns-else-at_pair-clause-same : goal.returns-else-at_pair-clause-same
-returns-else-at_pair-clause-same c = does-then c.current.ensures.same c.at_pair.ensures.same
+pub returns-else-at_pair-clause-peeks : goal.returns-else-at_pair-clause-peeks
+returns-else-at_pair-clause-peeks c = peeks-then c.current.ensures.peeks c.at_pair.ensures.peeks
 
 pub returns-in_default-clause-sees : goal.returns-in_default-clause-sees
 unfolding look_of begins_below whole rule items statements expressions patterns types paths there_at shift passes is_silent begins in_mode anew row one_of any_of no_longer longest is_longer

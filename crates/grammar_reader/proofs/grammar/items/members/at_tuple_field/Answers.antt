@@ -12,10 +12,10 @@ use Rattle.rust_grammar.specs.Rule.{begins, in_mode, anew, is_silent, passes, sh
 use Rattle.rust_grammar.specs.Statements.{statements}
 use Rattle.rust_grammar.specs.Types.{types}
 use Rattle.rust_grammar.specs.Whole.{rule, whole}
-use Rattle.rust_productions.proofs.ByHand.{does-then}
 use Rattle.rust_productions.proofs.Facts.{begun, nothing, ◌and◌}
 use Rattle.rust_productions.proofs.Looking.{saw-arm, saw-not}
 use Rattle.rust_productions.proofs.Seen.{saw-before, starts-here}
+use Rattle.rust_productions.proofs.Peeking.{peeks-then}
 use Rattle.grammar_reader.proofs.grammar.items.members.at_tuple_field.Goals as goal
 
 pub returns-in-POUND-clause-sees : goal.returns-in-POUND-clause-sees
@@ -24,7 +24,7 @@ returns-in-POUND-clause-sees c cond = elim c.in-POUND.is [ inl a ↦ starts-here
 
 pub returns-in_default-clause-sees : goal.returns-in_default-clause-sees
 unfolding look_of begins_below whole rule items statements expressions patterns types paths there_at shift passes is_silent begins in_mode anew row one_of any_of no_longer longest is_longer
-returns-in_default-clause-sees c cond = starts-here (Attribute * ▸ ⁅ Visibility ⁆ ▸ AnyType !) (saw-not c.in_default.not-POUND (c.current.ensures.sees cond) and saw-not c.in_default.not-PUB_KW (c.current.ensures.sees cond) and begun rules.any_type (saw-before c.current.ensures.same (c.at_type.ensures.sees cond)) nothing) refl
+returns-in_default-clause-sees c cond = starts-here (Attribute * ▸ ⁅ Visibility ⁆ ▸ AnyType !) (saw-not c.in_default.not-POUND (c.current.ensures.sees cond) and saw-not c.in_default.not-PUB_KW (c.current.ensures.sees cond) and begun rules.any_type (saw-before c.current.ensures.peeks.same (c.at_type.ensures.sees cond)) nothing) refl
 
-pub returns-in_default-clause-same : goal.returns-in_default-clause-same
-returns-in_default-clause-same c = does-then c.current.ensures.same c.at_type.ensures.same
+pub returns-in_default-clause-peeks : goal.returns-in_default-clause-peeks
+returns-in_default-clause-peeks c = peeks-then c.current.ensures.peeks c.at_type.ensures.peeks
