@@ -85,7 +85,7 @@ name-plain edition name h =
 all-taken : (xs : List ℕ) (n : ℕ) → length xs ≡ n → take n xs ≡ xs
 all-taken xs n is = ap (λ (z : List ℕ). take n z) (sym (append-nil xs)) ∙ take_at xs [] n is
 
--- what stands from a byte on
+-- the bytes of a text from one of them on
 pub part-behind : (text part : List ℕ) (start : ℕ) → IsPart text start (length text) part → part ≡ drop start text
 part-behind text part start p = p.is ∙ all-taken (drop start text) (length text - start) (length-drop start text)
 

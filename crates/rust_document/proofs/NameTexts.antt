@@ -46,7 +46,7 @@ renamed-texts r k (suc i) (m ∷ ls) l at is =
     ∙ ap (λ (z : List ℕ). m.leaf.text ++ z) (renamed-texts r (k + 1) i ls l (omega (arith, at)) is)
     ∙ sym (append_assoc m.leaf.text (texts (take i ls)) (r.new ++ texts (drop (suc i) ls)))
 
--- An edit within the middle one of three parts, in bytes: what stands between the others after it.
+-- An edit within the middle one of three parts, in bytes: the part between the two others.
 pub middle-edited :
     (a m b put new : List ℕ) (start end s e : ℕ) → length a ≡ start → end ≡ start + length m → start ≤ s → s ≤ e → e ≤ end
     → (let before : List ℕ = a ++ (m ++ b) in let after : List ℕ = edited before s e put in

@@ -37,7 +37,7 @@ module _ (up : List ℕ) (new : Leaf) where
   abbrev put_leaf : List ℕ → ℕ → Forest → Forest
   put_leaf w i f = with_leaves one w i f
 
-  -- a term that stands at an up-path, with the leaf replaced
+  -- a term at an up-path, with the leaf replaced
   abbrev after : List ℕ → Term → Term
   after v (Node t) = Node (record { kind = t.kind; forest = put_leaf v 0 t.forest })
   after v (Token l) = Token (leaf_after one v l)

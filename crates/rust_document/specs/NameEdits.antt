@@ -39,8 +39,7 @@ pub record IsPart (text : List ℕ) (start end : ℕ) (part : List ℕ) : Type 0
   pub is : part ≡ take (end - start) (drop start text)
   pub utf8 : IsUtf8 part
 
--- What stands at a range of a text, and what after an edit within the range: both are plain names, and the first one is an
--- identifier token.
+-- The bytes of a range, before and after an edit within it: both are plain names, and the first one is an identifier token.
 pub record ArePlainNames (edition : Edition) (before after : List ℕ) (start end : ℕ) (n : Names) : Type 0 where
   pub back : length before - end ≤ length after
   pub old_is : IsPart before start end n.old.now

@@ -316,8 +316,8 @@ impl Document {
         edit_content(alloc, self.edition, &self.kept, &edit)
     }
 
-    /// Returns the tree of `new`, which is the text with `put` in the place of a range, if a plain
-    /// identifier has turned into another.
+    /// Returns the tree of `new`, if the edit turns one plain identifier into another. In `new` the
+    /// range is replaced by `put`.
     fn renamed_tree(
         &self,
         alloc: Global,

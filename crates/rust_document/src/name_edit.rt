@@ -94,8 +94,8 @@ fn is_identifier(text: &str, name: &str) -> bool
     }
 }
 
-/// Returns what stands at `range` before an edit within it, and what after it, if both are plain
-/// names and the first one is an identifier token.
+/// Returns the text at `range` before and after an edit within it, if both are plain names and the
+/// first one is an identifier token.
 fn plain_names<'a, 'b>(
     edition: Edition,
     edit: &TextEdit<'a, 'b, '_>,

@@ -1,4 +1,4 @@
--- A known tree is the reading's, and the messages are read anew.
+-- A known tree is the reading's, and the messages are those of the new text.
 use Rattle.std.proofs.Common.{subst}
 use Rattle.parser_input.specs.Lexed.{leaves_of}
 use Rattle.parser_input.specs.Stored.{Whole}
