@@ -31,3 +31,24 @@ abbrev pub message_rows : List ℕ → List ℕ → ℕ → List ℕ → List �
 message_rows path text offset words =
     let place = line_col Utf32 text offset in
     row path place words ++ excerpt (line_text place.line text) (line_col Utf8 text offset).col
+
+-- a character that is written by another behind a backslash
+abbrev pub escaped : ℕ → List ℕ
+escaped b =
+    if b == 10 then codes "\\n"
+    else (if b == 13 then codes "\\r"
+    else (if b == 9 then codes "\\t"
+    else (if b == 34 then codes "\\\""
+    else (if b == 92 then codes "\\\\"
+    else b ∷ []))))
+
+abbrev pub quoted : List ℕ → List ℕ
+quoted text = codes "\"" ++ (flat_map escaped text ++ codes "\"")
+
+-- what an element's row begins with: a name, and the bytes from `start` to just before `end`
+abbrev pub range_text : List ℕ → ℕ → ℕ → List ℕ
+range_text name start end = name ++ (codes "@" ++ (decimal start ++ (codes ".." ++ decimal end)))
+
+-- the row of a token, with its text
+abbrev pub token_row : List ℕ → ℕ → ℕ → List ℕ → List ℕ
+token_row name start end text = range_text name start end ++ (codes " " ++ (quoted text ++ codes "\n"))

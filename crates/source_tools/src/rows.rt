@@ -1,9 +1,9 @@
 //! Messages as rows of text.
 
-ghost use Rattle.std.specs.Prelude.{◌≡◌, ◌≤◌, ◌<◌, ◌+◌, ◌^◌, ◌++◌, OnOk, IfOk, length, take, string_bytes};
+ghost use Rattle.std.specs.Prelude.{◌≡◌, ◌≤◌, ◌<◌, ◌+◌, ◌^◌, ◌++◌, OnOk, IfOk, length, take, string_bytes, codes};
 ghost use Rattle.std.specs.List.{flat_map};
 ghost use Rattle.line_index.specs.Lines.{feeds};
-ghost use Rattle.source_tools.specs.Rows.{below, excerpt, row, message_rows};
+ghost use Rattle.source_tools.specs.Rows.{below, escaped, excerpt, message_rows, quoted, range_text, row, token_row};
 
 use line_index::{Encoding, LineCol, LineIndex};
 use std::alloc::{AllocError, Global};
@@ -47,4 +47,48 @@ fn row_of(alloc: Global, path: &str, place: LineCol, words: &str) -> Result<Stri
     let line = place.line + 1;
     let col = place.col + 1;
     format!(in alloc; "{path}:{line}:{col}: {words}\n")
+}
+
+/// Appends `text` in quotes. Line feeds, carriage returns, tabs, quotes and backslashes are escaped.
+fn push_quoted(text: &[u8], rows: &mut Vec<u8>) -> Result<(), AllocError>
+    ensures { OnOk result (rows.new.items ≡ rows.old.items ++ quoted text.now) }
+{
+    rows.push(b'"')?;
+    for byte in text {
+        match *byte {
+            b'\n' => rows.extend_from_slice(b"\\n")?,
+            b'\r' => rows.extend_from_slice(b"\\r")?,
+            b'\t' => rows.extend_from_slice(b"\\t")?,
+            b'"' => rows.extend_from_slice(b"\\\"")?,
+            b'\\' => rows.extend_from_slice(b"\\\\")?,
+            other => rows.push(other)?,
+        }
+    }
+    rows.push(b'"')?;
+    Ok(())
+}
+
+/// Appends what an element's row begins with: its name and range.
+pub(crate) fn push_range(
+    alloc: Global,
+    name: &str,
+    start: usize,
+    end: usize,
+    rows: &mut Vec<u8>,
+) -> Result<(), AllocError>
+    ensures { OnOk result (rows.new.items ≡ rows.old.items ++ range_text name.now start end) }
+{
+    let text = format!(in alloc; "{name}@{start}..{end}")?;
+    rows.extend_from_slice(text.as_str().as_bytes())
+}
+
+/// Appends the end of a token's row: its text, quoted.
+pub(crate) fn push_text(text: &[u8], rows: &mut Vec<u8>) -> Result<(), AllocError>
+    ensures { OnOk result (rows.new.items
+        ≡ rows.old.items ++ (codes " " ++ (quoted text.now ++ codes "\n"))) }
+{
+    rows.push(b' ')?;
+    push_quoted(text, rows)?;
+    rows.push(b'\n')?;
+    Ok(())
 }
