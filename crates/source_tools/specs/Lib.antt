@@ -1,3 +1,6 @@
 pub mod Decoded
 pub mod Rows
+pub mod Words
+pub mod Texts
+pub mod Outcomes
 pub mod Writes

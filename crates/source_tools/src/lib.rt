@@ -1,9 +1,23 @@
-//! Commands over source files: messages, trees, tokens and renamings of files behind a `Target`.
+//! Commands over source files: messages, tokens, trees and renamings of files behind a `Target`.
 #![tactic(auto)]
 
 mod decode;
+mod messages;
 mod rows;
+mod show;
+mod source;
+mod summary;
+mod tokens;
+mod tree;
+mod view;
 mod writes;
 
 pub use decode::text_of;
+pub use show::{Stop, show};
+pub use source::{FileError, FileFault, Source};
+pub use summary::Summary;
+pub use view::{FileView, View, view_bytes, view_file};
 pub use writes::{FileChange, WriteFault, write_changes};
+
+#[cfg(test)]
+mod tests;

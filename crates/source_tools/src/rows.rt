@@ -26,7 +26,7 @@ fn push_below(front: &[u8], rows: &mut Vec<u8>) -> Result<(), AllocError>
 }
 
 /// Appends `line` and a caret below its byte `col`, if the line is short enough to be shown.
-fn push_excerpt(line: &[u8], col: usize, rows: &mut Vec<u8>) -> Result<(), AllocError>
+pub(crate) fn push_excerpt(line: &[u8], col: usize, rows: &mut Vec<u8>) -> Result<(), AllocError>
     ensures { OnOk result (rows.new.items ≡ rows.old.items ++ excerpt line.now col) }
 {
     if line.len() <= MAX_SHOWN {
@@ -39,7 +39,7 @@ fn push_excerpt(line: &[u8], col: usize, rows: &mut Vec<u8>) -> Result<(), Alloc
 }
 
 /// Returns the row of a message.
-fn row_of(alloc: Global, path: &str, place: LineCol, words: &str) -> Result<String, AllocError>
+pub(crate) fn row_of(alloc: Global, path: &str, place: LineCol, words: &str) -> Result<String, AllocError>
     requires line { place.line + 1 < 2 ^ 64 }
     requires col { place.col + 1 < 2 ^ 64 }
     ensures { IfOk result (λ text. string_bytes text ≡ row path.now place words.now) }
