@@ -4,7 +4,7 @@
 mod decode;
 mod messages;
 mod rows;
-mod show;
+mod show_files;
 mod source;
 mod summary;
 mod tokens;
@@ -13,7 +13,7 @@ mod view;
 mod writes;
 
 pub use decode::text_of;
-pub use show::{Stop, show};
+pub use show_files::{Stop, show};
 pub use source::{FileError, FileFault, Source};
 pub use summary::Summary;
 pub use view::{FileView, View, view_bytes, view_file};

@@ -1,7 +1,8 @@
 //! Files are shown one after another.
 
-ghost use Rattle.std.specs.Prelude.{IfOk, IfSome, OnOk, map};
+ghost use Rattle.std.specs.Prelude.{◌≡◌, ◌≢◌, [], ◌∷◌, ◌++◌, IfOk, IfSome, OnOk, map};
 ghost use Rattle.std.specs.Io.KnownBytes.{Appends};
+ghost use Rattle.source_tools.specs.declared.source.FileError.TheVariants.{NoMemory};
 ghost use Rattle.source_tools.specs.Outcomes.{IsSummary, outcome_in, rows_of_all};
 
 use crate::source::{FileError, FileFault, Source};
@@ -41,6 +42,21 @@ impl From<io::Error> for Stop {
     }
 }
 
+/// Appends a file that is left out. Out of memory is an error of the command.
+fn push_fault(index: usize, error: FileError, faults: &mut Vec<FileFault>) -> Result<(), Stop>
+    ensures pushed { OnOk result (faults.new.items
+        ≡ faults.old.items ++ record { index = index; error = error } ∷ []) }
+    ensures memory { OnOk result (error ≢ NoMemory) }
+{
+    match error {
+        FileError::NoMemory => Err(Stop::NoMemory),
+        error => {
+            faults.push(FileFault { index, error })?;
+            Ok(())
+        }
+    }
+}
+
 /// Writes what is shown of the files, one after another. A file that cannot be read is left out.
 ///
 /// # Errors
@@ -64,15 +80,16 @@ pub fn show<T: Target, W: Write>(
     let mut faults = Vec::new(alloc);
     for (index, source) in sources.iter().enumerate() {
         match view_file(alloc, view, target, source) {
-            Ok(FileView {
-                rows,
-                has_messages: has,
-            }) => {
+            Ok(
+                FileView {
+                    rows,
+                    has_messages: has,
+                },
+            ) => {
                 writer.write_all(rows.as_slice())?;
                 has_messages |= has;
             }
-            Err(FileError::NoMemory) => return Err(Stop::NoMemory),
-            Err(error) => faults.push(FileFault { index, error })?,
+            Err(error) => push_fault(index, error, &mut faults)?,
         }
     }
     writer.flush()?;
