@@ -1,2 +1,7 @@
+pub mod ListLemmas
+pub mod KnownLemmas
 pub mod WriteLemmas
 pub mod ShowLemmas
+pub mod RowLemmas
+pub mod RenameLemmas
+pub mod DiffLemmas

@@ -6,6 +6,8 @@ use Rattle.std.specs.Io.KnownBytes.{Appends, Keeps}
 use Rattle.std.proofs.lemmas.List.{length-map}
 use Rattle.std.proofs.lemmas.Result.{MatchResult-at_ok, MatchResult-at_err}
 use Rattle.file_target.specs.Files.{Files}
+use Rattle.source_tools.proofs.KnownLemmas.{appends-none, appends-more}
+use Rattle.source_tools.proofs.ListLemmas.{flat-more, map-more}
 use Rattle.source_tools.specs.declared.source.Source.{Source}
 use Rattle.source_tools.specs.declared.source.FileError.{FileError}
 use Rattle.source_tools.specs.declared.source.FileError.TheVariants.{NotFound, Changed, NotUtf8, TooLong, NoMemory, Io}
@@ -13,32 +15,6 @@ use Rattle.source_tools.specs.declared.source.FileFault.{FileFault}
 use Rattle.source_tools.specs.declared.view.View.{View}
 use Rattle.source_tools.specs.declared.view.FileView.{FileView}
 use Rattle.source_tools.specs.Outcomes.{Outcome, Viewed, Missing, NotText, Long, Unknown, IsOutcome, outcome_in, rows_in, rows_of_all, failed, says_something, is_fault, faults_from, fault_in}
-
--- ---- what is written
-
-appends-none : (o : Option (List ℕ)) → Appends o o []
-appends-none None = tt
-appends-none (Some xs) = sym (append-nil xs)
-
-appends-more : (a b c : Option (List ℕ)) (xs ys : List ℕ) → Appends a b xs → Appends b c ys → Appends a c (xs ++ ys)
-appends-more None b c xs ys h k = tt
-appends-more (Some a) None c xs ys h k = absurd h
-appends-more (Some a) (Some b) None xs ys h k = absurd k
-appends-more (Some a) (Some b) (Some c) xs ys h k = k ∙ ap (λ v. v ++ ys) h ∙ append_assoc a xs ys
-
-appends-kept : (a b c : Option (List ℕ)) (xs : List ℕ) → Appends a b xs → Keeps b c → Appends a c xs
-appends-kept None b c xs h k = tt
-appends-kept (Some a) None c xs h k = absurd h
-appends-kept (Some a) (Some b) None xs h k = absurd k
-appends-kept (Some a) (Some b) (Some c) xs h k = k ∙ h
-
-flat-more : {A : Type 0} (f : A → List ℕ) (xs : List A) (x : A) → flat_map f (xs ++ x ∷ []) ≡ flat_map f xs ++ f x
-flat-more f [] x = append-nil (f x)
-flat-more f (y ∷ xs) x = ap (λ v. f y ++ v) (flat-more f xs x) ∙ sym (append_assoc (f y) (flat_map f xs) (f x))
-
-map-more : {A B : Type 0} (f : A → B) (xs : List A) (x : A) → map f (xs ++ x ∷ []) ≡ map f xs ++ f x ∷ []
-map-more f [] x = refl
-map-more f (y ∷ xs) x = ap (λ v. f y ∷ v) (map-more f xs x)
 
 -- ---- whether there are messages
 

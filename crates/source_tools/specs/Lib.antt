@@ -4,3 +4,5 @@ pub mod Words
 pub mod Texts
 pub mod Outcomes
 pub mod Writes
+pub mod Renames
+pub mod Diffs

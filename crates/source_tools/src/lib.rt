@@ -2,7 +2,11 @@
 #![tactic(auto)]
 
 mod decode;
+mod diffs;
 mod messages;
+mod plan;
+mod rename;
+mod renaming;
 mod rows;
 mod show_files;
 mod source;
@@ -13,6 +17,10 @@ mod view;
 mod writes;
 
 pub use decode::text_of;
+pub use diffs::write_diffs;
+pub use plan::{RenameFailure, plan_renames};
+pub use rename::{RenameStop, rename_files};
+pub use renaming::{RenameFault, Renaming, rename_bytes};
 pub use show_files::{Stop, show};
 pub use source::{FileError, FileFault, Source};
 pub use summary::Summary;

@@ -1,39 +1,34 @@
 //! The messages of a document as rows.
 
-ghost use Rattle.std.specs.Prelude.{◌≡◌, ◌≤◌, ◌++◌, OnOk, length};
+ghost use Rattle.std.specs.Prelude.{◌≡◌, ◌<◌, ◌^◌, ◌++◌, OnOk, length, chars};
 ghost use Rattle.std.specs.List.{flat_map};
-ghost use Rattle.std.specs.Prelude.{chars};
 ghost use Rattle.rust_document.specs.Reading.{messages};
 ghost use Rattle.rust_document.specs.Seen.{message_of_error};
-ghost use Rattle.rust_document.specs.Step.{MAX_TEXT};
 ghost use Rattle.source_tools.specs.Texts.{rows_of_message};
 
-use crate::rows::{push_excerpt, row_of};
-use line_index::{Encoding, LineIndex};
+use crate::rows::{Message, push_message};
+use line_index::LineIndex;
 use rust_document::{Document, SyntaxError};
 use std::alloc::{AllocError, Global};
 
-/// Appends the rows of a message about the text of `index`.
-fn push_message(
+/// Appends the rows of `error`, which is about the text of `index`.
+fn push_error(
     alloc: Global,
     path: &str,
     index: &LineIndex<'_>,
     error: SyntaxError,
     rows: &mut Vec<u8>,
 ) -> Result<(), AllocError>
-    requires { length index.now ≤ MAX_TEXT }
+    requires { length index.now < 2 ^ 32 }
     ensures { OnOk result (rows.new.items
         ≡ rows.old.items ++ rows_of_message path.now index.now (message_of_error error)) }
 {
-    let place = index.line_col(Encoding::Utf32, error.offset);
-    let byte = index.line_col(Encoding::Utf8, error.offset);
-    let Some(line) = index.line(place.line) else {
-        unreachable!()
-    };
     let words = format!(in alloc; "{error}")?;
-    let row = row_of(alloc, path, place, words.as_str())?;
-    rows.extend_from_slice(row.as_str().as_bytes())?;
-    push_excerpt(line.as_bytes(), byte.col, rows)
+    let message = Message {
+        offset: error.offset,
+        words: words.as_str(),
+    };
+    push_message(alloc, path, index, &message, rows)
 }
 
 /// Appends the rows of the messages of `document`.
@@ -50,7 +45,7 @@ pub(crate) fn push_messages(
     let index = LineIndex::try_new(alloc, document.text())?;
     let errors = document.errors();
     for error in errors {
-        push_message(alloc, path, &index, *error, rows)?;
+        push_error(alloc, path, &index, *error, rows)?;
     }
     Ok(())
 }

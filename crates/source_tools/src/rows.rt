@@ -26,7 +26,7 @@ fn push_below(front: &[u8], rows: &mut Vec<u8>) -> Result<(), AllocError>
 }
 
 /// Appends `line` and a caret below its byte `col`, if the line is short enough to be shown.
-pub(crate) fn push_excerpt(line: &[u8], col: usize, rows: &mut Vec<u8>) -> Result<(), AllocError>
+fn push_excerpt(line: &[u8], col: usize, rows: &mut Vec<u8>) -> Result<(), AllocError>
     ensures { OnOk result (rows.new.items ≡ rows.old.items ++ excerpt line.now col) }
 {
     if line.len() <= MAX_SHOWN {
@@ -39,7 +39,7 @@ pub(crate) fn push_excerpt(line: &[u8], col: usize, rows: &mut Vec<u8>) -> Resul
 }
 
 /// Returns the row of a message.
-pub(crate) fn row_of(alloc: Global, path: &str, place: LineCol, words: &str) -> Result<String, AllocError>
+fn row_of(alloc: Global, path: &str, place: LineCol, words: &str) -> Result<String, AllocError>
     requires line { place.line + 1 < 2 ^ 64 }
     requires col { place.col + 1 < 2 ^ 64 }
     ensures { IfOk result (λ text. string_bytes text ≡ row path.now place words.now) }
@@ -47,6 +47,35 @@ pub(crate) fn row_of(alloc: Global, path: &str, place: LineCol, words: &str) -> 
     let line = place.line + 1;
     let col = place.col + 1;
     format!(in alloc; "{path}:{line}:{col}: {words}\n")
+}
+
+/// A message about a byte of a text.
+#[derive(Drop)]
+pub(crate) struct Message<'a> {
+    pub(crate) offset: usize,
+    pub(crate) words: &'a str,
+}
+
+/// Appends the rows of a message about the text of `index`.
+pub(crate) fn push_message(
+    alloc: Global,
+    path: &str,
+    index: &LineIndex<'_>,
+    message: &Message<'_>,
+    rows: &mut Vec<u8>,
+) -> Result<(), AllocError>
+    requires { length index.now < 2 ^ 32 }
+    ensures { OnOk result (rows.new.items ≡ rows.old.items
+        ++ message_rows path.now index.now message.now.offset message.now.words.now) }
+{
+    let place = index.line_col(Encoding::Utf32, message.offset);
+    let byte = index.line_col(Encoding::Utf8, message.offset);
+    let Some(line) = index.line(place.line) else {
+        unreachable!()
+    };
+    let row = row_of(alloc, path, place, message.words)?;
+    rows.extend_from_slice(row.as_str().as_bytes())?;
+    push_excerpt(line.as_bytes(), byte.col, rows)
 }
 
 /// Appends `text` in quotes. Line feeds, carriage returns, tabs, quotes and backslashes are escaped.

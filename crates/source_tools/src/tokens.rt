@@ -10,7 +10,7 @@ use rust_document::{Document, LexedToken};
 use std::alloc::{AllocError, Global};
 
 /// Returns the bytes from `start` to just before `end`, as far as there are any.
-fn part(bytes: &[u8], start: usize, end: usize) -> &[u8]
+pub(crate) fn part(bytes: &[u8], start: usize, end: usize) -> &[u8]
     ensures { result.now ≡ slice_range bytes.now start end }
 {
     let end = end.min(bytes.len());

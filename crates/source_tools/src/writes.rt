@@ -1,7 +1,7 @@
 //! Files are written.
 
-ghost use Rattle.std.specs.Prelude.{◌≤◌, ◌<◌, IfErr, OnOk, length, take};
-ghost use Rattle.source_tools.specs.Writes.{HasChanges};
+ghost use Rattle.std.specs.Prelude.{◌≡◌, ◌≤◌, ◌<◌, IfErr, OnOk, length, map, take};
+ghost use Rattle.source_tools.specs.Writes.{HasChanges, change_in};
 
 use file_target::{Target, TargetError, Version};
 use std::alloc::Global;
@@ -29,6 +29,21 @@ impl Drop for FileChange {
     }
 }
 
+impl FileChange {
+    /// Returns the path.
+    pub(crate) fn into_path(self) -> String
+        ensures { result ≡ self.path }
+    {
+        let FileChange {
+            path,
+            version: _,
+            old: _old,
+            new: _new,
+        } = self;
+        path
+    }
+}
+
 /// A file that could not be written, and why. The files of the changes before it are written.
 #[derive(Debug, Drop)]
 pub struct WriteFault {
@@ -47,8 +62,10 @@ pub fn write_changes<T: Target>(
     target: &mut T,
     changes: &[FileChange],
 ) -> Result<(), WriteFault>
-    ensures written { OnOk result (HasChanges changes.now (T.files target.old) (T.files target.new)) }
-    ensures front { IfErr result (λ fault. HasChanges (take fault.index changes.now)
+    ensures written { OnOk result (HasChanges (map change_in changes.now)
+        (T.files target.old) (T.files target.new)) }
+    ensures front { IfErr result (λ fault. HasChanges
+        (map change_in (take fault.index changes.now))
         (T.files target.old) (T.files target.new)) }
     ensures index { IfErr result (λ fault. fault.index < length changes.now) }
 {
