@@ -5,3 +5,4 @@ pub mod ShowLemmas
 pub mod RowLemmas
 pub mod RenameLemmas
 pub mod DiffLemmas
+pub mod WordLemmas

@@ -1,6 +1,6 @@
 //! The messages of a document as rows.
 
-ghost use Rattle.std.specs.Prelude.{◌≡◌, ◌<◌, ◌^◌, ◌++◌, OnOk, length, chars};
+ghost use Rattle.std.specs.Prelude.{◌≡◌, ◌<◌, ◌^◌, ◌++◌, OnOk, length, chars, map};
 ghost use Rattle.std.specs.List.{flat_map};
 ghost use Rattle.rust_document.specs.Reading.{messages};
 ghost use Rattle.rust_document.specs.Seen.{message_of_error};
@@ -28,7 +28,26 @@ fn push_error(
         offset: error.offset,
         words: words.as_str(),
     };
-    push_message(alloc, path, index, &message, rows)
+    push_message(alloc, path, index, &message, rows)?;
+    Ok(())
+}
+
+/// Appends the rows of `errors`, which are about the text of `index`.
+fn push_errors(
+    alloc: Global,
+    path: &str,
+    index: &LineIndex<'_>,
+    errors: &[SyntaxError],
+    rows: &mut Vec<u8>,
+) -> Result<(), AllocError>
+    requires { length index.now < 2 ^ 32 }
+    ensures { OnOk result (rows.new.items ≡ rows.old.items
+        ++ flat_map (rows_of_message path.now index.now) (map message_of_error errors.now)) }
+{
+    for error in errors {
+        push_error(alloc, path, index, *error, rows)?;
+    }
+    Ok(())
 }
 
 /// Appends the rows of the messages of `document`.
@@ -43,9 +62,6 @@ pub(crate) fn push_messages(
         (messages document.now.edition (chars document.now.text))) }
 {
     let index = LineIndex::try_new(alloc, document.text())?;
-    let errors = document.errors();
-    for error in errors {
-        push_error(alloc, path, &index, *error, rows)?;
-    }
+    push_errors(alloc, path, &index, document.errors(), rows)?;
     Ok(())
 }

@@ -1,14 +1,15 @@
 //! Identifiers are renamed in the bytes of a file.
 
 ghost use Rattle.std.specs.Prelude.{◌≡◌, MatchResult, Some, chars};
-ghost use Rattle.source_tools.specs.Renames.{IsRenamable, RefusesBytes, has_identifier, is_free, renamed_bytes};
+ghost use Rattle.source_tools.specs.Renames.{IsRenamable, RefusesBytes, has_identifier, is_free, is_identifier, renamed_bytes};
+ghost use Rattle.rust_document.specs.Tokens.{span_of};
 
 use crate::decode::{encode, text_of};
 use crate::source::FileError;
 use crate::tokens::part;
 use parser_input::{Edition, SyntaxKind};
 use rename_example::{RenameError, rename};
-use rust_document::{Document, OpenError};
+use rust_document::{Document, LexedToken, OpenError};
 use std::alloc::{AllocError, Global};
 use std::fmt;
 use syntax_tree::TreeIds;
@@ -60,18 +61,24 @@ impl From<AllocError> for RenameFault {
     }
 }
 
+/// Returns `true` if a token of `text` is the identifier `name`.
+fn is_identifier(text: &str, token: LexedToken, name: &str) -> bool
+    ensures { result ≡ is_identifier name.now text.now (span_of token) }
+{
+    let start = usize::from(token.range.start());
+    let end = usize::from(token.range.end());
+    let bytes = part(text.as_bytes(), start, end);
+    token.kind.to_raw() == SyntaxKind::IDENT.to_raw() && bytes == name.as_bytes()
+}
+
 /// Returns `true` if `document` has the identifier `name`.
 fn has_identifier(document: &Document, name: &str) -> bool
     ensures { result ≡ has_identifier name.now document.now.edition document.now.text }
 {
-    let text = document.text().as_bytes();
+    let text = document.text();
     for token in document.tokens() {
-        if token.kind == SyntaxKind::IDENT {
-            let start = usize::from(token.range.start());
-            let end = usize::from(token.range.end());
-            if part(text, start, end) == name.as_bytes() {
-                return true;
-            }
+        if is_identifier(text, token, name) {
+            return true;
         }
     }
     false

@@ -30,7 +30,8 @@ fn push_token(
     let start = usize::from(token.range.start());
     let end = usize::from(token.range.end());
     push_range(alloc, token.kind.name(), start, end, rows)?;
-    push_text(part(text.as_bytes(), start, end), rows)
+    push_text(part(text.as_bytes(), start, end), rows)?;
+    Ok(())
 }
 
 /// Appends the rows of the tokens of `document`.
