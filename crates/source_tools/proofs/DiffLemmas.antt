@@ -1,5 +1,5 @@
 -- Lemmas on diffs of changes.
-use Rattle.std.proofs.Common.{◌≡◌, ℕ, List, [], ◌∷◌, ◌++◌, refl, ap, sym, ◌∙◌, append_assoc, append-nil}
+use Rattle.std.proofs.Common.{ℕ, List, [], ◌∷◌, ◌++◌, refl, ap, sym, ◌∙◌, append_assoc, append-nil}
 use Rattle.source_tools.specs.Writes.{Change}
 use Rattle.source_tools.specs.Diffs.{IsDiff, AreDiffs}
 

@@ -1,5 +1,5 @@
 -- Known bytes that grow.
-use Rattle.std.proofs.Common.{◌≡◌, ℕ, Option, Some, None, List, [], ◌++◌, ap, sym, ◌∙◌, append_assoc, append-nil}
+use Rattle.std.proofs.Common.{ℕ, Option, Some, None, List, [], ◌++◌, ap, sym, ◌∙◌, append_assoc, append-nil}
 use Rattle.std.specs.Io.KnownBytes.{Appends, Keeps}
 
 pub appends-none : (o : Option (List ℕ)) → Appends o o []

@@ -1,5 +1,5 @@
 -- The words of messages in code.
-use Rattle.std.proofs.Common.{◌≡◌, ℕ, ◌++◌, refl, ap, sym}
+use Rattle.std.proofs.Common.{◌≡◌, ◌++◌, refl, ap, sym}
 use Rattle.std.specs.Prelude.{codes}
 use Rattle.parser_input.specs.Kind.{raw_of, name_of}
 use Rattle.parser_input.specs.declared.syntax_kind.SyntaxKind.{SyntaxKind}

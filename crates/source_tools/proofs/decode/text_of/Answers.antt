@@ -1,8 +1,7 @@
-use Rattle.std.proofs.Common.{◌≡◌, refl, inl, inr}
+use Rattle.std.proofs.Common.{refl, inl, inr}
 use Rattle.std.proofs.lemmas.Bool.{cases_Bool}
 use Rattle.std.proofs.lemmas.Str.{is_utf8-from_IsUtf8, IsUtf8-from_is_utf8}
 use Rattle.std.specs.Str.{is_utf8}
-use Rattle.source_tools.specs.Decoded.{after_mark, decoded}
 use Rattle.source_tools.proofs.decode.text_of.Goals as goal
 
 pub returns-in-Ok : goal.returns-in-Ok

@@ -1,4 +1,4 @@
-use Rattle.std.proofs.Common.{◌≡◌, ◌∙◌, ◌++◌, List, ℕ, ap}
+use Rattle.std.proofs.Common.{◌∙◌, ◌++◌, List, ℕ, ap}
 use Rattle.source_tools.specs.Rows.{message_rows}
 use Rattle.source_tools.proofs.WordLemmas.{words-are}
 use Rattle.source_tools.proofs.messages.push_error.Goals as goal

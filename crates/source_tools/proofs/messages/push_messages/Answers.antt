@@ -1,7 +1,4 @@
-use Rattle.std.proofs.Common.{◌≡◌, ◌∙◌, ◌++◌, List, ℕ, ap, arith}
-use Rattle.std.specs.List.{flat_map}
-use Rattle.rust_document.specs.Reading.{Message}
-use Rattle.source_tools.specs.Texts.{rows_of_message}
+use Rattle.std.proofs.Common.{◌≡◌, ◌∙◌, arith}
 use Rattle.source_tools.proofs.messages.push_messages.Goals as goal
 
 pub push_errors-requires : goal.push_errors-requires

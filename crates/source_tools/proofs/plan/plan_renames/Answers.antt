@@ -2,7 +2,7 @@ use Rattle.std.proofs.Common.{◌≡◌, ◌∙◌, ◌+◌, ◌++◌, ◌∷◌
 use Rattle.std.proofs.lemmas.List.{take_more, take_all}
 use Rattle.std.specs.Option.{option_to_list}
 use Rattle.source_tools.specs.declared.source.Source.{Source}
-use Rattle.source_tools.proofs.RenameLemmas.{IfPlanned, planned-none, planned-more, plan-made, plan-refused, plan-memory}
+use Rattle.source_tools.proofs.RenameLemmas.{IfPlanned, planned-more, plan-made, plan-memory}
 use Rattle.source_tools.proofs.plan.plan_renames.Goals as goal
 
 pub loop-index-preserved : goal.loop-index-preserved

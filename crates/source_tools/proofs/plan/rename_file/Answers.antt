@@ -1,4 +1,4 @@
-use Rattle.std.proofs.Common.{◌≡◌, ◌∙◌, ap, Err}
+use Rattle.std.proofs.Common.{◌∙◌, ap, Err}
 use Rattle.source_tools.proofs.RenameLemmas.{memory-read}
 use Rattle.source_tools.proofs.plan.rename_file.Goals as goal
 

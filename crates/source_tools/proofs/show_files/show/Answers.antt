@@ -1,4 +1,4 @@
-use Rattle.std.proofs.Common.{◌≡◌, ◌∙◌, ◌+◌, ◌++◌, ◌∷◌, [], false, Bool, List, ℕ, Option, take, length, ap, sym, subst, arith}
+use Rattle.std.proofs.Common.{◌≡◌, ◌∙◌, ◌+◌, ◌++◌, ◌∷◌, [], false, List, take, length, ap, sym, subst, arith}
 use Rattle.std.proofs.lemmas.List.{take_more, length-take}
 use Rattle.source_tools.specs.declared.source.Source.{Source}
 use Rattle.source_tools.specs.declared.source.FileFault.{FileFault}

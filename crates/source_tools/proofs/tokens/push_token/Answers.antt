@@ -1,7 +1,5 @@
-use Rattle.std.proofs.Common.{◌≡◌, ◌∙◌, ◌++◌, List, ℕ, ap, sym, slice_range}
-use Rattle.std.specs.Prelude.{codes}
+use Rattle.std.proofs.Common.{◌≡◌, ◌∙◌, sym}
 use Rattle.parser_input.specs.Kind.{raw_of}
-use Rattle.source_tools.specs.Rows.{range_text, quoted}
 use Rattle.source_tools.specs.Words.{kind_name}
 use Rattle.source_tools.proofs.ListLemmas.{two-more}
 use Rattle.source_tools.proofs.WordLemmas.{name-of-raw}

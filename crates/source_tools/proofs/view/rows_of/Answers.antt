@@ -1,4 +1,4 @@
-use Rattle.std.proofs.Common.{◌≡◌, refl}
+use Rattle.std.proofs.Common.{refl}
 use Rattle.source_tools.specs.Texts.{rows_of}
 use Rattle.source_tools.proofs.view.rows_of.Goals as goal
 use Rattle.source_tools.proofs.view.rows_of.Goals.{in-Messages+in_ok-push_messages-in-Messages, in-Tokens+in_ok-push_tokens-in-Tokens, in-Tree+in_ok-push_tree-in-Tree}
