@@ -41,68 +41,81 @@ fn files<'a>(alloc: Global) -> Arg<'a> {
 }
 
 /// Returns a command that reads files.
-fn reading<'a>(
-    alloc: Global,
-    name: &'a str,
-    about: &'a str,
-) -> Result<Command<'a>, AllocError> {
+fn reading<'a>(alloc: Global, name: &'a str, about: &'a str) -> Result<Command<'a>, AllocError> {
     Command::new(alloc, name)
         .about(about)
         .arg(edition(alloc))?
         .arg(files(alloc))
 }
 
-/// Returns the command that renames.
-fn renaming<'a>(alloc: Global) -> Result<Command<'a>, AllocError> {
-    let write = Arg::new(alloc, "write")
-        .short('w')
-        .long("write")
-        .help("Writes the files")
-        .action(ArgAction::SetTrue);
-    let diff = Arg::new(alloc, "diff")
-        .long("diff")
-        .help("Prints a diff and writes nothing; so it is without --write")
+/// Returns a flag.
+fn flag<'a>(alloc: Global, name: &'a str, help: &'a str) -> Arg<'a> {
+    Arg::new(alloc, name)
+        .long(name)
+        .help(help)
         .action(ArgAction::SetTrue)
-        .conflicts_with("write")?;
-    let merge = Arg::new(alloc, "merge")
-        .long("merge")
-        .help("NEW may be an identifier of the files already")
-        .action(ArgAction::SetTrue);
-    let old = Arg::new(alloc, "old")
-        .value_name("OLD")
-        .help("The identifier that is renamed")
-        .required(true)
-        .action(ArgAction::Set);
-    let new = Arg::new(alloc, "new")
-        .value_name("NEW")
-        .help("Its new name")
-        .required(true)
-        .action(ArgAction::Set);
-    Command::new(alloc, "rename")
-        .about("Renames identifiers")
-        .long_about(RENAME)
-        .arg(write)?
-        .arg(diff)?
-        .arg(merge)?
-        .arg(edition(alloc))?
-        .arg(old)?
-        .arg(new)?
-        .arg(files(alloc))
 }
 
-/// Returns the whole command.
-pub(crate) fn command<'a>(alloc: Global) -> Result<Command<'a>, AllocError> {
-    let check = reading(alloc, "check", "Prints the messages of files, with their lines")?;
-    let tokens = reading(alloc, "tokens", "Prints the tokens of files, a row each")?;
-    let tree = reading(alloc, "tree", "Prints the trees of files, a row for each element")?;
+/// Returns a required word.
+fn word<'a>(alloc: Global, name: &'a str, shown: &'a str, help: &'a str) -> Arg<'a> {
+    Arg::new(alloc, name)
+        .value_name(shown)
+        .help(help)
+        .required(true)
+        .action(ArgAction::Set)
+}
+
+/// Adds the flags of a command that writes files.
+fn with_flags<'a>(alloc: Global, command: Command<'a>) -> Result<Command<'a>, AllocError> {
+    let write = flag(alloc, "write", "Writes the files").short('w');
+    let diff = flag(alloc, "diff", "Prints a diff, as without --write").conflicts_with("write")?;
+    command.arg(write)?.arg(diff)
+}
+
+/// Adds the names of a renaming.
+fn with_names<'a>(alloc: Global, command: Command<'a>) -> Result<Command<'a>, AllocError> {
+    let merge = flag(
+        alloc,
+        "merge",
+        "NEW may be an identifier of the files already",
+    );
+    let old = word(alloc, "old", "OLD", "The identifier that is renamed");
+    let new = word(alloc, "new", "NEW", "Its new name");
+    command.arg(merge)?.arg(old)?.arg(new)
+}
+
+/// Returns the command that renames.
+fn renaming<'a>(alloc: Global) -> Result<Command<'a>, AllocError> {
+    let command = Command::new(alloc, "rename")
+        .about("Renames identifiers")
+        .long_about(RENAME);
+    let command = with_names(alloc, with_flags(alloc, command)?)?;
+    command.arg(edition(alloc))?.arg(files(alloc))
+}
+
+/// Returns the command without its subcommands.
+fn bare_command<'a>(alloc: Global) -> Command<'a> {
     Command::new(alloc, "tevondimby")
         .about(ABOUT)
         .after_help(AFTER)
         .version("0.1.0")
         .subcommand_required(true)
         .arg_required_else_help(true)
-        .subcommand(check)?
-        .subcommand(tokens)?
-        .subcommand(tree)?
-        .subcommand(renaming(alloc)?)
+}
+
+/// Returns the whole command.
+pub(crate) fn command<'a>(alloc: Global) -> Result<Command<'a>, AllocError> {
+    let check = reading(
+        alloc,
+        "check",
+        "Prints the messages of files, with their lines",
+    )?;
+    let tokens = reading(alloc, "tokens", "Prints the tokens of files, a row each")?;
+    let tree = reading(
+        alloc,
+        "tree",
+        "Prints the trees of files, a row for each element",
+    )?;
+    let command = bare_command(alloc).subcommand(check)?.subcommand(tokens)?;
+    command.subcommand(tree)?.subcommand(renaming(alloc)?)
 }

@@ -9,30 +9,22 @@ pub(crate) const STANDARD_INPUT: &str = "-";
 
 /// The files of the disk, and standard input at the path `-`, which can be read once and is never
 /// written.
+#[derive(Drop)]
 pub(crate) struct Inputs<'a> {
     rt: &'a HostRuntime,
-    disk: Disk<'a, HostRuntime>,
-}
-
-impl<'a> Drop for Inputs<'a> {
-    fn drop(self) {
-        let Inputs { rt: _, disk: _disk } = self;
-    }
 }
 
 impl<'a> Inputs<'a> {
     pub(crate) fn new(rt: &'a HostRuntime) -> Inputs<'a> {
-        Inputs {
-            rt,
-            disk: Disk::new(rt),
-        }
+        Inputs { rt }
     }
 }
 
 impl<'a> Target for Inputs<'a> {
     fn read(&self, alloc: Global, path: &str) -> Result<Contents, TargetError> {
         if path != STANDARD_INPUT {
-            return self.disk.read(alloc, path);
+            let disk = Disk::new(self.rt);
+            return disk.read(alloc, path);
         }
         let mut bytes = Vec::new(alloc);
         self.rt.stdin().read_to_end(&mut bytes)?;
@@ -52,6 +44,7 @@ impl<'a> Target for Inputs<'a> {
         if path == STANDARD_INPUT {
             return Err(TargetError::Io(io::Error::from(ErrorKind::Unsupported)));
         }
-        self.disk.write(alloc, path, version, bytes)
+        let mut disk = Disk::new(self.rt);
+        disk.write(alloc, path, version, bytes)
     }
 }

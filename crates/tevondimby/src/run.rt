@@ -22,9 +22,8 @@ fn files_of(rt: &HostRuntime, matches: &ArgMatches<'_>) -> Result<SourceList, Al
         Some(name) => edition_named(name),
         None => None,
     };
-    let paths = match matches.get_strs("files") {
-        Some(paths) => paths,
-        None => &[],
+    let Some(paths) = matches.get_strs("files") else {
+        return source_list(rt, [].as_slice(), edition);
     };
     source_list(rt, paths, edition)
 }
@@ -88,13 +87,15 @@ fn rename(rt: &HostRuntime, matches: &ArgMatches<'_>) -> Result<u8> {
     let sources = list.sources.as_slice();
     let mut inputs = Inputs::new(rt);
     if matches.get_flag("write") {
-        return Ok(match rename_files(rt.alloc(), &renaming, &mut inputs, sources) {
-            Ok(_) => 0,
-            Err(stop) => {
-                report_stop(rt, sources, &stop);
-                FAULT
-            }
-        });
+        return Ok(
+            match rename_files(rt.alloc(), &renaming, &mut inputs, sources) {
+                Ok(_) => 0,
+                Err(stop) => {
+                    report_stop(rt, sources, &stop);
+                    FAULT
+                }
+            },
+        );
     }
     match plan_renames(rt.alloc(), &renaming, &inputs, sources) {
         Ok(changes) => {

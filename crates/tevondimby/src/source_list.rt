@@ -5,8 +5,7 @@ use crate::inputs::STANDARD_INPUT;
 use parser_input::Edition;
 use source_tools::Source;
 use std::alloc::{AllocError, Global};
-use std::fs;
-use std::io;
+use std::{fs, io};
 
 /// The files of a command, and whether a path was left out.
 #[derive(Drop)]
