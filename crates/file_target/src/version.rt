@@ -18,6 +18,17 @@ pub struct Version {
 }
 
 impl Version {
+    /// Returns a version for bytes that are in no file, as those of standard input.
+    pub fn none() -> Version {
+        Version {
+            device: 0,
+            inode: 0,
+            len: 0,
+            seconds: 0,
+            nanoseconds: 0,
+        }
+    }
+
     /// Returns `true` if this is `other`.
     pub(crate) fn is(self, other: Version) -> bool
         ensures { IsTrue result ↔ self ≡ other }

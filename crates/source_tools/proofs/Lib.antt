@@ -1,0 +1,8 @@
+pub mod ListLemmas
+pub mod KnownLemmas
+pub mod WriteLemmas
+pub mod ShowLemmas
+pub mod RowLemmas
+pub mod RenameLemmas
+pub mod DiffLemmas
+pub mod WordLemmas

@@ -1,0 +1,30 @@
+use Rattle.std.proofs.Common.{◌≡◌, ◌∙◌, ◌+◌, ◌++◌, ◌∷◌, [], List, take, ap, sym, subst}
+use Rattle.std.proofs.lemmas.List.{take_more, take_all}
+use Rattle.std.specs.Option.{option_to_list}
+use Rattle.source_tools.specs.declared.source.Source.{Source}
+use Rattle.source_tools.proofs.RenameLemmas.{IfPlanned, planned-more, plan-made, plan-memory}
+use Rattle.source_tools.proofs.plan.plan_renames.Goals as goal
+
+pub loop-index-preserved : goal.loop-index-preserved
+loop-index-preserved g c =
+    let n = c.args.renaming.now in
+    let files = g.T.Target.files c.args.target.now in
+    let done = take c.loop-index.index c.args.sources.now in
+    let s : Source = c.index-sources-index.result in
+    let more : take (c.loop-index.index + 1) c.args.sources.now ≡ done ++ s ∷ [] =
+    take_more c.args.sources.now c.loop-index.index s c.loop-index-test.true ∙ ap (λ (x : Source). done ++ x ∷ []) (sym c.index-sources-index.is) in
+    rw c.in-Ok-push_change.ensures.pushed
+    (subst (λ (ss : List Source). IfPlanned n files ss (c.loop-index.changes.items ++ option_to_list c.in-Ok.change)) (sym more)
+    (planned-more n files done s c.loop-index.changes.items c.rename_file.result c.in-Ok.change c.in-Ok.is c.rename_file.ensures c.loop-index.invariant))
+
+pub returns-in-Err-push_change : goal.returns-in-Err-push_change
+returns-in-Err-push_change g c =
+    plan-memory c.args.renaming.now c.args.sources.now c.loop-index.index c.index-sources-index.result c.loop-index-test.true c.index-sources-index.is c.in-Err-push_change.fault
+    (g.T.Target.files c.args.target.now) c.rename_file.result c.in-Ok.change c.in-Ok.is c.in-Err-push_change.ensures.memory c.rename_file.ensures
+
+pub returns : goal.returns
+returns g c =
+    let n = c.args.renaming.now in
+    let files = g.T.Target.files c.args.target.now in
+    plan-made n files c.args.sources.now c.loop-index.changes
+    (subst (λ (ss : List Source). IfPlanned n files ss c.loop-index.changes.items) (take_all c.loop-index.index c.args.sources.now c.loop-index-test.false) c.loop-index.invariant)

@@ -1,0 +1,17 @@
+-- Diffs of changes.
+use Rattle.std.specs.Prelude.{◌≡◌, ℕ, List, [], ◌∷◌, ◌++◌, Some}
+use Rattle.text_diff.specs.Lines.{lines}
+use Rattle.text_diff.specs.Hunks.{Hunk}
+use Rattle.text_diff.specs.Patch.{patched}
+use Rattle.text_diff.specs.Unified.{unified_text}
+use Rattle.source_tools.specs.Writes.{Change}
+
+-- The text of hunks that make the new lines of the old ones.
+abbrev pub IsDiff : Change → List ℕ → Type 0
+IsDiff c d =
+    (hs : List Hunk) × (d ≡ unified_text c.path hs) × (patched hs (lines c.old) ≡ Some (lines c.bytes))
+
+-- The text is the diffs of the changes, one after another.
+abbrev pub AreDiffs : List Change → List ℕ → Type 0
+AreDiffs [] text = text ≡ []
+AreDiffs (c ∷ cs) text = (d rest : List ℕ) × (text ≡ d ++ rest) × IsDiff c d × AreDiffs cs rest

@@ -1,0 +1,102 @@
+-- What becomes of files that are shown one after another.
+use Rattle.std.specs.Prelude.{◌≡◌, ◌⊎◌, ℕ, suc, ◌==◌, Bool, false, true, not, nat_lt, List, [], ◌∷◌, map, length, chars, Option, Some, None, Result, MatchResult, string_bytes, if◌then◌else◌}
+use Rattle.std.specs.List.{flat_map, list_any}
+use Rattle.parser_input.specs.declared.edition.Edition.{Edition}
+use Rattle.file_target.specs.Files.{Files, FileState}
+use Rattle.rust_document.specs.Reading.{messages}
+use Rattle.rust_document.specs.Step.{MAX_TEXT}
+use Rattle.source_tools.specs.Decoded.{decoded}
+use Rattle.source_tools.specs.Texts.{rows_of}
+use Rattle.source_tools.specs.declared.source.Source.{Source}
+use Rattle.source_tools.specs.declared.source.FileError.{FileError}
+use Rattle.source_tools.specs.declared.source.FileError.TheVariants.{NotFound, Changed, NotUtf8, TooLong, NoMemory, Io}
+use Rattle.source_tools.specs.declared.source.FileFault.{FileFault}
+use Rattle.source_tools.specs.declared.view.View.{View}
+use Rattle.source_tools.specs.declared.view.View.TheVariants.{Messages, Tokens, Tree}
+use Rattle.source_tools.specs.declared.view.FileView.{FileView}
+use Rattle.source_tools.specs.declared.summary.Summary.{Summary}
+
+-- The rows of a file, and whether its reading has messages; or why it has none. Of files that are
+-- not known more can go wrong.
+pub data Outcome : Type 0 where
+  Viewed : List ℕ → Bool → Outcome
+  Missing : Outcome
+  NotText : Outcome
+  Long : Outcome
+  Unknown : Outcome
+
+-- Messages count where they are shown.
+abbrev pub has_messages : View → Edition → List ℕ → Bool
+has_messages Messages edition text = not (length (messages edition (chars text)) == 0)
+has_messages Tokens edition text = false
+has_messages Tree edition text = false
+
+-- what becomes of a text
+abbrev pub viewed : View → List ℕ → Edition → List ℕ → Outcome
+viewed view path edition text =
+    if nat_lt MAX_TEXT (length text) then Long
+    else Viewed (rows_of view path edition text) (has_messages view edition text)
+
+abbrev pub viewed_if_any : View → List ℕ → Edition → Option (List ℕ) → Outcome
+viewed_if_any view path edition None = NotText
+viewed_if_any view path edition (Some text) = viewed view path edition text
+
+-- what becomes of a file with these bytes
+abbrev pub outcome_of : View → Source → List ℕ → Outcome
+outcome_of view s bytes = viewed_if_any view (string_bytes s.path) s.edition (decoded bytes)
+
+-- what becomes of a file, if there is one
+abbrev pub outcome_if_any : View → Source → Option FileState → Outcome
+outcome_if_any view s None = Missing
+outcome_if_any view s (Some f) = outcome_of view s f.bytes
+
+abbrev pub outcome_in : View → Files → Source → Outcome
+outcome_in view files s = outcome_if_any view s (files (string_bytes s.path))
+
+abbrev pub rows_in : Outcome → List ℕ
+rows_in (Viewed rows has) = rows
+rows_in o = []
+
+-- what is written for files
+abbrev pub rows_of_all : View → Files → List Source → List ℕ
+rows_of_all view files sources = flat_map (λ s. rows_in (outcome_in view files s)) sources
+
+-- ---- the same in code
+
+abbrev pub failed : FileError → Outcome
+failed NotFound = Missing
+failed NotUtf8 = NotText
+failed TooLong = Long
+failed Changed = Unknown
+failed NoMemory = Unknown
+failed (Io e) = Unknown
+
+-- Out of memory comes at any point.
+abbrev pub IsOutcome : Outcome → Result FileView FileError → Type 0
+IsOutcome o r =
+    MatchResult r (λ v. o ≡ Viewed v.rows.items v.has_messages) (λ e. (e ≡ NoMemory) ⊎ (o ≡ failed e))
+
+abbrev pub is_fault : Outcome → Bool
+is_fault (Viewed rows has) = false
+is_fault o = true
+
+abbrev pub says_something : Outcome → Bool
+says_something (Viewed rows has) = has
+says_something o = false
+
+-- The files that are left out, by their numbers.
+unfoldable pub faults_from : ℕ → List Outcome → List (ℕ × Outcome)
+faults_from i [] = []
+faults_from i (o ∷ os) = if is_fault o then (i, o) ∷ faults_from (suc i) os else faults_from (suc i) os
+
+abbrev pub fault_in : FileFault → ℕ × Outcome
+fault_in f = (f.index, failed f.error)
+
+-- whether a file has messages, and which files are left out
+pub record IsSummary (os : List Outcome) (s : Summary) : Type 0 where
+  pub messages : s.has_messages ≡ list_any says_something os
+  pub faults : map fault_in s.faults.items ≡ faults_from 0 os
+
+-- 2 if a file is left out, else 1 if a file has messages
+abbrev pub status_of : List Outcome → ℕ
+status_of os = if list_any is_fault os then 2 else (if list_any says_something os then 1 else 0)

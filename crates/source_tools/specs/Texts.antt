@@ -1,0 +1,53 @@
+-- What is shown of a text: messages, tokens or the tree.
+use Rattle.std.specs.Prelude.{ℕ, ◌-◌, List, [], ◌∷◌, ◌++◌, chars, codes, length, slice_range, take}
+use Rattle.std.specs.List.{flat_map}
+use Rattle.rowan_green.specs.declared.utility_types.NodeOrToken.TheVariants.{Node, Token}
+use Rattle.rowan.specs.Place.{kind_at, text_at, start_of, end_of}
+use Rattle.rowan.specs.Around.{Cursor, place_in}
+use Rattle.rowan.specs.Walk.{Event, walk}
+use Rattle.rowan.specs.declared.utility_types.WalkEvent.TheVariants.{Enter, Leave}
+use Rattle.syntax_tree.specs.Element.{element_at}
+use Rattle.parser_input.specs.declared.edition.Edition.{Edition}
+use Rattle.rust_document.specs.Reading.{Message, messages, tree}
+use Rattle.rust_document.specs.Tokens.{Span, tokens_of}
+use Rattle.source_tools.specs.Rows.{message_rows, range_text, token_row, quoted}
+use Rattle.source_tools.specs.Words.{kind_name, words}
+use Rattle.source_tools.specs.declared.view.View.{View}
+use Rattle.source_tools.specs.declared.view.View.TheVariants.{Messages, Tokens, Tree}
+
+-- the rows of a message about a text
+abbrev pub rows_of_message : List ℕ → List ℕ → Message → List ℕ
+rows_of_message path text m = message_rows path text m.0 (words m.1)
+
+-- the row of a token of a text
+abbrev pub row_of_token : List ℕ → Span → List ℕ
+row_of_token text t = token_row (kind_name t.kind) t.start t.end (slice_range text t.start t.end)
+
+-- a row ends with the text of a token, and after the range of a node
+abbrev pub row_end : Cursor → List ℕ
+row_end (Node p) = codes "\n"
+row_end (Token p) = codes " " ++ (quoted (text_at p) ++ codes "\n")
+
+abbrev pub row_of_element : Cursor → List ℕ
+row_of_element c =
+    range_text (kind_name (kind_at (place_in c))) (start_of (place_in c)) (end_of (place_in c)) ++ row_end c
+
+-- the margin of what is in an element, and the margin around it again
+abbrev pub inner : List ℕ → List ℕ
+inner margin = margin ++ codes "  "
+
+abbrev pub outer : List ℕ → List ℕ
+outer margin = take (length margin - 2) margin
+
+-- a row for each element that is entered
+abbrev pub tree_rows : List ℕ → List Event → List ℕ
+tree_rows margin [] = []
+tree_rows margin (Enter c ∷ events) = (margin ++ row_of_element c) ++ tree_rows (inner margin) events
+tree_rows margin (Leave c ∷ events) = tree_rows (outer margin) events
+
+-- what is shown of a text
+unfoldable pub rows_of : View → List ℕ → Edition → List ℕ → List ℕ
+rows_of Messages path edition text = flat_map (rows_of_message path text) (messages edition (chars text))
+rows_of Tokens path edition text = flat_map (row_of_token text) (tokens_of edition (chars text))
+rows_of Tree path edition text =
+    tree_rows [] (walk (Node (element_at 0 (tree edition (chars text)) []).place))

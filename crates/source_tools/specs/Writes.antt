@@ -1,0 +1,42 @@
+-- Files that are written one after another.
+use Rattle.std.specs.Prelude.{◌≡◌, ℕ, List, [], ◌∷◌, Option, Some, None, string_bytes, if◌then◌else◌}
+use Rattle.std.specs.Str.{bytes_eq}
+use Rattle.file_target.specs.Files.{Files, FileState}
+use Rattle.source_tools.specs.declared.writes.FileChange.{FileChange}
+
+-- the bytes at each path
+abbrev pub Texts : Type 0
+Texts = List ℕ → Option (List ℕ)
+
+abbrev pub bytes_in : Option FileState → Option (List ℕ)
+bytes_in None = None
+bytes_in (Some f) = Some f.bytes
+
+abbrev pub texts_of : Files → Texts
+texts_of files path = bytes_in (files path)
+
+-- A path, the bytes of its file, and those that it gets.
+pub record Change : Type 0 where
+  pub path : List ℕ
+  pub old : List ℕ
+  pub bytes : List ℕ
+
+-- One file has other bytes.
+abbrev pub with_change : Change → Texts → Texts
+with_change c texts path = if bytes_eq c.path path then Some c.bytes else texts path
+
+-- The changes are made, one after another.
+unfoldable pub with_changes : List Change → Texts → Texts
+with_changes [] texts = texts
+with_changes (c ∷ cs) texts = with_changes cs (with_change c texts)
+
+-- Of files that are known, these changes are made.
+abbrev pub HasChanges : List Change → Option Files → Option Files → Type 0
+HasChanges cs None after = Unit {0}
+HasChanges cs (Some before) None = ⊥
+HasChanges cs (Some before) (Some after) =
+    (path : List ℕ) → texts_of after path ≡ with_changes cs (texts_of before) path
+
+-- a change in code
+abbrev pub change_in : FileChange → Change
+change_in c = record { path = string_bytes c.path; old = c.old.items; bytes = c.new.items }

@@ -1,0 +1,31 @@
+//! Commands over source files: messages, tokens, trees and renamings of files behind a `Target`.
+#![tactic(auto)]
+
+mod decode;
+mod diffs;
+mod messages;
+mod plan;
+mod rename;
+mod renaming;
+mod rows;
+mod show_files;
+mod source;
+mod summary;
+mod tokens;
+mod tree;
+mod view;
+mod writes;
+
+pub use decode::text_of;
+pub use diffs::write_diffs;
+pub use plan::{RenameFailure, plan_renames};
+pub use rename::{RenameStop, rename_files};
+pub use renaming::{RenameFault, Renaming, rename_bytes};
+pub use show_files::{Stop, show};
+pub use source::{FileError, FileFault, Source};
+pub use summary::Summary;
+pub use view::{FileView, View, view_bytes, view_file};
+pub use writes::{FileChange, WriteFault, write_changes};
+
+#[cfg(test)]
+mod tests;

@@ -1,0 +1,131 @@
+//! Identifiers are renamed in the bytes of a file.
+
+ghost use Rattle.std.specs.Prelude.{◌≡◌, MatchResult, Some, chars};
+ghost use Rattle.source_tools.specs.Renames.{IsRenamable, RefusesBytes, has_identifier, is_free, is_identifier, renamed_bytes};
+ghost use Rattle.rust_document.specs.Tokens.{span_of};
+
+use crate::decode::{encode, text_of};
+use crate::source::FileError;
+use crate::tokens::part;
+use parser_input::{Edition, SyntaxKind};
+use rename_example::{RenameError, rename};
+use rust_document::{Document, LexedToken, OpenError};
+use std::alloc::{AllocError, Global};
+use std::fmt;
+use syntax_tree::TreeIds;
+
+/// A renaming of identifiers.
+#[derive(Clone, Copy, Debug)]
+pub struct Renaming<'a> {
+    pub old: &'a str,
+    pub new: &'a str,
+    /// The new name may be an identifier of the text already.
+    pub merge: bool,
+}
+
+/// Why a file is not renamed in.
+#[derive(Debug, Drop)]
+pub enum RenameFault {
+    /// The file cannot be read.
+    File(FileError),
+    /// The new name is an identifier of the text already.
+    NameTaken,
+    /// The renamer refuses the names, or the new text.
+    Refused(RenameError),
+}
+
+impl fmt::Display for RenameFault {
+    fn fmt<W: fmt::Write>(&self, f: &mut fmt::Formatter<W>) -> fmt::Result {
+        match self {
+            RenameFault::File(error) => write!(f, "{error}"),
+            RenameFault::NameTaken => write!(f, "the new name is an identifier here already"),
+            RenameFault::Refused(error) => match error {
+                RenameError::NoToken(error) => write!(f, "the new name: {error}"),
+                RenameError::NotRecorded(error) => write!(f, "{error}"),
+                RenameError::Refused(error) => write!(f, "{error}"),
+                RenameError::NoMemory => write!(f, "out of memory"),
+            },
+        }
+    }
+}
+
+impl From<AllocError> for RenameFault {
+    ghost use Rattle.source_tools.specs.declared.source.FileError.TheVariants.{NoMemory};
+    ghost use Rattle.source_tools.specs.declared.renaming.RenameFault.TheVariants.{File};
+    ghost use Rattle.std.specs.Prelude.{◌≡◌};
+
+    ghost from_gives = { λ _ fault. fault ≡ File NoMemory };
+
+    fn from(_error: AllocError) -> RenameFault {
+        RenameFault::File(FileError::NoMemory)
+    }
+}
+
+/// Returns `true` if a token of `text` is the identifier `name`.
+fn is_identifier(text: &str, token: LexedToken, name: &str) -> bool
+    ensures { result ≡ is_identifier name.now text.now (span_of token) }
+{
+    let start = usize::from(token.range.start());
+    let end = usize::from(token.range.end());
+    let bytes = part(text.as_bytes(), start, end);
+    token.kind.to_raw() == SyntaxKind::IDENT.to_raw() && bytes == name.as_bytes()
+}
+
+/// Returns `true` if `document` has the identifier `name`.
+fn has_identifier(document: &Document, name: &str) -> bool
+    ensures { result ≡ has_identifier name.now document.now.edition document.now.text }
+{
+    let text = document.text();
+    for token in document.tokens() {
+        if is_identifier(text, token, name) {
+            return true;
+        }
+    }
+    false
+}
+
+/// Returns `true` if the new name may be taken, or is no identifier of `document`.
+fn is_free(renaming: &Renaming<'_>, document: &Document) -> bool
+    ensures { result ≡ is_free renaming.now document.now.edition document.now.text }
+{
+    renaming.merge || !has_identifier(document, renaming.new)
+}
+
+/// Returns the bytes of a file after the renaming.
+///
+/// # Errors
+///
+/// - [`RenameFault::File`] if the bytes are not UTF-8, the text is too long, or out of memory.
+/// - [`RenameFault::NameTaken`] if the new name is an identifier of the text, unless it may be.
+/// - [`RenameFault::Refused`] if the new name is no token, or the new text would not read as the
+///   renamed tree.
+pub fn rename_bytes(
+    alloc: Global,
+    renaming: &Renaming<'_>,
+    edition: Edition,
+    bytes: &[u8],
+) -> Result<Vec<u8>, RenameFault>
+    ensures { MatchResult result
+        (λ new. IsRenamable renaming.now edition bytes.now
+        × (renamed_bytes renaming.now edition bytes.now ≡ Some new.items))
+        (RefusesBytes renaming.now edition bytes.now) }
+{
+    let Some(text) = text_of(bytes) else {
+        return Err(RenameFault::File(FileError::NotUtf8));
+    };
+    let mut ids = TreeIds::new();
+    let mut document = match Document::open(alloc, edition, text, &mut ids) {
+        Ok(document) => document,
+        Err(OpenError::TooLong) => return Err(RenameFault::File(FileError::TooLong)),
+        Err(OpenError::NoTreeNumber) => unreachable!(),
+        Err(OpenError::NoMemory) => return Err(RenameFault::File(FileError::NoMemory)),
+    };
+    if !is_free(renaming, &document) {
+        return Err(RenameFault::NameTaken);
+    }
+    if let Err(error) = rename(alloc, &mut document, renaming.old, renaming.new, &mut ids) {
+        return Err(RenameFault::Refused(error));
+    }
+    let new = encode(alloc, bytes, document.text())?;
+    Ok(new)
+}

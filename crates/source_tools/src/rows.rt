@@ -1,0 +1,123 @@
+//! Messages as rows of text.
+
+ghost use Rattle.std.specs.Prelude.{◌≡◌, ◌≤◌, ◌<◌, ◌+◌, ◌^◌, ◌++◌, OnOk, IfOk, length, take, string_bytes, codes};
+ghost use Rattle.std.specs.List.{flat_map};
+ghost use Rattle.line_index.specs.Lines.{feeds};
+ghost use Rattle.source_tools.specs.Rows.{below, escaped, excerpt, message_rows, quoted, range_text, row, token_row};
+
+use line_index::{Encoding, LineCol, LineIndex};
+use std::alloc::{AllocError, Global};
+
+/// The most bytes of a line that is shown.
+const MAX_SHOWN: usize = 240;
+
+/// Appends what is below `front`: a tab below a tab, a space below each other character.
+fn push_below(front: &[u8], rows: &mut Vec<u8>) -> Result<(), AllocError>
+    ensures { OnOk result (rows.new.items ≡ rows.old.items ++ flat_map below front.now) }
+{
+    for byte in front {
+        match *byte {
+            b'\t' => rows.push(b'\t')?,
+            0x80..=0xbf => {}
+            _ => rows.push(b' ')?,
+        }
+    }
+    Ok(())
+}
+
+/// Appends `line` and a caret below its byte `col`, if the line is short enough to be shown.
+fn push_excerpt(line: &[u8], col: usize, rows: &mut Vec<u8>) -> Result<(), AllocError>
+    ensures { OnOk result (rows.new.items ≡ rows.old.items ++ excerpt line.now col) }
+{
+    if line.len() <= MAX_SHOWN {
+        rows.extend_from_slice(line)?;
+        rows.push(b'\n')?;
+        push_below(&line[..col.min(line.len())], rows)?;
+        rows.extend_from_slice(b"^\n")?;
+    }
+    Ok(())
+}
+
+/// Returns the row of a message.
+fn row_of(alloc: Global, path: &str, place: LineCol, words: &str) -> Result<String, AllocError>
+    requires line { place.line + 1 < 2 ^ 64 }
+    requires col { place.col + 1 < 2 ^ 64 }
+    ensures { IfOk result (λ text. string_bytes text ≡ row path.now place words.now) }
+{
+    let line = place.line + 1;
+    let col = place.col + 1;
+    format!(in alloc; "{path}:{line}:{col}: {words}\n")
+}
+
+/// A message about a byte of a text.
+#[derive(Drop)]
+pub(crate) struct Message<'a> {
+    pub(crate) offset: usize,
+    pub(crate) words: &'a str,
+}
+
+/// Appends the rows of a message about the text of `index`.
+pub(crate) fn push_message(
+    alloc: Global,
+    path: &str,
+    index: &LineIndex<'_>,
+    message: &Message<'_>,
+    rows: &mut Vec<u8>,
+) -> Result<(), AllocError>
+    requires { length index.now < 2 ^ 32 }
+    ensures { OnOk result (rows.new.items ≡ rows.old.items
+        ++ message_rows path.now index.now message.now.offset message.now.words.now) }
+{
+    let place = index.line_col(Encoding::Utf32, message.offset);
+    let byte = index.line_col(Encoding::Utf8, message.offset);
+    let Some(line) = index.line(place.line) else {
+        unreachable!()
+    };
+    let row = row_of(alloc, path, place, message.words)?;
+    rows.extend_from_slice(row.as_str().as_bytes())?;
+    push_excerpt(line.as_bytes(), byte.col, rows)
+}
+
+/// Appends `text` in quotes. Line feeds, carriage returns, tabs, quotes and backslashes are escaped.
+fn push_quoted(text: &[u8], rows: &mut Vec<u8>) -> Result<(), AllocError>
+    ensures { OnOk result (rows.new.items ≡ rows.old.items ++ quoted text.now) }
+{
+    rows.push(b'"')?;
+    for byte in text {
+        match *byte {
+            b'\n' => rows.extend_from_slice(b"\\n")?,
+            b'\r' => rows.extend_from_slice(b"\\r")?,
+            b'\t' => rows.extend_from_slice(b"\\t")?,
+            b'"' => rows.extend_from_slice(b"\\\"")?,
+            b'\\' => rows.extend_from_slice(b"\\\\")?,
+            other => rows.push(other)?,
+        }
+    }
+    rows.push(b'"')?;
+    Ok(())
+}
+
+/// Appends what an element's row begins with: its name and range.
+pub(crate) fn push_range(
+    alloc: Global,
+    name: &str,
+    start: usize,
+    end: usize,
+    rows: &mut Vec<u8>,
+) -> Result<(), AllocError>
+    ensures { OnOk result (rows.new.items ≡ rows.old.items ++ range_text name.now start end) }
+{
+    let text = format!(in alloc; "{name}@{start}..{end}")?;
+    rows.extend_from_slice(text.as_str().as_bytes())
+}
+
+/// Appends the end of a token's row: its text, quoted.
+pub(crate) fn push_text(text: &[u8], rows: &mut Vec<u8>) -> Result<(), AllocError>
+    ensures { OnOk result (rows.new.items
+        ≡ rows.old.items ++ (codes " " ++ (quoted text.now ++ codes "\n"))) }
+{
+    rows.push(b' ')?;
+    push_quoted(text, rows)?;
+    rows.push(b'\n')?;
+    Ok(())
+}

@@ -1,0 +1,223 @@
+//! Files in memory, also where a read or a write fails.
+
+use crate::{
+    FileError, RenameFault, RenameStop, Renaming, Source, Stop, Summary, View, plan_renames,
+    rename_files, show, write_diffs,
+};
+use file_target::{Contents, Memory, Target, TargetError, Version};
+use parser_input::Edition;
+use std::alloc::{AllocError, Global};
+use std::cell::Cell;
+use std::test::Fail;
+
+/// Returns sources of edition 2021.
+fn sources(alloc: Global, paths: &[&str]) -> Result<Vec<Source>, AllocError> {
+    let mut sources = Vec::new(alloc);
+    for path in paths {
+        sources.push(Source {
+            path: String::from_str(alloc, path)?,
+            edition: Edition::Edition2021,
+        })?;
+    }
+    Ok(sources)
+}
+
+/// Shows a good file, one with a message, one that is no text and one that does not exist.
+fn show_four(alloc: Global, view: View, output: &mut Vec<u8>) -> Result<Summary, Stop> {
+    let mut memory = Memory::new(alloc);
+    memory.add(alloc, "a.rs", b"\xef\xbb\xbfstruct S;\n")?;
+    memory.add(alloc, "b.rs", "fn f() {\n\tlet \u{e9} = ;\n}\n".as_bytes())?;
+    memory.add(alloc, "c.rs", b"\xff")?;
+    let sources = sources(alloc, &["a.rs", "b.rs", "c.rs", "d.rs"])?;
+    show(alloc, view, &memory, sources.as_slice(), output)
+}
+
+#[test]
+fn messages_have_places(rt: HostRuntime) -> Result<(), Fail> {
+    let alloc = rt.alloc();
+    let mut output = Vec::new(alloc);
+    let summary = match show_four(alloc, View::Messages, &mut output) {
+        Err(Stop::NoMemory) => {
+            output.clear();
+            show_four(alloc, View::Messages, &mut output)?
+        }
+        answer => answer?,
+    };
+    let expected = "b.rs:2:9: expected an expression\n\tlet \u{e9} = ;\n\t       ^\n";
+    assert!(rt; output.as_slice() == expected.as_bytes());
+    assert!(rt; (summary.status() == 2) & (summary.faults.len() == 2));
+    let first = &summary.faults[0];
+    assert!(rt; (first.index == 2) & matches!(first.error, FileError::NotUtf8));
+    let second = &summary.faults[1];
+    assert!(rt; (second.index == 3) & matches!(second.error, FileError::NotFound));
+    Ok(())
+}
+
+/// Returns what is shown of one file.
+fn shown(alloc: Global, view: View, text: &str) -> Result<Vec<u8>, Stop> {
+    let mut memory = Memory::new(alloc);
+    memory.add(alloc, "a.rs", text.as_bytes())?;
+    let sources = sources(alloc, &["a.rs"])?;
+    let mut output = Vec::new(alloc);
+    show(alloc, view, &memory, sources.as_slice(), &mut output)?;
+    Ok(output)
+}
+
+#[test]
+fn tokens_and_trees_have_rows(rt: HostRuntime) -> Result<(), Fail> {
+    let alloc = rt.alloc();
+    let tokens = shown(alloc, View::Tokens, "struct\tS;")?;
+    let expected =
+        "STRUCT_KW@0..6 \"struct\"\nWHITESPACE@6..7 \"\\t\"\nIDENT@7..8 \"S\"\nSEMICOLON@8..9 \";\"\n";
+    assert!(rt; tokens.as_slice() == expected.as_bytes());
+    let tree = shown(alloc, View::Tree, "mod a;")?;
+    let expected = "SOURCE_FILE@0..6\n  MODULE@0..6\n    MOD_KW@0..3 \"mod\"\n    \
+        WHITESPACE@3..4 \" \"\n    NAME@4..5\n      IDENT@4..5 \"a\"\n    SEMICOLON@5..6 \";\"\n";
+    assert!(rt; tree.as_slice() == expected.as_bytes());
+    Ok(())
+}
+
+/// Files in memory, of which one call fails.
+struct Failing {
+    memory: Memory,
+    /// How many calls there are up to the one that fails.
+    left: Cell<u32>,
+}
+
+impl Drop for Failing {
+    fn drop(self) {
+        let Failing {
+            memory: _memory,
+            left: _left,
+        } = self;
+    }
+}
+
+impl Failing {
+    /// Counts a call. Returns `true` if it fails.
+    fn fails(&self) -> bool {
+        let left = self.left.get();
+        self.left.set(left.saturating_sub(1));
+        left == 1
+    }
+}
+
+impl Target for Failing {
+    fn read(&self, alloc: Global, path: &str) -> Result<Contents, TargetError> {
+        if self.fails() {
+            return Err(TargetError::Changed);
+        }
+        self.memory.read(alloc, path)
+    }
+
+    fn write(
+        &mut self,
+        alloc: Global,
+        path: &str,
+        version: Version,
+        bytes: &[u8],
+    ) -> Result<(), TargetError> {
+        if self.fails() {
+            return Err(TargetError::Changed);
+        }
+        self.memory.write(alloc, path, version, bytes)
+    }
+}
+
+/// The files that are renamed in; the third one stays as it is.
+const PATHS: [&str; 4] = ["a.rs", "b.rs", "c.rs", "d.rs"];
+
+/// Returns the files, of which the call with this number fails.
+fn failing(alloc: Global, call: u32) -> Result<Failing, AllocError> {
+    let mut memory = Memory::new(alloc);
+    for path in PATHS {
+        let text = if path == "c.rs" { "fn other() {}" } else { "fn old() {}" };
+        memory.add(alloc, path, text.as_bytes())?;
+    }
+    Ok(Failing {
+        memory,
+        left: Cell::new(call),
+    })
+}
+
+/// Returns how many of the files are renamed in, if these are the first ones.
+fn written(alloc: Global, memory: &Memory) -> Result<Option<usize>, TargetError> {
+    let mut count = 0usize;
+    let mut is_over = false;
+    let mut is_front = true;
+    for path in ["a.rs", "b.rs", "d.rs"] {
+        let contents = memory.read(alloc, path)?;
+        if contents.bytes.as_slice() == b"fn new() {}".as_slice() {
+            is_front &= !is_over;
+            count = count.saturating_add(1);
+        } else {
+            is_front &= contents.bytes.as_slice() == b"fn old() {}".as_slice();
+            is_over = true;
+        }
+    }
+    Ok(if is_front { Some(count) } else { None })
+}
+
+/// The first four calls read, the next three write.
+#[test]
+fn a_renaming_stops_at_a_fault(rt: HostRuntime) -> Result<(), Fail> {
+    let alloc = rt.alloc();
+    let sources = sources(alloc, &PATHS)?;
+    let renaming = Renaming {
+        old: "old",
+        new: "new",
+        merge: false,
+    };
+    for call in 1..9u32 {
+        let mut target = failing(alloc, call)?;
+        let stop = rename_files(alloc, &renaming, &mut target, sources.as_slice());
+        let done = match stop {
+            Ok(count) => (call > 7) & (count == 3),
+            Err(RenameStop::RefusedFile(failure)) => {
+                (call < 5)
+                    & (failure.index as u64 + 1 == u64::from(call))
+                    & matches!(failure.fault, RenameFault::File(FileError::Changed))
+            }
+            Err(RenameStop::Unwritten(path, error)) => {
+                let expected = ["a.rs", "b.rs", "d.rs"];
+                let index = usize::from(call.saturating_sub(5) as u8 % 3);
+                (call > 4)
+                    & (call < 8)
+                    & (path.as_str() == expected[index])
+                    & matches!(error, TargetError::Changed)
+            }
+        };
+        let expected = call.saturating_sub(5).min(3) as usize;
+        assert!(rt; done, "call {call}");
+        assert!(rt; written(alloc, &target.memory)? == Some(expected), "call {call}");
+    }
+    Ok(())
+}
+
+#[test]
+fn a_diff_is_of_the_files_that_change(rt: HostRuntime) -> Result<(), Fail> {
+    let alloc = rt.alloc();
+    let target = failing(alloc, 0)?;
+    let paths = sources(alloc, &["b.rs", "c.rs"])?;
+    let mut renaming = Renaming {
+        old: "old",
+        new: "new",
+        merge: false,
+    };
+    let changes = match plan_renames(alloc, &renaming, &target, paths.as_slice()) {
+        Ok(changes) => changes,
+        Err(_) => return Ok(assert!(rt; false)),
+    };
+    let mut output = Vec::new(alloc);
+    write_diffs(alloc, changes.as_slice(), &mut output)?;
+    let expected = "--- a/b.rs\t\n+++ b/b.rs\t\n@@ -1,1 +1,1 @@\n-fn old() {}\n\
+        \\ No newline at end of file\n+fn new() {}\n\\ No newline at end of file\n";
+    assert!(rt; output.as_slice() == expected.as_bytes());
+    renaming.new = "other";
+    let refused = match plan_renames(alloc, &renaming, &target, paths.as_slice()) {
+        Ok(_) => false,
+        Err(failure) => (failure.index == 1) & matches!(failure.fault, RenameFault::NameTaken),
+    };
+    assert!(rt; refused);
+    Ok(())
+}

@@ -1,0 +1,121 @@
+//! The command line.
+
+use clap::{Arg, ArgAction, Command};
+use std::alloc::{AllocError, Global};
+
+const ABOUT: &str = "Reads Rust source files: their messages, tokens and trees; renames in them";
+
+const AFTER: &str = "\
+A FILE is a path, `-` for standard input, or a directory for the `.rs` files in it, in order of name; \
+links in it are not followed. A file's edition is that of `--edition`, or else of the nearest \
+`Cargo.toml`, or else 2021.
+
+The exit status is 0, or 1 if `check` prints messages, or 2 after a fault: a file that cannot be read \
+is named on standard error, and the others are still read.";
+
+const RENAME: &str = "\
+Renames each identifier OLD to NEW, in macro calls too. These are tokens: scopes, names in format \
+strings and names that macros make are not followed.
+
+Without `--write` nothing is written, and a diff is printed that `patch -p1` and `git apply` read. \
+No file is written unless all of them can be renamed in. A file in which NEW is an identifier \
+already is refused unless `--merge` is given, and so is one whose new text would read as another \
+tree.";
+
+fn edition<'a>(alloc: Global) -> Arg<'a> {
+    Arg::new(alloc, "edition")
+        .long("edition")
+        .value_name("EDITION")
+        .value_parser(["2015", "2018", "2021", "2024", "next"].as_slice())
+        .help("The edition of all files")
+        .action(ArgAction::Set)
+}
+
+fn files<'a>(alloc: Global) -> Arg<'a> {
+    Arg::new(alloc, "files")
+        .value_name("FILE")
+        .help("Files, directories, or - for standard input")
+        .required(true)
+        .action(ArgAction::Append)
+        .num_args(1..)
+}
+
+/// Returns a command that reads files.
+fn reading<'a>(alloc: Global, name: &'a str, about: &'a str) -> Result<Command<'a>, AllocError> {
+    Command::new(alloc, name)
+        .about(about)
+        .arg(edition(alloc))?
+        .arg(files(alloc))
+}
+
+/// Returns a flag.
+fn flag<'a>(alloc: Global, name: &'a str, help: &'a str) -> Arg<'a> {
+    Arg::new(alloc, name)
+        .long(name)
+        .help(help)
+        .action(ArgAction::SetTrue)
+}
+
+/// Returns a required word.
+fn word<'a>(alloc: Global, name: &'a str, shown: &'a str, help: &'a str) -> Arg<'a> {
+    Arg::new(alloc, name)
+        .value_name(shown)
+        .help(help)
+        .required(true)
+        .action(ArgAction::Set)
+}
+
+/// Adds the flags of a command that writes files.
+fn with_flags<'a>(alloc: Global, command: Command<'a>) -> Result<Command<'a>, AllocError> {
+    let write = flag(alloc, "write", "Writes the files").short('w');
+    let diff = flag(alloc, "diff", "Prints a diff, as without --write").conflicts_with("write")?;
+    command.arg(write)?.arg(diff)
+}
+
+/// Adds the names of a renaming.
+fn with_names<'a>(alloc: Global, command: Command<'a>) -> Result<Command<'a>, AllocError> {
+    let merge = flag(
+        alloc,
+        "merge",
+        "NEW may be an identifier of the files already",
+    );
+    let old = word(alloc, "old", "OLD", "The identifier that is renamed");
+    let new = word(alloc, "new", "NEW", "Its new name");
+    command.arg(merge)?.arg(old)?.arg(new)
+}
+
+/// Returns the command that renames.
+fn renaming<'a>(alloc: Global) -> Result<Command<'a>, AllocError> {
+    let command = Command::new(alloc, "rename")
+        .about("Renames identifiers")
+        .long_about(RENAME);
+    let command = with_names(alloc, with_flags(alloc, command)?)?;
+    command.arg(edition(alloc))?.arg(files(alloc))
+}
+
+/// Returns the command without its subcommands.
+fn bare_command<'a>(alloc: Global) -> Command<'a> {
+    Command::new(alloc, "tevondimby")
+        .about(ABOUT)
+        .after_help(AFTER)
+        .version("0.1.0")
+        .subcommand_required(true)
+        .arg_required_else_help(true)
+}
+
+/// Returns the whole command.
+pub(crate) fn command<'a>(alloc: Global) -> Result<Command<'a>, AllocError> {
+    let check = reading(
+        alloc,
+        "check",
+        "Prints the messages of files, with their lines",
+    )?;
+    let tokens = reading(alloc, "tokens", "Prints the tokens of files, a row each")?;
+    let tree = reading(
+        alloc,
+        "tree",
+        "Prints the trees of files, a row for each element",
+    )?;
+    let command = bare_command(alloc).subcommand(check)?.subcommand(tokens)?;
+    command.subcommand(tree)?.subcommand(renaming(alloc)?)
+}

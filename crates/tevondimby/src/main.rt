@@ -1,0 +1,23 @@
+//! The command `tevondimby`: messages, tokens and trees of source files, and renamings in them.
+#![tactic(auto)]
+
+mod command_line;
+mod edition_of;
+mod inputs;
+mod run;
+mod source_list;
+
+use std::process::ExitCode;
+
+/// The exit status after a fault.
+const FAULT: u8 = 2;
+
+fn main(rt: HostRuntime) -> ExitCode {
+    match run::run(&rt) {
+        Ok(status) => ExitCode::from(status),
+        Err(error) => {
+            let _ = eprintln!(rt; "tevondimby: {error}");
+            ExitCode::from(FAULT)
+        }
+    }
+}
