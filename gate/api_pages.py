@@ -1,4 +1,4 @@
-"""The pages of docs/api: the public items of each product crate, with doc comments and clauses.
+"""The pages of docs/api: the public items of each library but those of tests, with doc comments and clauses.
 
     python3 gate/api_pages.py            says which pages are not those of the sources
     python3 gate/api_pages.py --write    writes them
@@ -14,8 +14,8 @@ import ledger
 from repository import TOP
 
 FOLDER = "docs/api"
-# The crates of crates.txt from this line on are programs, tests and measurements.
-END_OF_PRODUCT = "# Its program"
+# The crates of crates.txt from this line on are tests and measurements.
+END_OF_PRODUCT = "# Tests"
 MODULE = re.compile(r"^(pub )?mod (\w+);", re.M)
 PUBLIC_USE = re.compile(r"^pub use (?:crate::)?(\w+)(?:::\w+)*::(?:\{([^}]*)\}|(\w+));", re.M)
 HEAD = re.compile(r"^( *)(pub (?:const )?fn|pub struct|pub enum|pub trait|pub const|pub type|fn) (\w+)")
@@ -233,7 +233,7 @@ def described(level, item, name):
 def pages(root):
     """Returns the text of each page, by its path."""
     crates = ledger.read(f"{root}/crates.txt").decode().split(END_OF_PRODUCT)[0]
-    names = re.findall(r"^(\w+):", crates, re.M)
+    names = [name for name in re.findall(r"^(\w+):", crates, re.M) if os.path.isfile(f"{root}/crates/{name}/src/lib.rt")]
     made = {f"{FOLDER}/{name}.md": "\n".join(Crate(root, name).page()) + "\n" for name in names}
     rows = "".join(f"- [`{name}`]({name}.md)\n" for name in names)
     made[f"{FOLDER}/README.md"] = f"# The public items of each crate, lowest layers first\n\nMade by `gate/api_pages.py`.\n\n{rows}"
