@@ -1,4 +1,6 @@
 //! The rows of the table, and the loop over them.
+ghost use Rattle.std.specs.Prelude.{◌≡◌, [], string_bytes};
+
 use std::alloc::{AllocError, Global};
 
 /// The answer to a question.
@@ -26,7 +28,13 @@ pub struct Tally {
 }
 
 impl Tally {
-    pub fn new(alloc: Global) -> Tally {
+    /// Returns a tally of no rows.
+    pub fn new(alloc: Global) -> Tally
+        ensures tried { result.tried ≡ 0 }
+        ensures refused { result.refused ≡ 0 }
+        ensures none_refused { result.last_refused.now ≡ [] }
+        ensures none_wrong { string_bytes result.wrong ≡ [] }
+    {
         Tally {
             tried: 0,
             refused: 0,

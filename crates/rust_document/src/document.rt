@@ -87,7 +87,6 @@ pub struct Document {
     parse: Parse,
 }
 
-// Not derived: a derived drop is opened field by field in each function that drops one.
 impl Drop for Document {
     fn drop(self) {
         let Document {
