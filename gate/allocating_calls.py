@@ -54,7 +54,7 @@ USE = re.compile(r"^use (?:crate|super)(?:::(\w+))?::(?:\{([^}]*)\}|(\w+));", re
 TYPE = re.compile(r"^pub (?:struct|enum|trait|type) (\w+)", re.M)
 # The variant, or the field's type, by which an error tells that memory was refused.
 ERROR = re.compile(r"^pub (?:enum|struct) (\w+)[^{;]*\{([^}]*)\}", re.M)
-SAYS_MEMORY = re.compile(r"\b(?:NoMemory|Memory|error: \w+Error)\b")
+SAYS_MEMORY = re.compile(r"\b(?:NoMemory|Memory|error: \w+Error)\b|\(\w+Error\)")
 ITEM = re.compile(r"^(?:(impl\b|pub trait )([^{]*)|( *)(pub )?fn (\w+)([^{;]*))", re.M)
 RESULT = re.compile(r"-> Result<.*?, ((?:\w+::)?\w+)(?:<[^<>]*>)?>\s*(?:requires|ensures|where|$)", re.S)
 ROW = re.compile(r'^ +\(?\s*"((?:\w+::)[^"]*)",', re.M)

@@ -6,7 +6,8 @@ use parser_input::{Edition, SyntaxKind};
 use ra_parser::TopEntryPoint;
 use rowan_green::{TextRange, TextSize};
 use rust_document::{
-    CommitError, Committed, Document, EditError, OpenError, PayloadEntry, SyntaxEditor, payload,
+    CommitError, Committed, Document, EditError, OpenError, PayloadEntry, SyntaxEditor,
+    WithoutMessagesError, payload,
 };
 use std::alloc::{AllocError, Global};
 use syntax_tree::{Position, SyntaxElement, TreeIds};
@@ -20,6 +21,8 @@ pub(crate) enum DocumentCall {
     Edit(&'static str, u32, u32, &'static str),
     /// Commits changes of a text.
     Commit(&'static str, Changes),
+    /// Commits changes, unless a text has messages.
+    CommitWithoutMessages(&'static str, Changes),
     Payload,
     Find,
     Editor,
@@ -261,11 +264,14 @@ fn recorded(
 fn told(
     alloc: Global,
     document: &Document,
-    answer: Result<Committed, CommitError>,
+    answer: Result<Committed, WithoutMessagesError>,
 ) -> Result<String, AllocError> {
     let committed = match answer {
         Ok(committed) => committed,
-        Err(refusal) => return format!(in alloc; "refused {}", refusal as u32),
+        Err(WithoutMessagesError::Messages) => return String::from_str(alloc, "messages"),
+        Err(WithoutMessagesError::Refused(refusal)) => {
+            return format!(in alloc; "refused {}", refusal as u32);
+        }
     };
     let mut out = format!(in alloc; "{}", document.text())?;
     for range in &committed.changed {
@@ -275,20 +281,36 @@ fn told(
     Ok(out)
 }
 
+/// Commits what an editor recorded. `may_have_messages` says by which call.
+fn committed(
+    alloc: Global,
+    document: &mut Document,
+    may_have_messages: bool,
+    editor: SyntaxEditor,
+    ids: &mut TreeIds,
+) -> Result<Committed, WithoutMessagesError> {
+    if may_have_messages {
+        return Ok(document.commit(alloc, editor, ids)?);
+    }
+    document.commit_without_messages(alloc, editor, ids)
+}
+
 /// Commits changes, which are recorded a second time if it runs out of memory: the document is as it
 /// was then.
 fn commit(
     alloc: Global,
     document: &mut Document,
-    changes: Changes,
+    (may_have_messages, changes): (bool, Changes),
     ids: &mut TreeIds,
     refused: &mut u32,
 ) -> anyhow::Result<String> {
     let before = state(alloc, document)?;
     for _ in 0..2 {
         let editor = recorded(alloc, changes, document, ids)?;
-        match document.commit(alloc, editor, ids) {
-            Err(CommitError::NoMemory) => *refused = refused.saturating_add(1),
+        match committed(alloc, document, may_have_messages, editor, ids) {
+            Err(WithoutMessagesError::Refused(CommitError::NoMemory)) => {
+                *refused = refused.saturating_add(1);
+            }
             answer => return Ok(told(alloc, document, answer)?),
         }
         if state(alloc, document)?.as_str() != before.as_str() {
@@ -337,7 +359,11 @@ impl Ask for DocumentCall {
             }
             DocumentCall::Commit(text, changes) => {
                 let mut document = open(alloc, (edition, text), &mut ids, refused)?;
-                commit(alloc, &mut document, changes, &mut ids, refused)
+                commit(alloc, &mut document, (true, changes), &mut ids, refused)
+            }
+            DocumentCall::CommitWithoutMessages(text, changes) => {
+                let mut document = open(alloc, (edition, text), &mut ids, refused)?;
+                commit(alloc, &mut document, (false, changes), &mut ids, refused)
             }
             _ => asked(
                 alloc,
@@ -429,6 +455,16 @@ pub(crate) const ROWS: &[Row<DocumentCall>] = &[
         "rust_document::Document::commit",
         DocumentCall::Commit(STRUCTS, Changes::Merged),
         " ",
+    ),
+    (
+        "rust_document::Document::commit_without_messages",
+        DocumentCall::CommitWithoutMessages("struct S;", Changes::Name),
+        "struct Tee; 7..10",
+    ),
+    (
+        "rust_document::Document::commit_without_messages",
+        DocumentCall::CommitWithoutMessages("struct S; }", Changes::Name),
+        "messages",
     ),
     ("rust_document::payload", DocumentCall::Payload, "1 1 + 2"),
     ("rust_document::Document::find", DocumentCall::Find, "S"),

@@ -17,6 +17,7 @@ mod refused_memory;
 mod renames;
 mod rewrites;
 mod trees;
+mod without_messages;
 
 use parser_input::edition::Edition;
 use parser_input::syntax_kind::SyntaxKind;

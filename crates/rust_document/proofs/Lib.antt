@@ -35,6 +35,7 @@ pub mod RenamedReadings
 pub mod PlainRenamings
 pub mod Histories
 pub mod WellSpacedRewrites
+pub mod WithoutMessages
 pub mod PutTokens
 pub mod NameTexts
 pub mod FirstNames

@@ -136,7 +136,7 @@ renamed d e u h =
 same-itself : (t : Tree) → same_tree t t ≡ true
 same-itself t = (same_tree-Decides t t).1 refl
 
-own-tree : (d : State) (e : Editing) → e.top ≡ root_element d → is_foreign d e ≡ false
+pub own-tree : (d : State) (e : Editing) → e.top ≡ root_element d → is_foreign d e ≡ false
 own-tree d e own =
     ap (λ (top : Element). not (top.number == d.number) || not (same_tree top.place.root (present d))) own
     ∙ ap (λ (b : Bool). not b || not (same_tree (present d) (present d))) (eq-eqb d.number d.number refl)

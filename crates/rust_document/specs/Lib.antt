@@ -15,6 +15,7 @@ pub mod Brackets
 pub mod Operators
 pub mod OperatorExamples
 pub mod WithoutMessages
+pub mod CommitWithoutMessages
 pub mod Tokens
 pub mod Committed
 pub mod Laws

@@ -1,14 +1,13 @@
 //! A text that is read.
-ghost use Rattle.std.specs.Prelude.{◌≡◌, ◌≤◌, ◌+◌, [], true, not, chars, length, map, option_map, string_bytes, IfOk, IfErr, IfSome, MatchOption, OnOk};
+mod commit;
+
+ghost use Rattle.std.specs.Prelude.{◌≡◌, ◌≤◌, ◌+◌, [], true, chars, length, map, option_map, string_bytes, IfOk, IfErr, IfSome, MatchOption, OnOk};
 ghost use Rattle.lexed_text.specs.Kept.{IsKept};
 ghost use Rattle.parser_input.specs.Kind.{raw_of};
 ghost use Rattle.parser_input.specs.Lexed.{content};
-ghost use Rattle.rowan_green.specs.Forest.{tree_text};
 ghost use Rattle.syntax_editor.specs.Editing.{untouched};
 ghost use Rattle.syntax_tree.specs.Handle.{element_of};
 ghost use Rattle.syntax_tree.specs.Refusal.{RefusesTree};
-ghost use Rattle.rust_document.specs.Commit.{RefusesCommit};
-ghost use Rattle.rust_document.specs.Committed.{annotated_ends, ends_of};
 ghost use Rattle.rust_document.specs.ContentEdit.{AreCounts};
 ghost use Rattle.rust_document.specs.Core.{IsReadAsCore};
 ghost use Rattle.rust_document.specs.Costs.{most_steps};
@@ -20,20 +19,16 @@ ghost use Rattle.rust_document.specs.KeptTokens.{content_edit, counts_of, KeepsN
 ghost use Rattle.rust_document.specs.NameEdits.{IsRenamedTree};
 ghost use Rattle.rust_document.specs.NextReading.{tokens_in, IsNextReading};
 ghost use Rattle.rust_document.specs.Reading.{messages};
-ghost use Rattle.rust_document.specs.Renames.{IsPlainRenaming, IsReadExactly};
-ghost use Rattle.rust_document.specs.Rewrite.{annotated, rewritten, changed};
-ghost use Rattle.rust_document.specs.Step.{MAX_TEXT, first_element, is_foreign, root_element, verdict, Accepted};
+ghost use Rattle.rust_document.specs.Step.{MAX_TEXT, first_element, root_element};
 ghost use Rattle.rust_document.specs.Tokens.{span_of, tokens_of};
-ghost use Rattle.rust_document.specs.WellSpaced.{IsWellSpacedRewrite};
 ghost use Rattle.rust_document.specs.WithoutMessages.{HasPairedBrackets, HasPlacedOperators};
 
 use crate::content_edit::{EditedContent, TextEdit, edit_content};
 use crate::edit::edited;
-use crate::error::{CommitError, EditError, OpenError};
+use crate::error::{EditError, OpenError};
 use crate::name_edit::{ReadText, renamed_tree};
 use crate::parse::Parse;
 use crate::read::{FirstReading, NextReading, NextText, Reading, read_first, read_next};
-use crate::rewrite::{Rewritten, rewrite};
 use crate::syntax_error::SyntaxError;
 use crate::tokens::{LexedToken, Tokens};
 use lexed_text::{Kept, LexedText};
@@ -363,91 +358,6 @@ impl Document {
         ensures { IfOk result (λ e. e ≡ untouched (root_element self.now)) }
     {
         Ok(SyntaxEditor::of_root(alloc, self.root.clone()?))
-    }
-
-    /// Whether an editor is one of the present tree.
-    fn is_of(&self, editor: &SyntaxEditor) -> bool
-        ensures { result ≡ not (is_foreign self.now editor.now) }
-    {
-        editor.root().tree() == self.root.tree()
-            && *editor.root().cursor().green() == *self.root.cursor().green()
-    }
-
-    /// Applies all changes of `editor` if the new text reads as the rewritten tree. The text is then
-    /// the rewritten tree's, and its tree gets the next number of `ids`. The editor is consumed.
-    ///
-    /// A plain renaming is always accepted, whatever messages the text has, and the new tree is
-    /// exactly the rewritten one: identifiers are replaced with identifiers, and old and new names
-    /// are plain ([`is_plain_name`](crate::is_plain_name)). Only length, memory and tree numbers can
-    /// refuse it.
-    ///
-    /// The parser's output is kept if the parser's input is the same.
-    ///
-    /// A well-spaced rewrite is always accepted too: the new tree is one of the core language, its
-    /// leaves are spelled as their kinds, and whitespace is between any two of them. Only places,
-    /// length, memory and tree numbers can refuse it.
-    ///
-    /// # Errors
-    ///
-    /// - [`CommitError::Foreign`] if `editor` is one of another tree.
-    /// - [`CommitError::Intersecting`] if two changes replace one element.
-    /// - [`CommitError::MissingMapping`] if a change in a replaced node has no place in what replaces
-    ///   the node.
-    /// - [`CommitError::TooLong`] if the new text has more than [`MAX_TEXT`] bytes, or a node 2^32
-    ///   children.
-    /// - [`CommitError::Unfaithful`] if the new text does not read as the rewritten tree, whitespace
-    ///   and comments aside.
-    /// - [`CommitError::NoTreeNumber`] if no tree number is left.
-    /// - [`CommitError::NoMemory`] if an allocation fails.
-    ///
-    /// On error, the document and `ids` are unchanged.
-    pub fn commit(
-        &mut self,
-        alloc: Global,
-        editor: SyntaxEditor,
-        ids: &mut TreeIds,
-    ) -> Result<Committed, CommitError>
-        ensures accepted { OnOk result (verdict self.old editor ≡ Accepted) }
-        ensures state { OnOk result (self.new ≡
-            record {
-              edition = self.old.edition;
-              text = tree_text (rewritten editor);
-              number = ids.old;
-            }) }
-        ensures brackets { OnOk result (HasPairedBrackets self.new) }
-        ensures operators { OnOk result (HasPlacedOperators self.new) }
-        ensures core { OnOk result (IsReadAsCore self.new) }
-        ensures changed { IfOk result (λ c. map ends_of c.changed.items ≡ changed editor) }
-        ensures annotated { IfOk result (λ c. map annotated_ends c.annotated.items ≡ annotated editor) }
-        ensures output { IfOk result (λ c. KeepsOutput self.old self.new c.steps) }
-        ensures steps { IfOk result (λ c. c.steps ≤ most_steps self.old.edition
-            (chars (tree_text (rewritten editor)))) }
-        ensures number { OnOk result (ids.new ≡ ids.old + 1) }
-        ensures refused { IfErr result (RefusesCommit (verdict self.old editor) ids.old) }
-        ensures renames { IfErr result (λ error. IsPlainRenaming self.old editor
-            → length (tree_text (rewritten editor)) ≤ MAX_TEXT → RefusesCommit Accepted ids.old error) }
-        ensures renamed { OnOk result (IsPlainRenaming self.old editor
-            → IsReadExactly self.old editor) }
-        ensures spaced { IfErr result (λ error. IsWellSpacedRewrite self.old editor
-            → RefusesCommit Accepted ids.old error) }
-        ensures kept { IfErr result (λ _. (self.new ≡ self.old) × (ids.new ≡ ids.old)) }
-    {
-        if !self.is_of(&editor) {
-            return Err(CommitError::Foreign);
-        }
-        let Rewritten {
-            text,
-            reading,
-            changed,
-            annotated,
-        } = rewrite(alloc, self.edition, &editor, &self.parse)?;
-        let steps = reading.steps;
-        self.renew(alloc, text, reading, ids)?;
-        Ok(Committed {
-            changed,
-            annotated,
-            steps,
-        })
     }
 
     /// Takes a text with its reading in the place of the present ones, and gives its tree the next

@@ -201,6 +201,54 @@ impl From<RewriteError> for CommitError {
     }
 }
 
+/// A refusal of `Document::commit_without_messages`. The document is as before.
+#[derive(Clone, Copy, Debug, PartialEq, Eq)]
+pub enum WithoutMessagesError {
+    /// The present or the new text has messages.
+    Messages,
+    /// One of the refusals of `Document::commit`.
+    Refused(CommitError),
+}
+
+impl fmt::Display for WithoutMessagesError {
+    ghost use Rattle.std.specs.Prelude.{Some};
+    ghost use Rattle.rust_document.specs.CommitWithoutMessages.{without_messages_words};
+
+    ghost output = { λ e. Some (without_messages_words e) };
+
+    fn fmt<W: fmt::Write>(&self, f: &mut fmt::Formatter<W>) -> fmt::Result {
+        match self {
+            WithoutMessagesError::Messages => write!(f, "has messages"),
+            WithoutMessagesError::Refused(error) => write!(f, "{error}"),
+        }
+    }
+}
+
+impl Error for WithoutMessagesError {}
+
+impl From<CommitError> for WithoutMessagesError {
+    ghost use Rattle.rust_document.specs.declared.error.WithoutMessagesError.TheVariants.{Refused};
+    ghost use Rattle.std.specs.Prelude.{◌≡◌};
+
+    ghost from_gives = { λ c e. e ≡ Refused c };
+
+    fn from(error: CommitError) -> WithoutMessagesError {
+        WithoutMessagesError::Refused(error)
+    }
+}
+
+impl From<TreeError> for WithoutMessagesError {
+    ghost use Rattle.rust_document.specs.Commit.{commit_error_of};
+    ghost use Rattle.rust_document.specs.declared.error.WithoutMessagesError.TheVariants.{Refused};
+    ghost use Rattle.std.specs.Prelude.{◌≡◌};
+
+    ghost from_gives = { λ t e. e ≡ Refused (commit_error_of t) };
+
+    fn from(error: TreeError) -> WithoutMessagesError {
+        WithoutMessagesError::Refused(CommitError::from(error))
+    }
+}
+
 /// A refusal of `payload`. No number was taken.
 #[derive(Clone, Copy, Debug, PartialEq, Eq)]
 pub enum PayloadError {

@@ -25,7 +25,7 @@ pub mod tokens;
 mod tree_sink;
 
 pub use document::{Committed, Document, Edited, MAX_TEXT};
-pub use error::{CommitError, EditError, OpenError, PayloadError};
+pub use error::{CommitError, EditError, OpenError, PayloadError, WithoutMessagesError};
 pub use payload_entry::{PayloadEntry, payload};
 pub use plain_name::is_plain_name;
 pub use syntax_editor::{
