@@ -131,7 +131,11 @@ const PATHS: [&str; 4] = ["a.rs", "b.rs", "c.rs", "d.rs"];
 fn failing(alloc: Global, call: u32) -> Result<Failing, AllocError> {
     let mut memory = Memory::new(alloc);
     for path in PATHS {
-        let text = if path == "c.rs" { "fn other() {}" } else { "fn old() {}" };
+        let text = if path == "c.rs" {
+            "fn other() {}"
+        } else {
+            "fn old() {}"
+        };
         memory.add(alloc, path, text.as_bytes())?;
     }
     Ok(Failing {
@@ -189,7 +193,10 @@ fn a_renaming_stops_at_a_fault(rt: HostRuntime) -> Result<(), Fail> {
         };
         let expected = call.saturating_sub(5).min(3) as usize;
         assert!(rt; done, "call {call}");
-        assert!(rt; written(alloc, &target.memory)? == Some(expected), "call {call}");
+        assert!(rt;
+            written(alloc, &target.memory)? == Some(expected),
+            "call {call}"
+        );
     }
     Ok(())
 }
