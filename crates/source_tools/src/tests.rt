@@ -128,7 +128,7 @@ impl Target for Failing {
 const PATHS: [&str; 4] = ["a.rs", "b.rs", "c.rs", "d.rs"];
 
 /// Returns the files, of which the call with this number fails.
-fn failing(alloc: Global, call: u32) -> Result<Failing, AllocError> {
+fn files_failing_at(alloc: Global, call: u32) -> Result<Failing, AllocError> {
     let mut memory = Memory::new(alloc);
     for path in PATHS {
         let text = if path == "c.rs" {
@@ -173,7 +173,7 @@ fn a_renaming_stops_at_a_fault(rt: HostRuntime) -> Result<(), Fail> {
         merge: false,
     };
     for call in 1..9u32 {
-        let mut target = failing(alloc, call)?;
+        let mut target = files_failing_at(alloc, call)?;
         let stop = rename_files(alloc, &renaming, &mut target, sources.as_slice());
         let done = match stop {
             Ok(count) => (call > 7) & (count == 3),
@@ -204,7 +204,7 @@ fn a_renaming_stops_at_a_fault(rt: HostRuntime) -> Result<(), Fail> {
 #[test]
 fn a_diff_is_of_the_files_that_change(rt: HostRuntime) -> Result<(), Fail> {
     let alloc = rt.alloc();
-    let target = failing(alloc, 0)?;
+    let target = files_failing_at(alloc, 0)?;
     let paths = sources(alloc, &["b.rs", "c.rs"])?;
     let mut renaming = Renaming {
         old: "old",
