@@ -19,11 +19,18 @@ TABLES = "*memory_suite"
 # program uses yet, whose tests make a refused call again (`rt try --test --fail-alloc N`).
 END_OF_PRODUCT = "# Its program"
 # Calls that are steps of others, and those of the table that make them: the changes of a plan, for one, are known to `tree_rewrite`
-# alone.
+# alone. A call of `rust_source` is the document's, with the allocator and the numbers that the source holds.
 MADE_BY = {
     "parser_events::StrSink::step": "rust_document::Document::open",
     "parser_events::shortcuts::intersperse_trivia": "rust_document::Document::open",
     "parser_input::LexedStr::from_tokens": "rust_document::Document::edit",
+    "rust_source::Source::commit": "rust_document::Document::commit",
+    "rust_source::Source::commit_without_messages": "rust_document::Document::commit_without_messages",
+    "rust_source::Source::edit": "rust_document::Document::edit",
+    "rust_source::Source::editor": "rust_document::Document::editor",
+    "rust_source::Source::find": "rust_document::Document::find",
+    "rust_source::Source::open": "rust_document::Document::open",
+    "rust_source::Source::payload": "rust_document::payload",
     "syntax_tree::Element::syntax_element": "syntax_tree::SyntaxNode::syntax_element",
     "syntax_tree::elements::node": "syntax_tree::SyntaxToken::detached",
     "tree_rewrite::Change::into_tree_change": "syntax_editor::SyntaxEditor::rewritten",

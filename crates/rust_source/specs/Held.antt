@@ -1,0 +1,8 @@
+-- What contracts see of a source.
+use Rattle.std.specs.Prelude.{ℕ}
+use Rattle.rust_document.specs.Step.{State}
+
+-- the document, and the tree number that is next, 2^32 if none is left
+pub record Held : Type 0 where
+  pub document : State
+  pub next : ℕ

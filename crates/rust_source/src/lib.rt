@@ -1,0 +1,22 @@
+//! A Rust text for whoever writes a tool: one crate to name.
+//!
+//! A [`Source`] holds the allocator, the tree numbers and the document, so that a tool passes
+//! neither. All that a tool names is exported here. Each call answers with its own error, and
+//! [`SourceError`] takes all of them by `?`.
+#![tactic(auto)]
+
+pub mod error;
+pub mod source;
+
+pub use error::SourceError;
+pub use parser_input::{Edition, SyntaxKind};
+pub use ra_parser::TopEntryPoint;
+pub use rowan_green::{TextRange, TextSize};
+pub use rust_document::{
+    Annotations, CommitError, Committed, EditError, Edited, IndentLevel, LexedToken, MakeError,
+    MergeError, OpenError, PayloadEntry, PayloadError, RecordError, Space, SyntaxAnnotation,
+    SyntaxEditor, SyntaxError, SyntaxMessage, Tokens, WhitespaceError, WithoutMessagesError,
+    is_plain_name,
+};
+pub use source::Source;
+pub use syntax_tree::{Element, Position, PositionError, SyntaxElement, SyntaxNode, SyntaxToken};
