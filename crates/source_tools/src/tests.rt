@@ -179,12 +179,12 @@ fn a_renaming_stops_at_a_fault(rt: HostRuntime) -> Result<(), Fail> {
             Ok(count) => (call > 7) & (count == 3),
             Err(RenameStop::RefusedFile(failure)) => {
                 (call < 5)
-                    & (failure.index as u64 + 1 == u64::from(call))
+                    & (failure.index.saturating_add(1) == call as usize)
                     & matches!(failure.fault, RenameFault::File(FileError::Changed))
             }
             Err(RenameStop::Unwritten(path, error)) => {
                 let expected = ["a.rs", "b.rs", "d.rs"];
-                let index = usize::from(call.saturating_sub(5) as u8 % 3);
+                let index = call.saturating_sub(5).min(2) as usize;
                 (call > 4)
                     & (call < 8)
                     & (path.as_str() == expected[index])
