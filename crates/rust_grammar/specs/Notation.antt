@@ -139,6 +139,11 @@ unfoldable pub one_of : ℕ → List Spelling → Look
 one_of n [] = Never
 one_of n (x ∷ xs) = Either (row n (x ∷ [])) (one_of n xs)
 
+-- one of these spellings is next, as a choice of their leaves asks it
+abbrev pub leaf_of : Spelling → List Spelling → Look
+leaf_of x [] = spelled_at 0 x
+leaf_of x (y ∷ ys) = Either (spelled_at 0 x) (leaf_of y ys)
+
 unfoldable pub any_of : List Look → Look
 any_of [] = Never
 any_of (l ∷ ls) = Either l (any_of ls)

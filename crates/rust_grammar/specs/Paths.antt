@@ -2,10 +2,10 @@
 use Rattle.std.specs.Prelude.{[], ◌∷◌}
 use Rattle.parser_input.specs.Kinds.{DYN_KW, MACRO_CALL, NAME, NAME_REF, LIFETIME, PATH, PATH_SEGMENT, GENERIC_ARG_LIST, LIFETIME_ARG, ASSOC_TYPE_ARG, CONST_ARG, TYPE_ARG, GENERIC_PARAM_LIST, LIFETIME_PARAM, TYPE_PARAM, TYPE_BOUND_LIST, TYPE_BOUND, WHERE_CLAUSE, WHERE_PRED, PATH_TYPE, DYN_TRAIT_TYPE, PREFIX_EXPR, PATH_EXPR, TYPE_ANCHOR, PARENTHESIZED_ARG_LIST, CONST_PARAM}
 use Rattle.rust_grammar.specs.Rule.{name, lifetime, name_ref, path, type_path, expr_path, generic_args, generic_arg, generic_params, generic_param, bounds, bound, where_clause, where_pred, Production, Look, Contextual, Both, Either, Not, Rule, Nothing, One, When, Unless}
-use Rattle.rust_grammar.specs.Words.{'dots', '::', '!=', 'comma', 'l_paren', 'r_paren', 'l_curly', '[', ']', '#', '?', ':', '=', '!', '<', '>', '-', '+', 'const', 'crate', 'for', 'self', 'Self', 'super', 'use', 'where', 'as', 'ident', 'lifetime', 'tilde', 'async'}
+use Rattle.rust_grammar.specs.Words.{'dots', '::', '!=', 'comma', 'l_paren', 'r_paren', 'l_curly', '[', ']', '#', '?', ':', '=', '!', '<', '>', '-', '+', 'const', 'crate', 'for', 'self', 'Self', 'super', 'use', 'where', 'as', 'ident', 'int', 'lifetime', 'tilde', 'async'}
 use Rattle.rust_grammar.specs.Calls.{TokenTree, Name, Lifetime, Ref, ExprPath, GenericArgs, GenericArg, GenericParam, Bounds, Bound, WherePred, RetType, AnyType, Literal, Block}
-use Rattle.rust_grammar.specs.Notation.{◌or◌, ◌▸◌, ◌▹◌, ⁅◌⁆, ◌*, ◌!, ◌⟨◌⟩, ◌<⟨◌⟩, wide, next, row, ◌before◌, ◌before_any◌, ◌not_before◌, any_of, one_of, listed}
-use Rattle.rust_grammar.specs.Shared.{refs, colons_before_more, path_type, attributed, binder_begins, for_binder, literal_words}
+use Rattle.rust_grammar.specs.Notation.{◌or◌, ◌▸◌, ◌▹◌, ⁅◌⁆, ◌*, ◌!, ◌⟨◌⟩, ◌<⟨◌⟩, wide, next, row, ◌before◌, ◌before_any◌, ◌not_before◌, leaf_of, any_of, one_of, listed}
+use Rattle.rust_grammar.specs.Shared.{refs, ref_keywords, colons_before_more, path_type, attributed, binder_begins, for_binder, literal_words, more_literals}
 
 -- the word of a segment
 abbrev pub ref_word : Rule
@@ -66,11 +66,11 @@ type_param = TYPE_PARAM ⟨ Name ▸ ⁅ bounds_after_colon ⁆ ▸ type_default
 
 -- where the path of a segment or of an expression begins
 abbrev pub path_begins : Look
-path_begins = one_of 0 ('ident' ∷ 'self' ∷ 'super' ∷ 'crate' ∷ 'Self' ∷ '::' ∷ [])
+path_begins = leaf_of '::' refs
 
 -- a constant as an argument or a default
 abbrev pub const_begins : Look
-const_begins = one_of 0 ('l_curly' ∷ '-' ∷ literal_words)
+const_begins = any_of (next 'l_curly' ∷ next '-' ∷ leaf_of 'int' more_literals ∷ [])
 
 abbrev pub negated_literal : Rule
 negated_literal = PREFIX_EXPR ⟨ One '-' ▸ Literal ⟩
@@ -198,7 +198,7 @@ abbrev pub dyn_word_begins : Look
 dyn_word_begins = Both (Contextual 0 DYN_KW) (one_of 1 ('?' ∷ 'lifetime' ∷ 'l_paren' ∷ 'for' ∷ refs))
 
 abbrev pub new_arg_begins : Look
-new_arg_begins = any_of ('lifetime' before '+' ∷ next 'l_curly' ∷ Both (one_of 0 refs) (Not dyn_word_begins) ∷ [])
+new_arg_begins = any_of ('lifetime' before '+' ∷ next 'l_curly' ∷ Both (leaf_of 'ident' ref_keywords) (Not dyn_word_begins) ∷ [])
 
 abbrev pub front_of_type : Rule
 front_of_type = PATH_SEGMENT <⟨ Nothing ⟩ ▸ PATH <⟨ Nothing ⟩ ▸ next_segments type_args ▸ type_of_path ▸ plus_bounds ▸ TYPE_ARG <⟨ Nothing ⟩

@@ -7,8 +7,11 @@ use Rattle.rust_grammar.specs.Calls.{Attribute, GenericParams, TypePath, AnyType
 use Rattle.rust_grammar.specs.Notation.{◌or◌, ◌▸◌, ⁅◌⁆, ◌*, ◌!, ◌⟨◌⟩, wide, next, row, ◌before◌, ◌before_any◌}
 
 -- the words that a segment of a path can be
+abbrev pub ref_keywords : List Spelling
+ref_keywords = 'self' ∷ 'super' ∷ 'crate' ∷ 'Self' ∷ []
+
 abbrev pub refs : List Spelling
-refs = 'ident' ∷ 'self' ∷ 'super' ∷ 'crate' ∷ 'Self' ∷ []
+refs = 'ident' ∷ ref_keywords
 
 -- the `::` after which a `*` or a list of uses stands, which ends a path
 abbrev pub colons_before_more : Look
@@ -26,8 +29,11 @@ abbrev pub field_name : Rule
 field_name = NAME_REF ⟨ ident_or_int ⟩
 
 -- the spellings of literals
+abbrev pub more_literals : List Spelling
+more_literals = 'float' ∷ 'char' ∷ 'byte' ∷ 'string' ∷ 'byte_string' ∷ 'c_string' ∷ 'true' ∷ 'false' ∷ []
+
 abbrev pub literal_words : List Spelling
-literal_words = 'int' ∷ 'float' ∷ 'char' ∷ 'byte' ∷ 'string' ∷ 'byte_string' ∷ 'c_string' ∷ 'true' ∷ 'false' ∷ []
+literal_words = 'int' ∷ more_literals
 
 -- attributes before what is no item, in the whole language; and one at least, before this
 abbrev pub outer_attributes : Rule
