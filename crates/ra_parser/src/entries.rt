@@ -112,7 +112,7 @@ fn read(p: &mut Parser<'_>, single: Single)
         Single::Expression => expression(p, false),
         Single::Meta => meta(p, false),
         Single::Pattern => pattern(p),
-        Single::Type => any_type(p, false),
+        Single::Type => any_type(p),
     }
 }
 

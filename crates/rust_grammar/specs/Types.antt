@@ -79,6 +79,9 @@ new_type_begins = any_of (fn_ptr_begins ∷ 'lifetime' before '+' ∷ binder_beg
 abbrev pub path_or_macro : Rule
 path_or_macro = (type_qualified or TypePath) ▸ type_of_path
 
+abbrev pub for_or_path_begins : Look
+for_or_path_begins = any_of (binder_begins ∷ next '<' ∷ path_begins ∷ [])
+
 abbrev pub for_or_path : Rule
 for_or_path = for_type or path_or_macro
 

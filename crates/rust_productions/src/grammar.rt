@@ -90,6 +90,22 @@ pub fn at_third(p: &mut Parser<'_>, kind: SyntaxKind) -> bool
     p.kind_at(2).to_raw() == kind.to_raw()
 }
 
+/// Returns `true` if the fourth token is of this kind.
+fn at_fourth(p: &mut Parser<'_>, kind: SyntaxKind) -> bool
+    ensures sees { (c : Bool) → Saw c (Kind 3 (raw_of kind)) p.old result }
+    ensures peeks { Peeks 1 p.old p.new }
+{
+    p.kind_at(3).to_raw() == kind.to_raw()
+}
+
+/// Returns `true` if the fifth token is of this kind.
+fn at_fifth(p: &mut Parser<'_>, kind: SyntaxKind) -> bool
+    ensures sees { (c : Bool) → Saw c (Kind 4 (raw_of kind)) p.old result }
+    ensures peeks { Peeks 1 p.old p.new }
+{
+    p.kind_at(4).to_raw() == kind.to_raw()
+}
+
 /// Returns `true` if the next token is an identifier that is of this kind as a contextual keyword.
 fn at_contextual(p: &mut Parser<'_>, kind: SyntaxKind) -> bool
     ensures sees { (c : Bool) → Saw c (Contextual 0 (raw_of kind)) p.old result }
@@ -138,6 +154,20 @@ pub fn at_pair_after(p: &mut Parser<'_>, first: SyntaxKind, second: SyntaxKind) 
         return false;
     }
     at_third(p, second)
+}
+
+/// Returns `true` if the fourth and the fifth token are dots that touch.
+pub fn at_dots_fourth(p: &mut Parser<'_>) -> bool
+    ensures sees { (c : Bool) → Saw c (there_at 3 (kinds.DOT ∷ kinds.DOT ∷ [])) p.old result }
+    ensures peeks { Peeks 2 p.old p.new }
+{
+    if !at_fourth(p, SyntaxKind::DOT) {
+        return false;
+    }
+    if !p.joint_at(3) {
+        return false;
+    }
+    at_fifth(p, SyntaxKind::DOT)
 }
 
 /// Opens a node in the innermost one.

@@ -175,7 +175,7 @@ fn type_param(p: &mut Parser<'_>, condition: bool)
     let node = start(p);
     name(p);
     bounds_after_colon(p);
-    opt_type_after(p, SyntaxKind::EQ, condition);
+    opt_type_after(p, SyntaxKind::EQ);
     complete(p, node, SyntaxKind::TYPE_PARAM);
 }
 
@@ -207,7 +207,7 @@ fn lifetime_or_type(p: &mut Parser<'_>, condition: bool)
         lifetime(p);
         return;
     }
-    any_type(p, condition);
+    any_type(p);
 }
 
 /// Parses a where predicate.

@@ -89,14 +89,14 @@ fn read_element(p: &mut Parser<'_>, element: Element)
         Element::ClosureParam => closure_param(p),
         Element::Expression => expression(p, false),
         Element::FieldValue => field_value(p, false),
-        Element::GenericArg => generic_arg(p, false),
+        Element::GenericArg => generic_arg(p),
         Element::GenericParam => generic_param(p, false),
         Element::Param => param(p, false),
         Element::Pattern => pattern(p),
         Element::PatternField => pattern_field(p),
         Element::RecordField => record_field(p),
         Element::TupleField => tuple_field(p),
-        Element::Type => any_type(p, false),
+        Element::Type => any_type(p),
         Element::Variant => variant(p),
     }
 }

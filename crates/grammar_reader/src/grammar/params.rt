@@ -78,7 +78,7 @@ fn pattern_param(p: &mut Parser<'_>, condition: bool)
     let node = start(p);
     pattern(p);
     expect(p, SyntaxKind::COLON);
-    expect_type(p, condition);
+    expect_type(p);
     complete(p, node, SyntaxKind::PARAM);
 }
 

@@ -4,7 +4,7 @@ ghost use Rattle.std.specs.Prelude.{◌≡◌, ◌≢◌, ◌≤◌, ◌+◌, Bo
 ghost use Rattle.parser_input.specs.Kind.{raw_of};
 ghost use Rattle.parser_input.specs.Kinds as kinds;
 ghost use Rattle.parser_events.specs.Stack.{IsInnermost};
-ghost use Rattle.rust_grammar.specs.Calls.{AnyType, Bounds};
+ghost use Rattle.rust_grammar.specs.Calls.{AnyType, Bounds, RetType};
 ghost use Rattle.rust_grammar.specs.Notation.{◌▸◌, ⁅◌⁆, ◌!, ◌⟨◌⟩};
 ghost use Rattle.rust_grammar.specs.Rule as rules;
 ghost use Rattle.rust_grammar.specs.Rule.{One};
@@ -14,7 +14,7 @@ ghost use Rattle.rust_grammar.specs.Shared as shared;
 ghost use Rattle.rust_grammar.specs.Types as rows;
 ghost use Rattle.rust_productions.specs.Looks.{tokens, spent, Takes, Asks, TakesIn, AsksIn};
 ghost use Rattle.rust_productions.specs.Reads.{looks, Gives, Reads, Saw};
-ghost use Rattle.rust_productions.specs.Starts.{StartsIn};
+ghost use Rattle.rust_productions.specs.Starts.{Starts};
 
 use crate::grammar::expressions::{Level, expect_expression};
 use crate::grammar::generic_params::bounds;
@@ -26,35 +26,34 @@ use parser_input::syntax_kind::SyntaxKind;
 use rust_productions::grammar::names::opt_lifetime;
 use rust_productions::grammar::types::{at_dyn_word, at_type};
 use rust_productions::grammar::{
-    abandon, at, complete, current, eat, error, expect, start, take, take_pair, wrap,
+    abandon, at, at_pair, complete, current, eat, error, expect, start, take, take_pair, wrap,
 };
 
 /// Parses a type.
 // &'a [u8]
 #[cycle(grammar)]
-pub fn any_type(p: &mut Parser<'_>, condition: bool)
-    requires begins { Saw condition (looks rules.any_type) p.old true }
-    requires some { 1 ≤ tokens p.old }
-    ensures gives { Gives rules.any_type condition p.old p.new }
+pub fn any_type(p: &mut Parser<'_>)
+    requires begins { Starts (looks rules.any_type) p.old }
+    ensures gives { (c : Bool) → Gives rules.any_type c p.old p.new }
     ensures takes { Takes 2910 p.old p.new }
 {
     let frame = start(p);
-    let frame = inside(p, frame, condition);
+    let frame = inside(p, frame);
     abandon(p, frame);
 }
 
 /// Parses a type, within `frame`, which the caller abandons.
 // [u8]
 #[cycle(grammar)]
-fn inside(p: &mut Parser<'_>, frame: Marker, condition: bool) -> Marker
-    requires begins { StartsIn condition (looks rules.any_type) p.old }
+fn inside(p: &mut Parser<'_>, frame: Marker) -> Marker
+    requires begins { Starts (looks rules.any_type) p.old }
     requires innermost { IsInnermost frame p.old.nodes }
-    ensures reads { Reads condition (rule rules.any_type) p.old p.new }
+    ensures reads { (c : Bool) → Reads c (rule rules.any_type) p.old p.new }
     ensures takes { TakesIn result 2910 p.old p.new }
 {
     match current(p) {
-        SyntaxKind::L_PAREN => paren_type(p, frame, condition),
-        SyntaxKind::L_BRACK => bracket_type(p, frame, condition),
+        SyntaxKind::L_PAREN => paren_type(p, frame),
+        SyntaxKind::L_BRACK => bracket_type(p, frame),
         SyntaxKind::BANG => {
             word_type(p, SyntaxKind::BANG, SyntaxKind::NEVER_TYPE);
             frame
@@ -64,11 +63,11 @@ fn inside(p: &mut Parser<'_>, frame: Marker, condition: bool) -> Marker
             frame
         }
         SyntaxKind::STAR => {
-            ptr_type(p, condition);
+            ptr_type(p);
             frame
         }
         SyntaxKind::AMP => {
-            ref_type(p, condition);
+            ref_type(p);
             frame
         }
         SyntaxKind::IMPL_KW => {
@@ -135,12 +134,12 @@ pub(crate) fn path_type(p: &mut Parser<'_>)
 /// Parses a type; emits an error if there is none.
 // u8
 #[cycle(grammar)]
-pub(crate) fn expect_type(p: &mut Parser<'_>, condition: bool)
-    ensures reads { Reads condition (AnyType !) p.old p.new }
+pub(crate) fn expect_type(p: &mut Parser<'_>)
+    ensures reads { (c : Bool) → Reads c (AnyType !) p.old p.new }
     ensures asks { Asks 5 p.old p.new }
 {
     if at_type(p) {
-        any_type(p, condition);
+        any_type(p);
         return;
     }
     error(p, Message::ExpectedType);
@@ -149,15 +148,15 @@ pub(crate) fn expect_type(p: &mut Parser<'_>, condition: bool)
 /// Parses a raw pointer type.
 // *const u8
 #[cycle(grammar)]
-fn ptr_type(p: &mut Parser<'_>, condition: bool)
+fn ptr_type(p: &mut Parser<'_>)
     requires some { 1 ≤ tokens p.old }
-    ensures reads { Reads condition rows.ptr_type p.old p.new }
+    ensures reads { (c : Bool) → Reads c rows.ptr_type p.old p.new }
     ensures takes { Takes 4080 p.old p.new }
 {
     let node = start(p);
     take(p, SyntaxKind::STAR);
     const_or_mut(p);
-    expect_type(p, condition);
+    expect_type(p);
     complete(p, node, SyntaxKind::PTR_TYPE);
 }
 
@@ -177,45 +176,45 @@ fn const_or_mut(p: &mut Parser<'_>)
 /// Parses a reference type.
 // &'a mut u8
 #[cycle(grammar)]
-fn ref_type(p: &mut Parser<'_>, condition: bool)
+fn ref_type(p: &mut Parser<'_>)
     requires some { 1 ≤ tokens p.old }
-    ensures reads { Reads condition rows.ref_type p.old p.new }
+    ensures reads { (c : Bool) → Reads c rows.ref_type p.old p.new }
     ensures takes { Takes 4080 p.old p.new }
 {
     let node = start(p);
     take(p, SyntaxKind::AMP);
     opt_lifetime(p);
     eat(p, SyntaxKind::MUT_KW);
-    expect_type(p, condition);
+    expect_type(p);
     complete(p, node, SyntaxKind::REF_TYPE);
 }
 
 /// Parses a tuple type or a parenthesized type.
 // (u8, u8)
 #[cycle(grammar)]
-fn paren_type(p: &mut Parser<'_>, frame: Marker, condition: bool) -> Marker
+fn paren_type(p: &mut Parser<'_>, frame: Marker) -> Marker
     requires some { 1 ≤ tokens p.old }
     requires innermost { IsInnermost frame p.old.nodes }
-    ensures reads { Reads condition rows.tuple_or_paren p.old p.new }
+    ensures reads { (c : Bool) → Reads c rows.tuple_or_paren p.old p.new }
     ensures takes { TakesIn result 3200 p.old p.new }
 {
     take(p, SyntaxKind::L_PAREN);
-    after_paren(p, frame, condition)
+    after_paren(p, frame)
 }
 
 /// Parses a tuple type or a parenthesized type after its `(`.
 // u8, u8)
 #[cycle(grammar)]
-fn after_paren(p: &mut Parser<'_>, frame: Marker, condition: bool) -> Marker
+fn after_paren(p: &mut Parser<'_>, frame: Marker) -> Marker
     requires innermost { IsInnermost frame p.old.nodes }
-    ensures reads { Reads condition rows.after_l_paren p.old p.new }
+    ensures reads { (c : Bool) → Reads c rows.after_l_paren p.old p.new }
     ensures asks { AsksIn result 8 p.old p.new }
 {
     if at(p, SyntaxKind::R_PAREN) {
         take(p, SyntaxKind::R_PAREN);
         return wrap(p, frame, SyntaxKind::TUPLE_TYPE);
     }
-    expect_type(p, condition);
+    expect_type(p);
     tuple_tail(
         p,
         frame,
@@ -228,14 +227,14 @@ fn after_paren(p: &mut Parser<'_>, frame: Marker, condition: bool) -> Marker
 /// Parses an array type or a slice type.
 // [u8; 4]
 #[cycle(grammar)]
-fn bracket_type(p: &mut Parser<'_>, frame: Marker, condition: bool) -> Marker
+fn bracket_type(p: &mut Parser<'_>, frame: Marker) -> Marker
     requires some { 1 ≤ tokens p.old }
     requires innermost { IsInnermost frame p.old.nodes }
-    ensures reads { Reads condition rows.array_or_slice p.old p.new }
+    ensures reads { (c : Bool) → Reads c rows.array_or_slice p.old p.new }
     ensures takes { TakesIn result 3200 p.old p.new }
 {
     take(p, SyntaxKind::L_BRACK);
-    expect_type(p, condition);
+    expect_type(p);
     after_element(p, frame)
 }
 
@@ -272,27 +271,39 @@ fn array_length(p: &mut Parser<'_>)
 /// Parses a return type.
 // -> u8
 #[cycle(grammar)]
-pub(crate) fn ret_type(p: &mut Parser<'_>, condition: bool)
+pub(crate) fn ret_type(p: &mut Parser<'_>)
     requires some { 2 ≤ tokens p.old }
-    ensures gives { Gives rules.ret_type condition p.old p.new }
+    ensures gives { (c : Bool) → Gives rules.ret_type c p.old p.new }
     ensures takes { Takes 4090 p.old p.new }
 {
     let node = start(p);
     take_pair(p, SyntaxKind::THIN_ARROW);
-    expect_type(p, condition);
+    expect_type(p);
     complete(p, node, SyntaxKind::RET_TYPE);
+}
+
+/// Parses an optional return type.
+// -> u8
+#[cycle(grammar)]
+pub(crate) fn opt_ret_type(p: &mut Parser<'_>)
+    ensures reads { (c : Bool) → Reads c ⁅ RetType ⁆ p.old p.new }
+    ensures asks { Asks 2 p.old p.new }
+{
+    if at_pair(p, SyntaxKind::MINUS, SyntaxKind::R_ANGLE) {
+        ret_type(p);
+    }
 }
 
 /// Parses an optional `word` and the type after it.
 // = u8
 #[cycle(grammar)]
-pub(crate) fn opt_type_after(p: &mut Parser<'_>, word: SyntaxKind, condition: bool)
+pub(crate) fn opt_type_after(p: &mut Parser<'_>, word: SyntaxKind)
     requires inside { raw_of word ≢ kinds.EOF }
-    ensures reads { Reads condition ⁅ One (one (raw_of word)) ▸ AnyType ! ⁆ p.old p.new }
+    ensures reads { (c : Bool) → Reads c ⁅ One (one (raw_of word)) ▸ AnyType ! ⁆ p.old p.new }
     ensures asks { Asks 1 p.old p.new }
 {
     if at(p, word) {
         take(p, word);
-        expect_type(p, condition);
+        expect_type(p);
     }
 }

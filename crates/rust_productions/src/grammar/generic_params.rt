@@ -42,7 +42,7 @@ pub fn at_bound(p: &mut Parser<'_>) -> bool
 pub fn at_where_pred(p: &mut Parser<'_>) -> bool
     ensures sees { (c : Bool) → Saw c (looks rules.where_pred) p.old result }
     ensures some { IsTrue result → 1 ≤ tokens p.old }
-    ensures peeks { Peeks 6 p.old p.new }
+    ensures peeks { Peeks 17 p.old p.new }
 {
     if at(p, SyntaxKind::LIFETIME_IDENT) {
         return true;

@@ -723,12 +723,6 @@ items::functions::expect_params-returns-then-at-clause-reads = functions.items::
 pub items::functions::expect_params-returns-clause-reads : goal.items::functions::expect_params-returns-clause-reads
 items::functions::expect_params-returns-clause-reads = functions.items::functions::expect_params-returns-clause-reads
 
-pub items::functions::opt_ret_type-returns-then-at_pair-clause-reads : goal.items::functions::opt_ret_type-returns-then-at_pair-clause-reads
-items::functions::opt_ret_type-returns-then-at_pair-clause-reads = functions.items::functions::opt_ret_type-returns-then-at_pair-clause-reads
-
-pub items::functions::opt_ret_type-returns-else-at_pair-clause-reads : goal.items::functions::opt_ret_type-returns-else-at_pair-clause-reads
-items::functions::opt_ret_type-returns-else-at_pair-clause-reads = functions.items::functions::opt_ret_type-returns-else-at_pair-clause-reads
-
 pub items::functions::fn_body-returns-then-at-clause-reads : goal.items::functions::fn_body-returns-then-at-clause-reads
 items::functions::fn_body-returns-then-at-clause-reads = functions.items::functions::fn_body-returns-then-at-clause-reads
 
@@ -2168,3 +2162,9 @@ lists::turn-returns-clause-asks = lists.lists::turn-returns-clause-asks
 
 pub paths::generic_args-opt_colons-requires : goal.paths::generic_args-opt_colons-requires
 paths::generic_args-opt_colons-requires = paths.paths::generic_args-opt_colons-requires
+
+pub types::opt_ret_type-returns-then-at_pair-clause-reads : goal.types::opt_ret_type-returns-then-at_pair-clause-reads
+types::opt_ret_type-returns-then-at_pair-clause-reads = types.types::opt_ret_type-returns-then-at_pair-clause-reads
+
+pub types::opt_ret_type-returns-else-at_pair-clause-reads : goal.types::opt_ret_type-returns-else-at_pair-clause-reads
+types::opt_ret_type-returns-else-at_pair-clause-reads = types.types::opt_ret_type-returns-else-at_pair-clause-reads

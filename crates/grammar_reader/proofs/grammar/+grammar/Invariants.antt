@@ -505,8 +505,8 @@ decreases-items::functions::fn_item l = 512 * tokens l.p.now
 abbrev pub decreases-items::functions::expect_params : goal.decreases-items::functions::expect_params
 decreases-items::functions::expect_params l = 512 * tokens l.p.now + 1
 
-abbrev pub decreases-items::functions::opt_ret_type : goal.decreases-items::functions::opt_ret_type
-decreases-items::functions::opt_ret_type l = 512 * tokens l.p.now + 1
+abbrev pub decreases-types::opt_ret_type : goal.decreases-types::opt_ret_type
+decreases-types::opt_ret_type l = 512 * tokens l.p.now + 1
 
 abbrev pub decreases-items::functions::fn_body : goal.decreases-items::functions::fn_body
 decreases-items::functions::fn_body l = 512 * tokens l.p.now + 2

@@ -67,7 +67,7 @@ fn turn(p: &mut Parser<'_>, frame: Marker, operator: Operator, condition: bool) 
 {
     take_operator(p, operator);
     if operator.height == 1 {
-        expect_type(p, condition);
+        expect_type(p);
         return wrap(p, frame, SyntaxKind::CAST_EXPR);
     }
     expect_layer(p, operator.height - 1, condition);

@@ -57,7 +57,7 @@ fn typed_value(p: &mut Parser<'_>, condition: bool)
     ensures asks { Asks 8 p.old p.new }
 {
     expect(p, SyntaxKind::COLON);
-    expect_type(p, condition);
+    expect_type(p);
     opt_value(p, condition);
     expect(p, SyntaxKind::SEMICOLON);
 }
@@ -89,7 +89,7 @@ pub(crate) fn type_alias(p: &mut Parser<'_>, item: Marker, condition: bool)
     opt_generic_params(p);
     bounds_after_colon(p);
     opt_where_clause(p, condition);
-    opt_type_after(p, SyntaxKind::EQ, condition);
+    opt_type_after(p, SyntaxKind::EQ);
     expect(p, SyntaxKind::SEMICOLON);
     complete(p, item, SyntaxKind::TYPE_ALIAS);
 }

@@ -69,7 +69,7 @@ pub(crate) fn record_field(p: &mut Parser<'_>)
     let field = start(p);
     named(p);
     expect(p, SyntaxKind::COLON);
-    expect_type(p, false);
+    expect_type(p);
     complete(p, field, SyntaxKind::RECORD_FIELD);
 }
 
@@ -121,13 +121,13 @@ fn typed(p: &mut Parser<'_>)
     match current(p) {
         SyntaxKind::POUND => {
             attributes_and_visibility(p);
-            expect_type(p, false);
+            expect_type(p);
         }
         SyntaxKind::PUB_KW => {
             visibility(p);
-            expect_type(p, false);
+            expect_type(p);
         }
-        _ => any_type(p, false),
+        _ => any_type(p),
     }
 }
 

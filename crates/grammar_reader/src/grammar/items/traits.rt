@@ -30,8 +30,8 @@ pub(crate) fn impl_item(p: &mut Parser<'_>, item: Marker, condition: bool)
 {
     unsafe_word(p, SyntaxKind::IMPL_KW);
     opt_generic_params(p);
-    expect_type(p, condition);
-    opt_type_after(p, SyntaxKind::FOR_KW, condition);
+    expect_type(p);
+    opt_type_after(p, SyntaxKind::FOR_KW);
     opt_where_clause(p, condition);
     expect_assoc_items(p);
     complete(p, item, SyntaxKind::IMPL);

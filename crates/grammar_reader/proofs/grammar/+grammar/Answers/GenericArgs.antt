@@ -20,22 +20,22 @@ use Rattle.grammar_reader.proofs.grammar.+grammar.Goals as goal
 
 pub generic_args::generic_arg-returns-in-LIFETIME_IDENT-clause-gives : goal.generic_args::generic_arg-returns-in-LIFETIME_IDENT-clause-gives
 unfolding look_of begins_below whole rule items statements expressions patterns types paths there_at shift passes is_silent begins in_mode anew row one_of any_of no_longer longest is_longer
-generic_args::generic_arg-returns-in-LIFETIME_IDENT-clause-gives t c = gives-anew (anew-after refl (reads-here (saw-arm c.in-LIFETIME_IDENT.is (c.current.ensures.sees c.args.condition) and nothing) (after-look _ c.current.ensures.peeks.same (c.lifetime_arg.ensures.reads c.args.condition))))
+generic_args::generic_arg-returns-in-LIFETIME_IDENT-clause-gives t c = λ cond. gives-anew (anew-after refl (reads-here (saw-arm c.in-LIFETIME_IDENT.is (c.current.ensures.sees cond) and nothing) (after-look _ c.current.ensures.peeks.same (c.lifetime_arg.ensures.reads cond))))
 
 pub generic_args::generic_arg-returns-in-MINUS-clause-gives : goal.generic_args::generic_arg-returns-in-MINUS-clause-gives
 unfolding look_of begins_below whole rule items statements expressions patterns types paths there_at shift passes is_silent begins in_mode anew row one_of any_of no_longer longest is_longer
-generic_args::generic_arg-returns-in-MINUS-clause-gives t c = gives-anew (anew-after refl (reads-here (saw-arm c.in-MINUS.is (c.current.ensures.sees c.args.condition) and nothing) (after-look _ c.current.ensures.peeks.same (c.negative_arg.ensures.reads c.args.condition))))
+generic_args::generic_arg-returns-in-MINUS-clause-gives t c = λ cond. gives-anew (anew-after refl (reads-here (saw-arm c.in-MINUS.is (c.current.ensures.sees cond) and nothing) (after-look _ c.current.ensures.peeks.same (c.negative_arg.ensures.reads cond))))
 
 pub generic_args::generic_arg-word_arg-requires : goal.generic_args::generic_arg-word_arg-requires
 generic_args::generic_arg-word_arg-requires t c = (omega arith, (saw-after c.current.ensures.peeks.same (saw-arm c.in-IDENT.is (c.current.ensures.sees c.args.condition)), omega arith))
 
 pub generic_args::generic_arg-returns-in-IDENT-clause-gives : goal.generic_args::generic_arg-returns-in-IDENT-clause-gives
 unfolding look_of begins_below whole rule items statements expressions patterns types paths there_at shift passes is_silent begins in_mode anew row one_of any_of no_longer longest is_longer
-generic_args::generic_arg-returns-in-IDENT-clause-gives t c = gives-anew (anew-after refl (after-look _ c.current.ensures.peeks.same c.word_arg.ensures.reads))
+generic_args::generic_arg-returns-in-IDENT-clause-gives t c = λ cond. gives-anew (anew-after refl (after-look _ c.current.ensures.peeks.same (c.word_arg.ensures.reads cond)))
 
 pub generic_args::generic_arg-returns-then-at_literal-clause-gives : goal.generic_args::generic_arg-returns-then-at_literal-clause-gives
 unfolding look_of begins_below whole rule items statements expressions patterns types paths there_at shift passes is_silent begins in_mode anew row one_of any_of no_longer longest is_longer
-generic_args::generic_arg-returns-then-at_literal-clause-gives t c = gives-anew (anew-after refl (reads-here (saw-not c.in_default.not-LIFETIME_IDENT (c.current.ensures.sees c.args.condition) and saw-not c.in_default.not-MINUS (c.current.ensures.sees c.args.condition) and saw-not c.in_default.not-IDENT (c.current.ensures.sees c.args.condition) and begun rules.literal (saw-before c.current.ensures.peeks.same (saw-so (c.at_literal.ensures.sees c.args.condition) c.if-at_literal.true)) nothing) (after-look _ c.current.ensures.peeks.same (after-look _ c.at_literal.ensures.peeks.same (c.literal_arg.ensures.reads c.args.condition)))))
+generic_args::generic_arg-returns-then-at_literal-clause-gives t c = λ cond. gives-anew (anew-after refl (reads-here (saw-not c.in_default.not-LIFETIME_IDENT (c.current.ensures.sees cond) and saw-not c.in_default.not-MINUS (c.current.ensures.sees cond) and saw-not c.in_default.not-IDENT (c.current.ensures.sees cond) and begun rules.literal (saw-before c.current.ensures.peeks.same (saw-so (c.at_literal.ensures.sees cond) c.if-at_literal.true)) nothing) (after-look _ c.current.ensures.peeks.same (after-look _ c.at_literal.ensures.peeks.same (c.literal_arg.ensures.reads cond)))))
 
 pub generic_args::generic_arg-type_arg-requires : goal.generic_args::generic_arg-type_arg-requires
 unfolding look_of begins_below whole rule items statements expressions patterns types paths there_at shift passes is_silent begins in_mode anew row one_of any_of no_longer longest is_longer
@@ -43,14 +43,14 @@ generic_args::generic_arg-type_arg-requires t c = (omega arith, (saw-after c.at_
 
 pub generic_args::generic_arg-returns-else-at_literal-clause-gives : goal.generic_args::generic_arg-returns-else-at_literal-clause-gives
 unfolding look_of begins_below whole rule items statements expressions patterns types paths there_at shift passes is_silent begins in_mode anew row one_of any_of no_longer longest is_longer
-generic_args::generic_arg-returns-else-at_literal-clause-gives t c = gives-anew (anew-after refl (reads-here (saw-not c.in_default.not-LIFETIME_IDENT (c.current.ensures.sees c.args.condition) and saw-not c.in_default.not-MINUS (c.current.ensures.sees c.args.condition) and saw-not c.in_default.not-IDENT (c.current.ensures.sees c.args.condition) and begun rules.literal (saw-before c.current.ensures.peeks.same (saw-so (c.at_literal.ensures.sees c.args.condition) c.if-at_literal.false)) nothing) (after-look _ c.current.ensures.peeks.same (after-look _ c.at_literal.ensures.peeks.same c.type_arg.ensures.reads))))
+generic_args::generic_arg-returns-else-at_literal-clause-gives t c = λ cond. gives-anew (anew-after refl (reads-here (saw-not c.in_default.not-LIFETIME_IDENT (c.current.ensures.sees cond) and saw-not c.in_default.not-MINUS (c.current.ensures.sees cond) and saw-not c.in_default.not-IDENT (c.current.ensures.sees cond) and begun rules.literal (saw-before c.current.ensures.peeks.same (saw-so (c.at_literal.ensures.sees cond) c.if-at_literal.false)) nothing) (after-look _ c.current.ensures.peeks.same (after-look _ c.at_literal.ensures.peeks.same (c.type_arg.ensures.reads cond)))))
 
 pub generic_args::word_arg-assoc_type_arg-requires : goal.generic_args::word_arg-assoc_type_arg-requires
 generic_args::word_arg-assoc_type_arg-requires t c = (omega arith, omega (arith, c.at_second.ensures.some c.if-at_second.true (λ e. absurd (omega (arith, e))), c.at_second.ensures.peeks.left))
 
 pub generic_args::word_arg-returns-then-at_second-clause-reads : goal.generic_args::word_arg-returns-then-at_second-clause-reads
 unfolding look_of begins_below whole rule items statements expressions patterns types paths there_at shift passes is_silent begins in_mode anew row one_of any_of no_longer longest is_longer
-generic_args::word_arg-returns-then-at_second-clause-reads t c = reads-here (c.requires.word and saw-so (c.at_second.ensures.sees c.args.condition) c.if-at_second.true and nothing) (after-look _ c.at_second.ensures.peeks.same c.assoc_type_arg.ensures.reads)
+generic_args::word_arg-returns-then-at_second-clause-reads t c = λ cond. reads-here (c.requires.word and saw-so (c.at_second.ensures.sees cond) c.if-at_second.true and nothing) (after-look _ c.at_second.ensures.peeks.same (c.assoc_type_arg.ensures.reads cond))
 
 pub generic_args::word_arg-type_arg-requires : goal.generic_args::word_arg-type_arg-requires
 unfolding look_of begins_below whole rule items statements expressions patterns types paths there_at shift passes is_silent begins in_mode anew row one_of any_of no_longer longest is_longer
@@ -58,19 +58,19 @@ generic_args::word_arg-type_arg-requires t c = (omega arith, (saw-after c.at_sec
 
 pub generic_args::word_arg-returns-clause-reads : goal.generic_args::word_arg-returns-clause-reads
 unfolding look_of begins_below whole rule items statements expressions patterns types paths there_at shift passes is_silent begins in_mode anew row one_of any_of no_longer longest is_longer
-generic_args::word_arg-returns-clause-reads t c = reads-here (c.requires.word and saw-so (c.at_second.ensures.sees c.args.condition) c.if-at_second.false and nothing) (after-look _ c.at_second.ensures.peeks.same c.type_arg.ensures.reads)
+generic_args::word_arg-returns-clause-reads t c = λ cond. reads-here (c.requires.word and saw-so (c.at_second.ensures.sees cond) c.if-at_second.false and nothing) (after-look _ c.at_second.ensures.peeks.same (c.type_arg.ensures.reads cond))
 
 pub generic_args::assoc_type_arg-complete-requires : goal.generic_args::assoc_type_arg-complete-requires
-generic_args::assoc_type_arg-complete-requires t c = c.expect_type.ensures.reads.does.innermost _ ((c.take.ensures.reads true).does.innermost _ ((c.word_type.ensures.reads true).does.innermost _ c.start-node.ensures.marker))
+generic_args::assoc_type_arg-complete-requires t c = (c.expect_type.ensures.reads true).does.innermost _ ((c.take.ensures.reads true).does.innermost _ ((c.word_type.ensures.reads true).does.innermost _ c.start-node.ensures.marker))
 
 pub generic_args::assoc_type_arg-returns-clause-reads : goal.generic_args::assoc_type_arg-returns-clause-reads
-generic_args::assoc_type_arg-returns-clause-reads t c = reads-node _ c.start-node.ensures.opens (reads-then _ (c.word_type.ensures.reads c.args.condition) (reads-then _ (c.take.ensures.reads c.args.condition) c.expect_type.ensures.reads)) c.complete.ensures.closes
+generic_args::assoc_type_arg-returns-clause-reads t c = λ cond. reads-node _ c.start-node.ensures.opens (reads-then _ (c.word_type.ensures.reads cond) (reads-then _ (c.take.ensures.reads cond) (c.expect_type.ensures.reads cond))) c.complete.ensures.closes
 
 pub generic_args::type_arg-any_type-requires : goal.generic_args::type_arg-any_type-requires
 generic_args::type_arg-any_type-requires t c = (omega arith, (saw-inside c.start-node.ensures.opens c.requires.begins, omega arith))
 
 pub generic_args::type_arg-complete-requires : goal.generic_args::type_arg-complete-requires
-generic_args::type_arg-complete-requires t c = c.any_type.ensures.gives.does.innermost _ c.start-node.ensures.marker
+generic_args::type_arg-complete-requires t c = (c.any_type.ensures.gives true).does.innermost _ c.start-node.ensures.marker
 
 pub generic_args::type_arg-returns-clause-reads : goal.generic_args::type_arg-returns-clause-reads
-generic_args::type_arg-returns-clause-reads t c = reads-node _ c.start-node.ensures.opens (reads-call _ c.any_type.ensures.gives) c.complete.ensures.closes
+generic_args::type_arg-returns-clause-reads t c = λ cond. reads-node _ c.start-node.ensures.opens (reads-call _ (c.any_type.ensures.gives cond)) c.complete.ensures.closes

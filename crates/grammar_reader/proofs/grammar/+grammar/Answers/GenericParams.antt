@@ -127,10 +127,10 @@ pub generic_params::lifetime_param-returns-clause-reads : goal.generic_params::l
 generic_params::lifetime_param-returns-clause-reads t c = λ cond. reads-node cond c.start-node.ensures.opens (reads-then cond (reads-call cond (c.lifetime.ensures.gives cond)) (c.bounds_after_colon.ensures.reads cond)) c.complete.ensures.closes
 
 pub generic_params::type_param-complete-requires : goal.generic_params::type_param-complete-requires
-generic_params::type_param-complete-requires t c = c.opt_type_after.ensures.reads.does.innermost _ ((c.bounds_after_colon.ensures.reads true).does.innermost _ ((c.name.ensures.gives true).does.innermost _ c.start-node.ensures.marker))
+generic_params::type_param-complete-requires t c = (c.opt_type_after.ensures.reads true).does.innermost _ ((c.bounds_after_colon.ensures.reads true).does.innermost _ ((c.name.ensures.gives true).does.innermost _ c.start-node.ensures.marker))
 
 pub generic_params::type_param-returns-clause-reads : goal.generic_params::type_param-returns-clause-reads
-generic_params::type_param-returns-clause-reads t c = reads-node _ c.start-node.ensures.opens (reads-then _ (reads-call _ (c.name.ensures.gives c.args.condition)) (reads-then _ (c.bounds_after_colon.ensures.reads c.args.condition) c.opt_type_after.ensures.reads)) c.complete.ensures.closes
+generic_params::type_param-returns-clause-reads t c = reads-node _ c.start-node.ensures.opens (reads-then _ (reads-call _ (c.name.ensures.gives c.args.condition)) (reads-then _ (c.bounds_after_colon.ensures.reads c.args.condition) (c.opt_type_after.ensures.reads _))) c.complete.ensures.closes
 
 pub generic_params::generic_param-returns-then-at-clause-gives : goal.generic_params::generic_param-returns-then-at-clause-gives
 unfolding look_of begins_below whole rule items statements expressions patterns types paths there_at shift passes is_silent begins in_mode anew row one_of any_of no_longer longest is_longer
@@ -150,7 +150,7 @@ generic_params::lifetime_or_type-returns-then-at-clause-reads t c = reads-here (
 
 pub generic_params::lifetime_or_type-returns-clause-reads : goal.generic_params::lifetime_or_type-returns-clause-reads
 unfolding look_of begins_below whole rule items statements expressions patterns types paths there_at shift passes is_silent begins in_mode anew row one_of any_of no_longer longest is_longer
-generic_params::lifetime_or_type-returns-clause-reads t c = reads-here (saw-so (c.at.ensures.sees c.args.condition) c.if-at.false and nothing) (after-look _ c.at.ensures.peeks.same (reads-call _ c.any_type.ensures.gives))
+generic_params::lifetime_or_type-returns-clause-reads t c = reads-here (saw-so (c.at.ensures.sees c.args.condition) c.if-at.false and nothing) (after-look _ c.at.ensures.peeks.same (reads-call _ (c.any_type.ensures.gives _)))
 
 pub generic_params::where_pred-lifetime_or_type-requires : goal.generic_params::where_pred-lifetime_or_type-requires
 generic_params::where_pred-lifetime_or_type-requires t c = (omega arith, (saw-inside c.start-node.ensures.opens c.requires.begins, omega arith))

@@ -121,7 +121,7 @@ lists::read_element-generic_arg-requires t c =
     (omega arith, (seen, word-left (Call rules.generic_arg) refl seen))
 
 pub lists::read_element-returns-in-GenericArg-clause-reads : goal.lists::read_element-returns-in-GenericArg-clause-reads
-lists::read_element-returns-in-GenericArg-clause-reads t c = subst (λ (e : Element). Reads false (element_of e) c.args.p.now c.generic_arg.new.p) (sym c.in-GenericArg.is) (reads-call false c.generic_arg.ensures.gives)
+lists::read_element-returns-in-GenericArg-clause-reads t c = subst (λ (e : Element). Reads false (element_of e) c.args.p.now c.generic_arg.new.p) (sym c.in-GenericArg.is) (reads-call false (c.generic_arg.ensures.gives _))
 
 pub lists::read_element-generic_param-requires : goal.lists::read_element-generic_param-requires
 unfolding look_of begins_below whole rule items statements expressions patterns types paths there_at shift passes is_silent begins in_mode anew row one_of any_of no_longer longest is_longer
@@ -164,7 +164,7 @@ lists::read_element-any_type-requires t c =
     (omega arith, (seen, word-left (Call rules.any_type) refl seen))
 
 pub lists::read_element-returns-in-Type-clause-reads : goal.lists::read_element-returns-in-Type-clause-reads
-lists::read_element-returns-in-Type-clause-reads t c = subst (λ (e : Element). Reads false (element_of e) c.args.p.now c.any_type.new.p) (sym c.in-Type.is) (reads-call false c.any_type.ensures.gives)
+lists::read_element-returns-in-Type-clause-reads t c = subst (λ (e : Element). Reads false (element_of e) c.args.p.now c.any_type.new.p) (sym c.in-Type.is) (reads-call false (c.any_type.ensures.gives _))
 
 pub lists::elements-turns-preserved : goal.lists::elements-turns-preserved
 lists::elements-turns-preserved t c = record {

@@ -23,39 +23,39 @@ use Rattle.rust_productions.proofs.Seen.{begins-else, saw-after, saw-before, saw
 use Rattle.grammar_reader.proofs.grammar.+grammar.Goals as goal
 
 pub types::any_type-returns-clause-gives : goal.types::any_type-returns-clause-gives
-types::any_type-returns-clause-gives t c = gives-anew (anew-completes c.start-frame.ensures.opens (completes-leave c.inside-frame.ensures.reads c.abandon.ensures.leaves))
+types::any_type-returns-clause-gives t c = λ cond. gives-anew (anew-completes c.start-frame.ensures.opens (completes-leave (c.inside-frame.ensures.reads cond) c.abandon.ensures.leaves))
 
 pub types::inside-returns-in-L_PAREN-clause-reads : goal.types::inside-returns-in-L_PAREN-clause-reads
 unfolding look_of begins_below whole rule items statements expressions patterns types paths there_at shift passes is_silent begins in_mode anew row one_of any_of no_longer longest is_longer
-types::inside-returns-in-L_PAREN-clause-reads t c = reads-here (saw-arm c.in-L_PAREN.is (c.current.ensures.sees c.args.condition) and nothing) (after-look _ c.current.ensures.peeks.same c.paren_type.ensures.reads)
+types::inside-returns-in-L_PAREN-clause-reads t c = λ cond. reads-here (saw-arm c.in-L_PAREN.is (c.current.ensures.sees cond) and nothing) (after-look _ c.current.ensures.peeks.same (c.paren_type.ensures.reads cond))
 
 pub types::inside-returns-in-L_BRACK-clause-reads : goal.types::inside-returns-in-L_BRACK-clause-reads
 unfolding look_of begins_below whole rule items statements expressions patterns types paths there_at shift passes is_silent begins in_mode anew row one_of any_of no_longer longest is_longer
-types::inside-returns-in-L_BRACK-clause-reads t c = reads-here (saw-arm c.in-L_BRACK.is (c.current.ensures.sees c.args.condition) and nothing) (after-look _ c.current.ensures.peeks.same c.bracket_type.ensures.reads)
+types::inside-returns-in-L_BRACK-clause-reads t c = λ cond. reads-here (saw-arm c.in-L_BRACK.is (c.current.ensures.sees cond) and nothing) (after-look _ c.current.ensures.peeks.same (c.bracket_type.ensures.reads cond))
 
 pub types::inside-returns-in-BANG-clause-reads : goal.types::inside-returns-in-BANG-clause-reads
 unfolding look_of begins_below whole rule items statements expressions patterns types paths there_at shift passes is_silent begins in_mode anew row one_of any_of no_longer longest is_longer
-types::inside-returns-in-BANG-clause-reads t c = reads-here (saw-arm c.in-BANG.is (c.current.ensures.sees c.args.condition) and nothing) (after-look _ c.current.ensures.peeks.same (c.word_type.ensures.reads c.args.condition))
+types::inside-returns-in-BANG-clause-reads t c = λ cond. reads-here (saw-arm c.in-BANG.is (c.current.ensures.sees cond) and nothing) (after-look _ c.current.ensures.peeks.same (c.word_type.ensures.reads cond))
 
 pub types::inside-returns-in-UNDERSCORE-clause-reads : goal.types::inside-returns-in-UNDERSCORE-clause-reads
 unfolding look_of begins_below whole rule items statements expressions patterns types paths there_at shift passes is_silent begins in_mode anew row one_of any_of no_longer longest is_longer
-types::inside-returns-in-UNDERSCORE-clause-reads t c = reads-here (saw-arm c.in-UNDERSCORE.is (c.current.ensures.sees c.args.condition) and nothing) (after-look _ c.current.ensures.peeks.same (c.word_type-in-UNDERSCORE.ensures.reads c.args.condition))
+types::inside-returns-in-UNDERSCORE-clause-reads t c = λ cond. reads-here (saw-arm c.in-UNDERSCORE.is (c.current.ensures.sees cond) and nothing) (after-look _ c.current.ensures.peeks.same (c.word_type-in-UNDERSCORE.ensures.reads cond))
 
 pub types::inside-returns-in-STAR-clause-reads : goal.types::inside-returns-in-STAR-clause-reads
 unfolding look_of begins_below whole rule items statements expressions patterns types paths there_at shift passes is_silent begins in_mode anew row one_of any_of no_longer longest is_longer
-types::inside-returns-in-STAR-clause-reads t c = reads-here (saw-arm c.in-STAR.is (c.current.ensures.sees c.args.condition) and nothing) (after-look _ c.current.ensures.peeks.same c.ptr_type.ensures.reads)
+types::inside-returns-in-STAR-clause-reads t c = λ cond. reads-here (saw-arm c.in-STAR.is (c.current.ensures.sees cond) and nothing) (after-look _ c.current.ensures.peeks.same (c.ptr_type.ensures.reads cond))
 
 pub types::inside-returns-in-AMP-clause-reads : goal.types::inside-returns-in-AMP-clause-reads
 unfolding look_of begins_below whole rule items statements expressions patterns types paths there_at shift passes is_silent begins in_mode anew row one_of any_of no_longer longest is_longer
-types::inside-returns-in-AMP-clause-reads t c = reads-here (saw-arm c.in-AMP.is (c.current.ensures.sees c.args.condition) and nothing) (after-look _ c.current.ensures.peeks.same c.ref_type.ensures.reads)
+types::inside-returns-in-AMP-clause-reads t c = λ cond. reads-here (saw-arm c.in-AMP.is (c.current.ensures.sees cond) and nothing) (after-look _ c.current.ensures.peeks.same (c.ref_type.ensures.reads cond))
 
 pub types::inside-returns-in-IMPL_KW-clause-reads : goal.types::inside-returns-in-IMPL_KW-clause-reads
 unfolding look_of begins_below whole rule items statements expressions patterns types paths there_at shift passes is_silent begins in_mode anew row one_of any_of no_longer longest is_longer
-types::inside-returns-in-IMPL_KW-clause-reads t c = reads-here (saw-arm c.in-IMPL_KW.is (c.current.ensures.sees c.args.condition) and nothing) (after-look _ c.current.ensures.peeks.same (c.bounded_type.ensures.reads c.args.condition))
+types::inside-returns-in-IMPL_KW-clause-reads t c = λ cond. reads-here (saw-arm c.in-IMPL_KW.is (c.current.ensures.sees cond) and nothing) (after-look _ c.current.ensures.peeks.same (c.bounded_type.ensures.reads cond))
 
 pub types::inside-returns-in-DYN_KW-clause-reads : goal.types::inside-returns-in-DYN_KW-clause-reads
 unfolding look_of begins_below whole rule items statements expressions patterns types paths there_at shift passes is_silent begins in_mode anew row one_of any_of no_longer longest is_longer
-types::inside-returns-in-DYN_KW-clause-reads t c = reads-here (saw-arm c.in-DYN_KW.is (c.current.ensures.sees c.args.condition) and nothing) (after-look _ c.current.ensures.peeks.same (c.bounded_type-in-DYN_KW.ensures.reads c.args.condition))
+types::inside-returns-in-DYN_KW-clause-reads t c = λ cond. reads-here (saw-arm c.in-DYN_KW.is (c.current.ensures.sees cond) and nothing) (after-look _ c.current.ensures.peeks.same (c.bounded_type-in-DYN_KW.ensures.reads cond))
 
 pub types::inside-returns-in-BANG-clause-takes : goal.types::inside-returns-in-BANG-clause-takes
 types::inside-returns-in-BANG-clause-takes t c = record {
@@ -74,7 +74,7 @@ types::inside-returns-in-UNDERSCORE-clause-takes t c = record {
 pub types::inside-returns-then-at_dyn_word : goal.types::inside-returns-then-at_dyn_word
 unfolding look_of begins_below whole rule items statements expressions patterns types paths there_at shift passes is_silent begins in_mode anew row one_of any_of no_longer longest is_longer
 types::inside-returns-then-at_dyn_word t c = record {
-  reads = reads-here (saw-not c.in_default.not-L_PAREN (c.current.ensures.sees c.args.condition) and saw-not c.in_default.not-L_BRACK (c.current.ensures.sees c.args.condition) and saw-not c.in_default.not-BANG (c.current.ensures.sees c.args.condition) and saw-not c.in_default.not-UNDERSCORE (c.current.ensures.sees c.args.condition) and saw-not c.in_default.not-STAR (c.current.ensures.sees c.args.condition) and saw-not c.in_default.not-AMP (c.current.ensures.sees c.args.condition) and saw-not c.in_default.not-IMPL_KW (c.current.ensures.sees c.args.condition) and saw-not c.in_default.not-DYN_KW (c.current.ensures.sees c.args.condition) and saw-before c.current.ensures.peeks.same (saw-so (c.at_dyn_word.ensures.sees c.args.condition) c.if-at_dyn_word.true) and nothing) (after-look _ c.current.ensures.peeks.same (after-look _ c.at_dyn_word.ensures.peeks.same (as-word (c.bounded_type-then-at_dyn_word.ensures.reads c.args.condition))));
+  reads = λ cond. reads-here (saw-not c.in_default.not-L_PAREN (c.current.ensures.sees cond) and saw-not c.in_default.not-L_BRACK (c.current.ensures.sees cond) and saw-not c.in_default.not-BANG (c.current.ensures.sees cond) and saw-not c.in_default.not-UNDERSCORE (c.current.ensures.sees cond) and saw-not c.in_default.not-STAR (c.current.ensures.sees cond) and saw-not c.in_default.not-AMP (c.current.ensures.sees cond) and saw-not c.in_default.not-IMPL_KW (c.current.ensures.sees cond) and saw-not c.in_default.not-DYN_KW (c.current.ensures.sees cond) and saw-before c.current.ensures.peeks.same (saw-so (c.at_dyn_word.ensures.sees cond) c.if-at_dyn_word.true) and nothing) (after-look _ c.current.ensures.peeks.same (after-look _ c.at_dyn_word.ensures.peeks.same (as-word (c.bounded_type-then-at_dyn_word.ensures.reads cond))));
   takes = record {
     left = omega (arith, c.bounded_type-then-at_dyn_word.ensures.takes.left, c.at_dyn_word.ensures.peeks.left, c.current.ensures.peeks.left);
     looks = omega (arith, c.bounded_type-then-at_dyn_word.ensures.takes.looks, c.at_dyn_word.ensures.peeks.looks, c.current.ensures.peeks.looks);
@@ -85,7 +85,7 @@ types::inside-returns-then-at_dyn_word t c = record {
 pub types::inside-returns-else-at_dyn_word : goal.types::inside-returns-else-at_dyn_word
 unfolding look_of begins_below whole rule items statements expressions patterns types paths there_at shift passes is_silent begins in_mode anew row one_of any_of no_longer longest is_longer
 types::inside-returns-else-at_dyn_word t c = record {
-  reads = reads-here (saw-not c.in_default.not-L_PAREN (c.current.ensures.sees c.args.condition) and saw-not c.in_default.not-L_BRACK (c.current.ensures.sees c.args.condition) and saw-not c.in_default.not-BANG (c.current.ensures.sees c.args.condition) and saw-not c.in_default.not-UNDERSCORE (c.current.ensures.sees c.args.condition) and saw-not c.in_default.not-STAR (c.current.ensures.sees c.args.condition) and saw-not c.in_default.not-AMP (c.current.ensures.sees c.args.condition) and saw-not c.in_default.not-IMPL_KW (c.current.ensures.sees c.args.condition) and saw-not c.in_default.not-DYN_KW (c.current.ensures.sees c.args.condition) and saw-before c.current.ensures.peeks.same (saw-so (c.at_dyn_word.ensures.sees c.args.condition) c.if-at_dyn_word.false) and nothing) (after-look _ c.current.ensures.peeks.same (after-look _ c.at_dyn_word.ensures.peeks.same (c.path_type.ensures.reads c.args.condition)));
+  reads = λ cond. reads-here (saw-not c.in_default.not-L_PAREN (c.current.ensures.sees cond) and saw-not c.in_default.not-L_BRACK (c.current.ensures.sees cond) and saw-not c.in_default.not-BANG (c.current.ensures.sees cond) and saw-not c.in_default.not-UNDERSCORE (c.current.ensures.sees cond) and saw-not c.in_default.not-STAR (c.current.ensures.sees cond) and saw-not c.in_default.not-AMP (c.current.ensures.sees cond) and saw-not c.in_default.not-IMPL_KW (c.current.ensures.sees cond) and saw-not c.in_default.not-DYN_KW (c.current.ensures.sees cond) and saw-before c.current.ensures.peeks.same (saw-so (c.at_dyn_word.ensures.sees cond) c.if-at_dyn_word.false) and nothing) (after-look _ c.current.ensures.peeks.same (after-look _ c.at_dyn_word.ensures.peeks.same (c.path_type.ensures.reads cond)));
   takes = record {
     left = omega (arith, c.path_type.ensures.takes.left, c.at_dyn_word.ensures.peeks.left, c.current.ensures.peeks.left);
     looks = omega (arith, c.path_type.ensures.takes.looks, c.at_dyn_word.ensures.peeks.looks, c.current.ensures.peeks.looks);
@@ -136,46 +136,46 @@ types::expect_type-any_type-requires t c = (omega arith, (saw-after c.at_type.en
 
 pub types::expect_type-returns-then-at_type-clause-reads : goal.types::expect_type-returns-then-at_type-clause-reads
 unfolding look_of begins_below whole rule items statements expressions patterns types paths there_at shift passes is_silent begins in_mode anew row one_of any_of no_longer longest is_longer
-types::expect_type-returns-then-at_type-clause-reads t c = reads-here (begun rules.any_type (saw-so (c.at_type.ensures.sees c.args.condition) c.if-at_type.true) nothing) (after-look _ c.at_type.ensures.peeks.same (reads-call _ c.any_type.ensures.gives))
+types::expect_type-returns-then-at_type-clause-reads t c = λ cond. reads-here (begun rules.any_type (saw-so (c.at_type.ensures.sees cond) c.if-at_type.true) nothing) (after-look _ c.at_type.ensures.peeks.same (reads-call _ (c.any_type.ensures.gives cond)))
 
 pub types::expect_type-returns-clause-reads : goal.types::expect_type-returns-clause-reads
 unfolding look_of begins_below whole rule items statements expressions patterns types paths there_at shift passes is_silent begins in_mode anew row one_of any_of no_longer longest is_longer
-types::expect_type-returns-clause-reads t c = reads-here (begun rules.any_type (saw-so (c.at_type.ensures.sees c.args.condition) c.if-at_type.false) nothing) (after-look _ c.at_type.ensures.peeks.same (c.error.ensures.reads c.args.condition))
+types::expect_type-returns-clause-reads t c = λ cond. reads-here (begun rules.any_type (saw-so (c.at_type.ensures.sees cond) c.if-at_type.false) nothing) (after-look _ c.at_type.ensures.peeks.same (c.error.ensures.reads cond))
 
 pub types::ptr_type-complete-requires : goal.types::ptr_type-complete-requires
-types::ptr_type-complete-requires t c = c.expect_type.ensures.reads.does.innermost _ ((c.const_or_mut.ensures.reads true).does.innermost _ ((c.take.ensures.reads true).does.innermost _ c.start-node.ensures.marker))
+types::ptr_type-complete-requires t c = (c.expect_type.ensures.reads true).does.innermost _ ((c.const_or_mut.ensures.reads true).does.innermost _ ((c.take.ensures.reads true).does.innermost _ c.start-node.ensures.marker))
 
 pub types::ptr_type-returns-clause-reads : goal.types::ptr_type-returns-clause-reads
-types::ptr_type-returns-clause-reads t c = reads-node _ c.start-node.ensures.opens (reads-then _ (c.take.ensures.reads c.args.condition) (reads-then _ (c.const_or_mut.ensures.reads c.args.condition) c.expect_type.ensures.reads)) c.complete.ensures.closes
+types::ptr_type-returns-clause-reads t c = λ cond. reads-node _ c.start-node.ensures.opens (reads-then _ (c.take.ensures.reads cond) (reads-then _ (c.const_or_mut.ensures.reads cond) (c.expect_type.ensures.reads cond))) c.complete.ensures.closes
 
 pub types::ref_type-complete-requires : goal.types::ref_type-complete-requires
-types::ref_type-complete-requires t c = c.expect_type.ensures.reads.does.innermost _ ((c.eat.ensures.reads true).does.innermost _ ((c.opt_lifetime.ensures.reads true).does.innermost _ ((c.take.ensures.reads true).does.innermost _ c.start-node.ensures.marker)))
+types::ref_type-complete-requires t c = (c.expect_type.ensures.reads true).does.innermost _ ((c.eat.ensures.reads true).does.innermost _ ((c.opt_lifetime.ensures.reads true).does.innermost _ ((c.take.ensures.reads true).does.innermost _ c.start-node.ensures.marker)))
 
 pub types::ref_type-returns-clause-reads : goal.types::ref_type-returns-clause-reads
-types::ref_type-returns-clause-reads t c = reads-node _ c.start-node.ensures.opens (reads-then _ (c.take.ensures.reads c.args.condition) (reads-then _ (c.opt_lifetime.ensures.reads c.args.condition) (reads-then _ (c.eat.ensures.reads c.args.condition) c.expect_type.ensures.reads))) c.complete.ensures.closes
+types::ref_type-returns-clause-reads t c = λ cond. reads-node _ c.start-node.ensures.opens (reads-then _ (c.take.ensures.reads cond) (reads-then _ (c.opt_lifetime.ensures.reads cond) (reads-then _ (c.eat.ensures.reads cond) (c.expect_type.ensures.reads cond)))) c.complete.ensures.closes
 
 pub types::paren_type-after_paren-requires : goal.types::paren_type-after_paren-requires
 types::paren_type-after_paren-requires t c = (omega arith, (c.take.ensures.reads true).does.innermost _ c.requires.innermost)
 
 pub types::paren_type-returns-clause-reads : goal.types::paren_type-returns-clause-reads
-types::paren_type-returns-clause-reads t c = reads-then _ (c.take.ensures.reads c.args.condition) c.after_paren.ensures.reads
+types::paren_type-returns-clause-reads t c = λ cond. reads-then _ (c.take.ensures.reads cond) (c.after_paren.ensures.reads cond)
 
 pub types::after_paren-wrap-requires : goal.types::after_paren-wrap-requires
 types::after_paren-wrap-requires t c = (c.take.ensures.reads true).does.innermost _ (c.at.ensures.peeks.same.innermost _ c.requires.innermost)
 
 pub types::after_paren-returns-then-at-clause-reads : goal.types::after_paren-returns-then-at-clause-reads
 unfolding look_of begins_below whole rule items statements expressions patterns types paths there_at shift passes is_silent begins in_mode anew row one_of any_of no_longer longest is_longer
-types::after_paren-returns-then-at-clause-reads t c = reads-here (saw-so (c.at.ensures.sees c.args.condition) c.if-at.true and nothing) (after-look _ c.at.ensures.peeks.same (reads-wrap _ (c.take.ensures.reads c.args.condition) c.wrap.ensures.wraps))
+types::after_paren-returns-then-at-clause-reads t c = λ cond. reads-here (saw-so (c.at.ensures.sees cond) c.if-at.true and nothing) (after-look _ c.at.ensures.peeks.same (reads-wrap _ (c.take.ensures.reads cond) c.wrap.ensures.wraps))
 
 pub types::after_paren-returns-clause-reads : goal.types::after_paren-returns-clause-reads
 unfolding look_of begins_below whole rule items statements expressions patterns types paths there_at shift passes is_silent begins in_mode anew row one_of any_of no_longer longest is_longer
-types::after_paren-returns-clause-reads t c = reads-here (saw-so (c.at.ensures.sees c.args.condition) c.if-at.false and nothing) (after-look _ c.at.ensures.peeks.same (reads-then _ c.expect_type.ensures.reads (c.tuple_tail.ensures.reads c.args.condition)))
+types::after_paren-returns-clause-reads t c = λ cond. reads-here (saw-so (c.at.ensures.sees cond) c.if-at.false and nothing) (after-look _ c.at.ensures.peeks.same (reads-then _ (c.expect_type.ensures.reads cond) (c.tuple_tail.ensures.reads cond)))
 
 pub types::bracket_type-after_element-requires : goal.types::bracket_type-after_element-requires
-types::bracket_type-after_element-requires t c = (omega arith, c.expect_type.ensures.reads.does.innermost _ ((c.take.ensures.reads true).does.innermost _ c.requires.innermost))
+types::bracket_type-after_element-requires t c = (omega arith, (c.expect_type.ensures.reads true).does.innermost _ ((c.take.ensures.reads true).does.innermost _ c.requires.innermost))
 
 pub types::bracket_type-returns-clause-reads : goal.types::bracket_type-returns-clause-reads
-types::bracket_type-returns-clause-reads t c = reads-then _ (c.take.ensures.reads c.args.condition) (reads-then _ c.expect_type.ensures.reads (c.after_element.ensures.reads c.args.condition))
+types::bracket_type-returns-clause-reads t c = λ cond. reads-then _ (c.take.ensures.reads cond) (reads-then _ (c.expect_type.ensures.reads cond) (c.after_element.ensures.reads cond))
 
 pub types::after_element-wrap-requires : goal.types::after_element-wrap-requires
 types::after_element-wrap-requires t c = (c.expect.ensures.reads true).does.innermost _ ((c.array_length.ensures.reads true).does.innermost _ ((c.take.ensures.reads true).does.innermost _ (c.at.ensures.peeks.same.innermost _ c.requires.innermost)))
@@ -195,16 +195,24 @@ pub types::array_length-returns-clause-reads : goal.types::array_length-returns-
 types::array_length-returns-clause-reads t c = λ cond. reads-node cond c.start-node.ensures.opens (reads-mode cond c.expect_expression.ensures.reads) c.complete.ensures.closes
 
 pub types::ret_type-complete-requires : goal.types::ret_type-complete-requires
-types::ret_type-complete-requires t c = c.expect_type.ensures.reads.does.innermost _ ((c.take_pair.ensures.reads true 0 0).does.innermost _ c.start-node.ensures.marker)
+types::ret_type-complete-requires t c = (c.expect_type.ensures.reads true).does.innermost _ ((c.take_pair.ensures.reads true 0 0).does.innermost _ c.start-node.ensures.marker)
 
 pub types::ret_type-returns-clause-gives : goal.types::ret_type-returns-clause-gives
 unfolding look_of begins_below whole rule items statements expressions patterns types paths there_at shift passes is_silent begins in_mode anew row one_of any_of no_longer longest is_longer
-types::ret_type-returns-clause-gives t c = gives-anew (anew-after refl (reads-node _ c.start-node.ensures.opens (reads-then _ (c.take_pair.ensures.reads c.args.condition _ _) c.expect_type.ensures.reads) c.complete.ensures.closes))
+types::ret_type-returns-clause-gives t c = λ cond. gives-anew (anew-after refl (reads-node _ c.start-node.ensures.opens (reads-then _ (c.take_pair.ensures.reads cond _ _) (c.expect_type.ensures.reads cond)) c.complete.ensures.closes))
 
 pub types::opt_type_after-returns-then-at-clause-reads : goal.types::opt_type_after-returns-then-at-clause-reads
 unfolding look_of begins_below whole rule items statements expressions patterns types paths there_at shift passes is_silent begins in_mode anew row one_of any_of no_longer longest is_longer
-types::opt_type_after-returns-then-at-clause-reads t c = reads-opt _ (saw-so (c.at.ensures.sees c.args.condition) c.if-at.true) (after-look _ c.at.ensures.peeks.same (reads-then _ (c.take.ensures.reads c.args.condition) c.expect_type.ensures.reads))
+types::opt_type_after-returns-then-at-clause-reads t c = λ cond. reads-opt _ (saw-so (c.at.ensures.sees cond) c.if-at.true) (after-look _ c.at.ensures.peeks.same (reads-then _ (c.take.ensures.reads cond) (c.expect_type.ensures.reads cond)))
 
 pub types::opt_type_after-returns-else-at-clause-reads : goal.types::opt_type_after-returns-else-at-clause-reads
 unfolding look_of begins_below whole rule items statements expressions patterns types paths there_at shift passes is_silent begins in_mode anew row one_of any_of no_longer longest is_longer
-types::opt_type_after-returns-else-at-clause-reads t c = reads-none _ (saw-so (c.at.ensures.sees c.args.condition) c.if-at.false) c.at.ensures.peeks.same
+types::opt_type_after-returns-else-at-clause-reads t c = λ cond. reads-none _ (saw-so (c.at.ensures.sees cond) c.if-at.false) c.at.ensures.peeks.same
+
+pub types::opt_ret_type-returns-then-at_pair-clause-reads : goal.types::opt_ret_type-returns-then-at_pair-clause-reads
+unfolding look_of begins_below whole rule items statements expressions patterns types paths there_at shift passes is_silent begins in_mode anew row one_of any_of no_longer longest is_longer
+types::opt_ret_type-returns-then-at_pair-clause-reads t c = λ cond. reads-here (saw-so (c.at_pair.ensures.sees cond) c.if-at_pair.true and nothing) (after-look _ c.at_pair.ensures.peeks.same (reads-call _ (c.ret_type.ensures.gives _)))
+
+pub types::opt_ret_type-returns-else-at_pair-clause-reads : goal.types::opt_ret_type-returns-else-at_pair-clause-reads
+unfolding look_of begins_below whole rule items statements expressions patterns types paths there_at shift passes is_silent begins in_mode anew row one_of any_of no_longer longest is_longer
+types::opt_ret_type-returns-else-at_pair-clause-reads t c = λ cond. reads-here (saw-so (c.at_pair.ensures.sees cond) c.if-at_pair.false and nothing) (reads-nothing _ c.at_pair.ensures.peeks.same)
