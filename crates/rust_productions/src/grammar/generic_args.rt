@@ -7,8 +7,7 @@ ghost use Rattle.rust_grammar.specs.Paths as rows;
 ghost use Rattle.rust_grammar.specs.Rule as rules;
 ghost use Rattle.rust_productions.specs.Reads.{looks, Saw};
 
-use crate::grammar::names::at_literal;
-use crate::grammar::names::at_name_ref;
+use crate::grammar::names::{at_literal, at_name_ref};
 use crate::grammar::types::at_type;
 use crate::grammar::{at, at_contextual, at_second, at_whole, current, nth};
 use parser_events::parser::Parser;

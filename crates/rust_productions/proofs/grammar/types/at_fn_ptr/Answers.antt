@@ -33,17 +33,17 @@ returns-then-at_second-clause-peeks c = peeks-within (peeks-then c.current.ensur
 
 pub returns-then-at_second-2-clause-sees : goal.returns-then-at_second-2-clause-sees
 unfolding look_of begins_below whole rule items statements expressions patterns types paths there_at shift passes is_silent begins in_mode anew row one_of any_of no_longer longest is_longer
-returns-then-at_second-2-clause-sees c cond = saw-told (saw-arm c.in-UNSAFE_KW.is (c.current.ensures.sees cond) and saw-before c.current.ensures.peeks.same (saw-so (c.at_second.ensures.sees cond) c.if-at_second.false) and saw-before c.current.ensures.peeks.same (saw-before c.at_second.ensures.peeks.same (saw-so (c.at_second-2.ensures.sees cond) c.if-at_second-2.true)) and nothing) refl
+returns-then-at_second-2-clause-sees c cond = saw-told (saw-arm c.in-UNSAFE_KW.is (c.current.ensures.sees cond) and saw-before c.current.ensures.peeks.same (saw-so (c.at_second.ensures.sees cond) c.if-at_second.false) and saw-before c.current.ensures.peeks.same (saw-before c.at_second.ensures.peeks.same (saw-so (c.at_second-in-UNSAFE_KW.ensures.sees cond) c.if-at_second-2.true)) and nothing) refl
 
 pub returns-then-at_second-2-clause-peeks : goal.returns-then-at_second-2-clause-peeks
-returns-then-at_second-2-clause-peeks c = peeks-within (peeks-then c.current.ensures.peeks (peeks-then c.at_second.ensures.peeks (c.at_second-2.ensures.peeks))) (omega arith)
+returns-then-at_second-2-clause-peeks c = peeks-within (peeks-then c.current.ensures.peeks (peeks-then c.at_second.ensures.peeks (c.at_second-in-UNSAFE_KW.ensures.peeks))) (omega arith)
 
 pub returns-else-at_second-2-clause-sees : goal.returns-else-at_second-2-clause-sees
 unfolding look_of begins_below whole rule items statements expressions patterns types paths there_at shift passes is_silent begins in_mode anew row one_of any_of no_longer longest is_longer
-returns-else-at_second-2-clause-sees c cond = saw-told (saw-arm c.in-UNSAFE_KW.is (c.current.ensures.sees cond) and saw-before c.current.ensures.peeks.same (saw-so (c.at_second.ensures.sees cond) c.if-at_second.false) and saw-before c.current.ensures.peeks.same (saw-before c.at_second.ensures.peeks.same (saw-so (c.at_second-2.ensures.sees cond) c.if-at_second-2.false)) and nothing) refl
+returns-else-at_second-2-clause-sees c cond = saw-told (saw-arm c.in-UNSAFE_KW.is (c.current.ensures.sees cond) and saw-before c.current.ensures.peeks.same (saw-so (c.at_second.ensures.sees cond) c.if-at_second.false) and saw-before c.current.ensures.peeks.same (saw-before c.at_second.ensures.peeks.same (saw-so (c.at_second-in-UNSAFE_KW.ensures.sees cond) c.if-at_second-2.false)) and nothing) refl
 
 pub returns-else-at_second-2-clause-peeks : goal.returns-else-at_second-2-clause-peeks
-returns-else-at_second-2-clause-peeks c = peeks-within (peeks-then c.current.ensures.peeks (peeks-then c.at_second.ensures.peeks (c.at_second-2.ensures.peeks))) (omega arith)
+returns-else-at_second-2-clause-peeks c = peeks-within (peeks-then c.current.ensures.peeks (peeks-then c.at_second.ensures.peeks (c.at_second-in-UNSAFE_KW.ensures.peeks))) (omega arith)
 
 pub returns-in_default-clause-sees : goal.returns-in_default-clause-sees
 unfolding look_of begins_below whole rule items statements expressions patterns types paths there_at shift passes is_silent begins in_mode anew row one_of any_of no_longer longest is_longer

@@ -11,7 +11,7 @@ use Rattle.rust_grammar.specs.Statements.{statements}
 use Rattle.rust_grammar.specs.Types.{types}
 use Rattle.rust_grammar.specs.Whole.{rule, whole}
 use Rattle.rust_grammar.specs.Rule as rules
-use Rattle.rust_productions.proofs.Facts.{begun, nothing, saw-so, ◌and◌}
+use Rattle.rust_productions.proofs.Facts.{nothing, saw-so, ◌and◌}
 use Rattle.rust_productions.proofs.Seen.{begins-row, saw-before}
 use Rattle.rust_productions.proofs.Peeking.{peeks-then, peeks-within}
 use Rattle.rust_productions.proofs.grammar.types.at_type_no_bounds.Goals as goal
@@ -25,14 +25,14 @@ returns-then-at_bare_type-clause-peeks c = peeks-within (c.at_bare_type.ensures.
 
 pub returns-then-at_type-clause-sees : goal.returns-then-at_type-clause-sees
 unfolding look_of begins_below whole rule items statements expressions patterns types paths there_at shift passes is_silent begins in_mode anew row one_of any_of no_longer longest is_longer
-returns-then-at_type-clause-sees c cond = begins-row rules.type_no_bounds (saw-so (c.at_bare_type.ensures.sees cond) c.if-at_bare_type.false and begun rules.any_type (saw-before c.at_bare_type.ensures.peeks.same (saw-so (c.at_type.ensures.sees cond) c.if-at_type.true)) (nothing)) refl
+returns-then-at_type-clause-sees c cond = begins-row rules.type_no_bounds (saw-so (c.at_bare_type.ensures.sees cond) c.if-at_bare_type.false and saw-before c.at_bare_type.ensures.peeks.same (saw-so (c.at_type.ensures.sees cond) c.if-at_type.true) and nothing) refl
 
 pub returns-then-at_type-clause-peeks : goal.returns-then-at_type-clause-peeks
 returns-then-at_type-clause-peeks c = peeks-within (peeks-then c.at_bare_type.ensures.peeks (c.at_type.ensures.peeks)) (omega arith)
 
 pub returns-clause-sees : goal.returns-clause-sees
 unfolding look_of begins_below whole rule items statements expressions patterns types paths there_at shift passes is_silent begins in_mode anew row one_of any_of no_longer longest is_longer
-returns-clause-sees c cond = begins-row rules.type_no_bounds (saw-so (c.at_bare_type.ensures.sees cond) c.if-at_bare_type.false and begun rules.any_type (saw-before c.at_bare_type.ensures.peeks.same (saw-so (c.at_type.ensures.sees cond) c.if-at_type.false)) (nothing)) refl
+returns-clause-sees c cond = begins-row rules.type_no_bounds (saw-so (c.at_bare_type.ensures.sees cond) c.if-at_bare_type.false and saw-before c.at_bare_type.ensures.peeks.same (saw-so (c.at_type.ensures.sees cond) c.if-at_type.false) and nothing) refl
 
 pub returns-clause-peeks : goal.returns-clause-peeks
 returns-clause-peeks c = peeks-within (peeks-then c.at_bare_type.ensures.peeks (c.at_type.ensures.peeks)) (omega arith)
