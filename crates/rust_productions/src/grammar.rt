@@ -15,7 +15,9 @@ ghost use Rattle.parser_events.specs.Stack.{IsInnermost};
 ghost use Rattle.rust_productions.specs.Looks.{tokens, spent, Asks, Peeks, Stays};
 ghost use Rattle.rust_grammar.specs.Rule.{Kind, Contextual, Whole, Left, Say, Skip, Any, Want, Opt, there_at, One};
 ghost use Rattle.rust_grammar.specs.Meaning.{wrapped};
-ghost use Rattle.rust_grammar.specs.Words.{one, joined};
+ghost use Rattle.rust_grammar.specs.Words.{one, joined, '#'};
+ghost use Rattle.rust_grammar.specs.Notation.{next, wide};
+ghost use Rattle.rust_grammar.specs.Shared as shared;
 ghost use Rattle.rust_productions.specs.Reads.{Opens, Closes, Leaves, Does, Reads, Saw};
 
 use parser_events::message::Message;
@@ -168,6 +170,39 @@ pub fn at_dots_fourth(p: &mut Parser<'_>) -> bool
         return false;
     }
     at_fifth(p, SyntaxKind::DOT)
+}
+
+/// Returns `true` if three dots that touch are next.
+pub fn at_dots_dot(p: &mut Parser<'_>) -> bool
+    ensures sees { (c : Bool) → Saw c shared.dots_dot p.old result }
+    ensures some { IsTrue result → 3 ≤ tokens p.old }
+    ensures peeks { Peeks 3 p.old p.new }
+{
+    if !at_pair(p, SyntaxKind::DOT, SyntaxKind::DOT) {
+        return false;
+    }
+    if !at_third(p, SyntaxKind::DOT) {
+        return false;
+    }
+    if p.joint_at(1) {
+        return true;
+    }
+    false
+}
+
+/// Returns `true` if an attribute of the whole language starts here.
+pub fn at_new_attr(p: &mut Parser<'_>) -> bool
+    ensures sees { (c : Bool) → Saw c (wide (next '#')) p.old result }
+    ensures some { IsTrue result → 1 ≤ tokens p.old }
+    ensures peeks { Peeks 1 p.old p.new }
+{
+    if !at_whole(p) {
+        return false;
+    }
+    if at(p, SyntaxKind::POUND) {
+        return true;
+    }
+    false
 }
 
 /// Opens a node in the innermost one.
