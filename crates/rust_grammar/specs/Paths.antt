@@ -39,8 +39,11 @@ as_trait = One 'as' ▸ path_type !
 abbrev pub anchor : Rule
 anchor = TYPE_ANCHOR ⟨ One '<' ▸ AnyType ! ▸ ⁅ as_trait ⁆ ▸ One '>' ! ⟩
 
+abbrev pub qualifier : Rule
+qualifier = PATH ⟨ PATH_SEGMENT ⟨ anchor ⟩ ⟩
+
 abbrev pub qualified_with : Rule → Rule
-qualified_with args = PATH ⟨ PATH_SEGMENT ⟨ anchor ⟩ ⟩ ▸ next_segments args
+qualified_with args = qualifier ▸ next_segments args
 
 abbrev pub lifetime_arg : Rule
 lifetime_arg = LIFETIME_ARG ⟨ Lifetime ⟩
@@ -149,21 +152,15 @@ lifetime_or_type = Lifetime or AnyType
 abbrev pub pred_bounds : Rule
 pred_bounds = One ':' ! ▸ Bounds
 
--- behind a name in a type of the whole language: `(..)`, or `(A, B) -> C`
+-- behind a name in a type of the whole language: `(A, B) -> C`
 abbrev pub fn_args_begin : Look
 fn_args_begin = Either (next 'l_paren') ('::' before 'l_paren')
-
-abbrev pub any_args_begin : Look
-any_args_begin = Either ('l_paren' before 'dots') (row 0 ('::' ∷ 'l_paren' ∷ 'dots' ∷ []))
-
-abbrev pub any_args : Rule
-any_args = PARENTHESIZED_ARG_LIST ⟨ ⁅ One '::' ⁆ ▸ One 'l_paren' ▸ One 'dots' ▸ One 'r_paren' ! ⟩
 
 abbrev pub paren_args : Rule
 paren_args = PARENTHESIZED_ARG_LIST ⟨ ⁅ One '::' ⁆ ▸ listed PARENTHESIZED_ARG_LIST 'l_paren' type_arg 'r_paren' ⟩
 
 abbrev pub fn_args : Rule
-fn_args = When any_args_begin any_args or paren_args ▸ ⁅ RetType ⁆
+fn_args = paren_args ▸ ⁅ RetType ⁆
 
 -- The arguments of a path in a type begin at `::<`, or at a `<` that no `=` is next to, or are those of `Fn`; those in an
 -- expression or a pattern begin at `::<` alone, and other paths have none.

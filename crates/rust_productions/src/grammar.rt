@@ -17,7 +17,6 @@ ghost use Rattle.rust_grammar.specs.Rule.{Kind, Contextual, Whole, Left, Say, Sk
 ghost use Rattle.rust_grammar.specs.Meaning.{wrapped};
 ghost use Rattle.rust_grammar.specs.Words.{one, joined, '#'};
 ghost use Rattle.rust_grammar.specs.Notation.{next, wide};
-ghost use Rattle.rust_grammar.specs.Shared as shared;
 ghost use Rattle.rust_productions.specs.Reads.{Opens, Closes, Leaves, Does, Reads, Saw};
 
 use parser_events::message::Message;
@@ -92,22 +91,6 @@ pub fn at_third(p: &mut Parser<'_>, kind: SyntaxKind) -> bool
     p.kind_at(2).to_raw() == kind.to_raw()
 }
 
-/// Returns `true` if the fourth token is of this kind.
-fn at_fourth(p: &mut Parser<'_>, kind: SyntaxKind) -> bool
-    ensures sees { (c : Bool) → Saw c (Kind 3 (raw_of kind)) p.old result }
-    ensures peeks { Peeks 1 p.old p.new }
-{
-    p.kind_at(3).to_raw() == kind.to_raw()
-}
-
-/// Returns `true` if the fifth token is of this kind.
-fn at_fifth(p: &mut Parser<'_>, kind: SyntaxKind) -> bool
-    ensures sees { (c : Bool) → Saw c (Kind 4 (raw_of kind)) p.old result }
-    ensures peeks { Peeks 1 p.old p.new }
-{
-    p.kind_at(4).to_raw() == kind.to_raw()
-}
-
 /// Returns `true` if the next token is an identifier that is of this kind as a contextual keyword.
 fn at_contextual(p: &mut Parser<'_>, kind: SyntaxKind) -> bool
     ensures sees { (c : Bool) → Saw c (Contextual 0 (raw_of kind)) p.old result }
@@ -156,38 +139,6 @@ pub fn at_pair_after(p: &mut Parser<'_>, first: SyntaxKind, second: SyntaxKind) 
         return false;
     }
     at_third(p, second)
-}
-
-/// Returns `true` if the fourth and the fifth token are dots that touch.
-pub fn at_dots_fourth(p: &mut Parser<'_>) -> bool
-    ensures sees { (c : Bool) → Saw c (there_at 3 (kinds.DOT ∷ kinds.DOT ∷ [])) p.old result }
-    ensures peeks { Peeks 2 p.old p.new }
-{
-    if !at_fourth(p, SyntaxKind::DOT) {
-        return false;
-    }
-    if !p.joint_at(3) {
-        return false;
-    }
-    at_fifth(p, SyntaxKind::DOT)
-}
-
-/// Returns `true` if three dots that touch are next.
-pub fn at_dots_dot(p: &mut Parser<'_>) -> bool
-    ensures sees { (c : Bool) → Saw c shared.dots_dot p.old result }
-    ensures some { IsTrue result → 3 ≤ tokens p.old }
-    ensures peeks { Peeks 3 p.old p.new }
-{
-    if !at_pair(p, SyntaxKind::DOT, SyntaxKind::DOT) {
-        return false;
-    }
-    if !at_third(p, SyntaxKind::DOT) {
-        return false;
-    }
-    if p.joint_at(1) {
-        return true;
-    }
-    false
 }
 
 /// Returns `true` if an attribute of the whole language starts here.

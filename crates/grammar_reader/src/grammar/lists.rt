@@ -18,7 +18,7 @@ ghost use Rattle.rust_productions.specs.Moves.{Keeps};
 use crate::grammar::expressions::closures::closure_param;
 use crate::grammar::expressions::expression;
 use crate::grammar::fields::{field_value, pattern_field};
-use crate::grammar::generic_args::generic_arg;
+use crate::grammar::generic_args::{generic_arg, type_arg};
 use crate::grammar::generic_params::generic_param;
 use crate::grammar::items::members::{
     at_named_member, at_tuple_field, record_field, tuple_field, variant,
@@ -53,6 +53,7 @@ pub(crate) enum Element {
     RecordField,
     TupleField,
     Type,
+    TypeArg,
     Variant,
 }
 
@@ -73,6 +74,7 @@ fn at_element(p: &mut Parser<'_>, element: Element) -> bool
         Element::RecordField => at_named_member(p),
         Element::TupleField => at_tuple_field(p),
         Element::Type => at_type(p),
+        Element::TypeArg => at_type(p),
         Element::Variant => at_named_member(p),
     }
 }
@@ -97,6 +99,7 @@ fn read_element(p: &mut Parser<'_>, element: Element)
         Element::RecordField => record_field(p),
         Element::TupleField => tuple_field(p),
         Element::Type => any_type(p),
+        Element::TypeArg => type_arg(p),
         Element::Variant => variant(p),
     }
 }

@@ -15,7 +15,7 @@ ghost use Rattle.rust_productions.specs.Starts.{Starts};
 
 use crate::grammar::names::{at_name_ref, expect_name_ref, name_ref};
 use crate::grammar::{
-    abandon, at, at_dots_fourth, at_pair, at_pair_after, at_third, at_whole, complete, error, nth,
+    abandon, at, at_pair, at_third, at_whole, complete, error, nth,
     start, take_pair, wrap,
 };
 use parser_events::message::Message;
@@ -63,29 +63,6 @@ pub fn at_fn_args(p: &mut Parser<'_>) -> bool
         return false;
     }
     if at_third(p, SyntaxKind::L_PAREN) {
-        return true;
-    }
-    false
-}
-
-/// Returns `true` if `(..` or `::(..` is next.
-pub fn at_any_args(p: &mut Parser<'_>) -> bool
-    ensures sees { (c : Bool) → Saw c rows.any_args_begin p.old result }
-    ensures peeks { Peeks 8 p.old p.new }
-{
-    if at(p, SyntaxKind::L_PAREN) {
-        if at_pair_after(p, SyntaxKind::DOT, SyntaxKind::DOT) {
-            return true;
-        }
-        return false;
-    }
-    if !at_colons(p) {
-        return false;
-    }
-    if !at_third(p, SyntaxKind::L_PAREN) {
-        return false;
-    }
-    if at_dots_fourth(p) {
         return true;
     }
     false

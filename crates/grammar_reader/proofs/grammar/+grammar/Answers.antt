@@ -1581,15 +1581,6 @@ paths::generic_args-complete-requires = paths.paths::generic_args-complete-requi
 pub paths::generic_args-returns-clause-gives : goal.paths::generic_args-returns-clause-gives
 paths::generic_args-returns-clause-gives = paths.paths::generic_args-returns-clause-gives
 
-pub paths::opt_args-generic_args-requires : goal.paths::opt_args-generic_args-requires
-paths::opt_args-generic_args-requires = paths.paths::opt_args-generic_args-requires
-
-pub paths::opt_args-returns-then-at_args-clause-reads : goal.paths::opt_args-returns-then-at_args-clause-reads
-paths::opt_args-returns-then-at_args-clause-reads = paths.paths::opt_args-returns-then-at_args-clause-reads
-
-pub paths::opt_args-returns-else-at_args-clause-reads : goal.paths::opt_args-returns-else-at_args-clause-reads
-paths::opt_args-returns-else-at_args-clause-reads = paths.paths::opt_args-returns-else-at_args-clause-reads
-
 pub paths::first_segment-first_word-requires-clause-begins : goal.paths::first_segment-first_word-requires-clause-begins
 paths::first_segment-first_word-requires-clause-begins = paths.paths::first_segment-first_word-requires-clause-begins
 
@@ -2016,12 +2007,6 @@ types::inside-returns-in-UNDERSCORE-clause-takes = types.types::inside-returns-i
 pub types::inside-returns-then-at_dyn_word : goal.types::inside-returns-then-at_dyn_word
 types::inside-returns-then-at_dyn_word = types.types::inside-returns-then-at_dyn_word
 
-pub types::inside-returns-else-at_dyn_word : goal.types::inside-returns-else-at_dyn_word
-types::inside-returns-else-at_dyn_word = types.types::inside-returns-else-at_dyn_word
-
-pub types::inside-path_type-requires : goal.types::inside-path_type-requires
-types::inside-path_type-requires = types.types::inside-path_type-requires
-
 pub types::bounded_type-complete-requires : goal.types::bounded_type-complete-requires
 types::bounded_type-complete-requires = types.types::bounded_type-complete-requires
 
@@ -2042,9 +2027,6 @@ types::path_type-complete-requires = types.types::path_type-complete-requires
 
 pub types::path_type-returns-clause-reads : goal.types::path_type-returns-clause-reads
 types::path_type-returns-clause-reads = types.types::path_type-returns-clause-reads
-
-pub types::expect_type-any_type-requires : goal.types::expect_type-any_type-requires
-types::expect_type-any_type-requires = types.types::expect_type-any_type-requires
 
 pub types::expect_type-returns-then-at_type-clause-reads : goal.types::expect_type-returns-then-at_type-clause-reads
 types::expect_type-returns-then-at_type-clause-reads = types.types::expect_type-returns-then-at_type-clause-reads
@@ -2168,3 +2150,183 @@ types::opt_ret_type-returns-then-at_pair-clause-reads = types.types::opt_ret_typ
 
 pub types::opt_ret_type-returns-else-at_pair-clause-reads : goal.types::opt_ret_type-returns-else-at_pair-clause-reads
 types::opt_ret_type-returns-else-at_pair-clause-reads = types.types::opt_ret_type-returns-else-at_pair-clause-reads
+
+pub types::type_no_bounds-bare_or_any-frame-requires : goal.types::type_no_bounds-bare_or_any-frame-requires
+types::type_no_bounds-bare_or_any-frame-requires = types.types::type_no_bounds-bare_or_any-frame-requires
+
+pub types::type_no_bounds-returns-clause-gives : goal.types::type_no_bounds-returns-clause-gives
+types::type_no_bounds-returns-clause-gives = types.types::type_no_bounds-returns-clause-gives
+
+pub types::bare_or_any-for_or_path-requires : goal.types::bare_or_any-for_or_path-requires
+types::bare_or_any-for_or_path-requires = types.types::bare_or_any-for_or_path-requires
+
+pub types::bare_or_any-inside-requires : goal.types::bare_or_any-inside-requires
+types::bare_or_any-inside-requires = types.types::bare_or_any-inside-requires
+
+pub types::bare_or_any-returns-then-at_bare_type-clause-reads : goal.types::bare_or_any-returns-then-at_bare_type-clause-reads
+types::bare_or_any-returns-then-at_bare_type-clause-reads = types.types::bare_or_any-returns-then-at_bare_type-clause-reads
+
+pub types::bare_or_any-returns-clause-reads : goal.types::bare_or_any-returns-clause-reads
+types::bare_or_any-returns-clause-reads = types.types::bare_or_any-returns-clause-reads
+
+pub types::expect_type_no_bounds-type_no_bounds-requires : goal.types::expect_type_no_bounds-type_no_bounds-requires
+types::expect_type_no_bounds-type_no_bounds-requires = types.types::expect_type_no_bounds-type_no_bounds-requires
+
+pub types::expect_type_no_bounds-returns-then-at_type_no_bounds-clause-reads : goal.types::expect_type_no_bounds-returns-then-at_type_no_bounds-clause-reads
+types::expect_type_no_bounds-returns-then-at_type_no_bounds-clause-reads = types.types::expect_type_no_bounds-returns-then-at_type_no_bounds-clause-reads
+
+pub types::expect_type_no_bounds-returns-clause-reads : goal.types::expect_type_no_bounds-returns-clause-reads
+types::expect_type_no_bounds-returns-clause-reads = types.types::expect_type_no_bounds-returns-clause-reads
+
+pub types::new_type-returns-then-at-clause-reads : goal.types::new_type-returns-then-at-clause-reads
+types::new_type-returns-then-at-clause-reads = types.types::new_type-returns-then-at-clause-reads
+
+pub types::new_type-returns-then-at-clause-takes : goal.types::new_type-returns-then-at-clause-takes
+types::new_type-returns-then-at-clause-takes = types.types::new_type-returns-then-at-clause-takes
+
+pub types::new_type-for_or_path-frame-requires : goal.types::new_type-for_or_path-frame-requires
+types::new_type-for_or_path-frame-requires = types.types::new_type-for_or_path-frame-requires
+
+pub types::new_type-returns-clause-reads : goal.types::new_type-returns-clause-reads
+types::new_type-returns-clause-reads = types.types::new_type-returns-clause-reads
+
+pub types::for_or_path-returns-then-at-clause-reads : goal.types::for_or_path-returns-then-at-clause-reads
+types::for_or_path-returns-then-at-clause-reads = types.types::for_or_path-returns-then-at-clause-reads
+
+pub types::for_or_path-returns-then-at-clause-takes : goal.types::for_or_path-returns-then-at-clause-takes
+types::for_or_path-returns-then-at-clause-takes = types.types::for_or_path-returns-then-at-clause-takes
+
+pub types::for_or_path-front_path-frame-requires : goal.types::for_or_path-front_path-frame-requires
+types::for_or_path-front_path-frame-requires = types.types::for_or_path-front_path-frame-requires
+
+pub types::for_or_path-returns-clause-reads : goal.types::for_or_path-returns-clause-reads
+types::for_or_path-returns-clause-reads = types.types::for_or_path-returns-clause-reads
+
+pub types::front_path-qualified_path-requires : goal.types::front_path-qualified_path-requires
+types::front_path-qualified_path-requires = types.types::front_path-qualified_path-requires
+
+pub types::front_path-returns-then-at-clause-reads : goal.types::front_path-returns-then-at-clause-reads
+types::front_path-returns-then-at-clause-reads = types.types::front_path-returns-then-at-clause-reads
+
+pub types::front_path-path_with_args-requires : goal.types::front_path-path_with_args-requires
+types::front_path-path_with_args-requires = types.types::front_path-path_with_args-requires
+
+pub types::front_path-returns-clause-reads : goal.types::front_path-returns-clause-reads
+types::front_path-returns-clause-reads = types.types::front_path-returns-clause-reads
+
+pub types::front_path-returns-clause-takes : goal.types::front_path-returns-clause-takes
+types::front_path-returns-clause-takes = types.types::front_path-returns-clause-takes
+
+pub types::for_type-complete-requires : goal.types::for_type-complete-requires
+types::for_type-complete-requires = types.types::for_type-complete-requires
+
+pub types::for_type-returns-clause-reads : goal.types::for_type-returns-clause-reads
+types::for_type-returns-clause-reads = types.types::for_type-returns-clause-reads
+
+pub types::opt_plus_bounds-wrap-frame-requires-2 : goal.types::opt_plus_bounds-wrap-frame-requires-2
+types::opt_plus_bounds-wrap-frame-requires-2 = types.types::opt_plus_bounds-wrap-frame-requires-2
+
+pub types::opt_plus_bounds-returns-then-at-clause-reads : goal.types::opt_plus_bounds-returns-then-at-clause-reads
+types::opt_plus_bounds-returns-then-at-clause-reads = types.types::opt_plus_bounds-returns-then-at-clause-reads
+
+pub types::opt_plus_bounds-returns-clause-reads : goal.types::opt_plus_bounds-returns-clause-reads
+types::opt_plus_bounds-returns-clause-reads = types.types::opt_plus_bounds-returns-clause-reads
+
+pub types::bounds_after_plus-returns-clause-reads : goal.types::bounds_after_plus-returns-clause-reads
+types::bounds_after_plus-returns-clause-reads = types.types::bounds_after_plus-returns-clause-reads
+
+pub types::lifetime_bounds-complete-requires : goal.types::lifetime_bounds-complete-requires
+types::lifetime_bounds-complete-requires = types.types::lifetime_bounds-complete-requires
+
+pub types::lifetime_bounds-complete-requires-2 : goal.types::lifetime_bounds-complete-requires-2
+types::lifetime_bounds-complete-requires-2 = types.types::lifetime_bounds-complete-requires-2
+
+pub types::lifetime_bounds-returns-clause-reads : goal.types::lifetime_bounds-returns-clause-reads
+types::lifetime_bounds-returns-clause-reads = types.types::lifetime_bounds-returns-clause-reads
+
+pub types::inside-new_type-requires : goal.types::inside-new_type-requires
+types::inside-new_type-requires = types.types::inside-new_type-requires
+
+pub types::inside-returns-then-at_new_type : goal.types::inside-returns-then-at_new_type
+types::inside-returns-then-at_new_type = types.types::inside-returns-then-at_new_type
+
+pub types::inside-path_type-requires : goal.types::inside-path_type-requires
+types::inside-path_type-requires = types.types::inside-path_type-requires
+
+pub types::inside-returns-else-at_new_type : goal.types::inside-returns-else-at_new_type
+types::inside-returns-else-at_new_type = types.types::inside-returns-else-at_new_type
+
+pub types::expect_type-any_type-requires : goal.types::expect_type-any_type-requires
+types::expect_type-any_type-requires = types.types::expect_type-any_type-requires
+
+pub paths::fn_args-paren_args-requires : goal.paths::fn_args-paren_args-requires
+paths::fn_args-paren_args-requires = paths.paths::fn_args-paren_args-requires
+
+pub paths::fn_args-returns-clause-reads : goal.paths::fn_args-returns-clause-reads
+paths::fn_args-returns-clause-reads = paths.paths::fn_args-returns-clause-reads
+
+pub paths::paren_args-opt_colons_before_paren-requires : goal.paths::paren_args-opt_colons_before_paren-requires
+paths::paren_args-opt_colons_before_paren-requires = paths.paths::paren_args-opt_colons_before_paren-requires
+
+pub paths::paren_args-complete-requires : goal.paths::paren_args-complete-requires
+paths::paren_args-complete-requires = paths.paths::paren_args-complete-requires
+
+pub paths::paren_args-returns-clause-reads : goal.paths::paren_args-returns-clause-reads
+paths::paren_args-returns-clause-reads = paths.paths::paren_args-returns-clause-reads
+
+pub paths::opt_type_args-fn_args-requires : goal.paths::opt_type_args-fn_args-requires
+paths::opt_type_args-fn_args-requires = paths.paths::opt_type_args-fn_args-requires
+
+pub paths::opt_type_args-returns-then-at_fn_args-clause-reads : goal.paths::opt_type_args-returns-then-at_fn_args-clause-reads
+paths::opt_type_args-returns-then-at_fn_args-clause-reads = paths.paths::opt_type_args-returns-then-at_fn_args-clause-reads
+
+pub paths::opt_type_args-generic_args-requires : goal.paths::opt_type_args-generic_args-requires
+paths::opt_type_args-generic_args-requires = paths.paths::opt_type_args-generic_args-requires
+
+pub paths::opt_type_args-returns-then-at_args-clause-reads : goal.paths::opt_type_args-returns-then-at_args-clause-reads
+paths::opt_type_args-returns-then-at_args-clause-reads = paths.paths::opt_type_args-returns-then-at_args-clause-reads
+
+pub paths::opt_type_args-returns-else-at_args-clause-reads : goal.paths::opt_type_args-returns-else-at_args-clause-reads
+paths::opt_type_args-returns-else-at_args-clause-reads = paths.paths::opt_type_args-returns-else-at_args-clause-reads
+
+pub paths::opt_args-returns-in-Expr-clause-reads : goal.paths::opt_args-returns-in-Expr-clause-reads
+paths::opt_args-returns-in-Expr-clause-reads = paths.paths::opt_args-returns-in-Expr-clause-reads
+
+pub paths::opt_args-returns-in-Type-clause-reads : goal.paths::opt_args-returns-in-Type-clause-reads
+paths::opt_args-returns-in-Type-clause-reads = paths.paths::opt_args-returns-in-Type-clause-reads
+
+pub paths::opt_expr_args-generic_args-requires : goal.paths::opt_expr_args-generic_args-requires
+paths::opt_expr_args-generic_args-requires = paths.paths::opt_expr_args-generic_args-requires
+
+pub paths::opt_expr_args-returns-then-at_args-clause-reads : goal.paths::opt_expr_args-returns-then-at_args-clause-reads
+paths::opt_expr_args-returns-then-at_args-clause-reads = paths.paths::opt_expr_args-returns-then-at_args-clause-reads
+
+pub paths::opt_expr_args-returns-else-at_args-clause-reads : goal.paths::opt_expr_args-returns-else-at_args-clause-reads
+paths::opt_expr_args-returns-else-at_args-clause-reads = paths.paths::opt_expr_args-returns-else-at_args-clause-reads
+
+pub paths::qualified_path-next_segments-requires : goal.paths::qualified_path-next_segments-requires
+paths::qualified_path-next_segments-requires = paths.paths::qualified_path-next_segments-requires
+
+pub paths::qualified_path-returns-clause-reads : goal.paths::qualified_path-returns-clause-reads
+paths::qualified_path-returns-clause-reads = paths.paths::qualified_path-returns-clause-reads
+
+pub paths::qualifier-complete-requires : goal.paths::qualifier-complete-requires
+paths::qualifier-complete-requires = paths.paths::qualifier-complete-requires
+
+pub paths::qualifier-complete-requires-2 : goal.paths::qualifier-complete-requires-2
+paths::qualifier-complete-requires-2 = paths.paths::qualifier-complete-requires-2
+
+pub paths::qualifier-returns-clause-reads : goal.paths::qualifier-returns-clause-reads
+paths::qualifier-returns-clause-reads = paths.paths::qualifier-returns-clause-reads
+
+pub paths::anchor-complete-requires : goal.paths::anchor-complete-requires
+paths::anchor-complete-requires = paths.paths::anchor-complete-requires
+
+pub paths::anchor-returns-clause-reads : goal.paths::anchor-returns-clause-reads
+paths::anchor-returns-clause-reads = paths.paths::anchor-returns-clause-reads
+
+pub paths::opt_as_trait-returns-then-at-clause-reads : goal.paths::opt_as_trait-returns-then-at-clause-reads
+paths::opt_as_trait-returns-then-at-clause-reads = paths.paths::opt_as_trait-returns-then-at-clause-reads
+
+pub paths::opt_as_trait-returns-else-at-clause-reads : goal.paths::opt_as_trait-returns-else-at-clause-reads
+paths::opt_as_trait-returns-else-at-clause-reads = paths.paths::opt_as_trait-returns-else-at-clause-reads

@@ -37,7 +37,7 @@ abbrev pub decreases-paths::opt_args : goal.decreases-paths::opt_args
 decreases-paths::opt_args l = 512 * tokens l.p.now + 4
 
 abbrev pub decreases-paths::generic_args : goal.decreases-paths::generic_args
-decreases-paths::generic_args l = 512 * tokens l.p.now + 3
+decreases-paths::generic_args l = 512 * tokens l.p.now + 2
 
 abbrev pub decreases-lists::arguments : goal.decreases-lists::arguments
 decreases-lists::arguments l = 512 * tokens l.p.now
@@ -137,6 +137,60 @@ decreases-types::path_type l = 512 * tokens l.p.now + 16
 
 abbrev pub decreases-types::expect_type : goal.decreases-types::expect_type
 decreases-types::expect_type l = 512 * tokens l.p.now + 19
+
+abbrev pub decreases-paths::paren_args : goal.decreases-paths::paren_args
+decreases-paths::paren_args l = 512 * tokens l.p.now + 1
+
+abbrev pub decreases-paths::fn_args : goal.decreases-paths::fn_args
+decreases-paths::fn_args l = 512 * tokens l.p.now + 2
+
+abbrev pub decreases-paths::opt_type_args : goal.decreases-paths::opt_type_args
+decreases-paths::opt_type_args l = 512 * tokens l.p.now + 3
+
+abbrev pub decreases-paths::opt_expr_args : goal.decreases-paths::opt_expr_args
+decreases-paths::opt_expr_args l = 512 * tokens l.p.now + 3
+
+abbrev pub decreases-paths::anchor : goal.decreases-paths::anchor
+decreases-paths::anchor l = 512 * tokens l.p.now
+
+abbrev pub decreases-paths::qualifier : goal.decreases-paths::qualifier
+decreases-paths::qualifier l = 512 * tokens l.p.now + 1
+
+abbrev pub decreases-paths::qualified_path : goal.decreases-paths::qualified_path
+decreases-paths::qualified_path l = 512 * tokens l.p.now + 2
+
+abbrev pub decreases-paths::opt_as_trait : goal.decreases-paths::opt_as_trait
+decreases-paths::opt_as_trait l = 512 * tokens l.p.now
+
+abbrev pub decreases-types::front_path : goal.decreases-types::front_path
+decreases-types::front_path l = 512 * tokens l.p.now + 9
+
+abbrev pub decreases-types::for_type : goal.decreases-types::for_type
+decreases-types::for_type l = 512 * tokens l.p.now + 9
+
+abbrev pub decreases-types::for_or_path : goal.decreases-types::for_or_path
+decreases-types::for_or_path l = 512 * tokens l.p.now + 10
+
+abbrev pub decreases-types::new_type : goal.decreases-types::new_type
+decreases-types::new_type l = 512 * tokens l.p.now + 11
+
+abbrev pub decreases-types::lifetime_bounds : goal.decreases-types::lifetime_bounds
+decreases-types::lifetime_bounds l = 512 * tokens l.p.now
+
+abbrev pub decreases-types::opt_plus_bounds : goal.decreases-types::opt_plus_bounds
+decreases-types::opt_plus_bounds l = 512 * tokens l.p.now + 1
+
+abbrev pub decreases-types::bounds_after_plus : goal.decreases-types::bounds_after_plus
+decreases-types::bounds_after_plus l = 512 * tokens l.p.now
+
+abbrev pub decreases-types::bare_or_any : goal.decreases-types::bare_or_any
+decreases-types::bare_or_any l = 512 * tokens l.p.now + 18
+
+abbrev pub decreases-types::type_no_bounds : goal.decreases-types::type_no_bounds
+decreases-types::type_no_bounds l = 512 * tokens l.p.now + 19
+
+abbrev pub decreases-types::expect_type_no_bounds : goal.decreases-types::expect_type_no_bounds
+decreases-types::expect_type_no_bounds l = 512 * tokens l.p.now + 20
 
 abbrev pub decreases-types::ptr_type : goal.decreases-types::ptr_type
 decreases-types::ptr_type l = 512 * tokens l.p.now
