@@ -203,11 +203,17 @@ front_of_type = PATH_SEGMENT <⟨ Nothing ⟩ ▸ PATH <⟨ Nothing ⟩ ▸ next
 abbrev pub const_or_type : Rule
 const_or_type = When const_begins const_arg or AnyType !
 
+abbrev pub bounded_arg_begins : Look
+bounded_arg_begins = Both (next ':') (Not (next '::'))
+
 abbrev pub named_arg : Rule
-named_arg = ASSOC_TYPE_ARG <⟨ One '=' ▸ const_or_type ⟩ or When (Both (next ':') (Not (next '::'))) (ASSOC_TYPE_ARG <⟨ bounds_after_colon ⟩) or front_of_type
+named_arg = ASSOC_TYPE_ARG <⟨ One '=' ▸ const_or_type ⟩ or When bounded_arg_begins (ASSOC_TYPE_ARG <⟨ bounds_after_colon ⟩) or front_of_type
+
+abbrev pub block_arg : Rule
+block_arg = CONST_ARG ⟨ Block ⟩
 
 abbrev pub new_arg : Rule
-new_arg = When ('lifetime' before '+') type_arg or CONST_ARG ⟨ Block ⟩ or Ref ▸ type_args ▸ named_arg
+new_arg = When ('lifetime' before '+') type_arg or block_arg or Ref ▸ type_args ▸ named_arg
 
 unfoldable pub paths : (others : Production → Rule) → Production → Rule
 paths others name = NAME ⟨ One 'ident' ⟩

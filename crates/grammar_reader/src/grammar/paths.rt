@@ -280,7 +280,7 @@ fn next_segment(p: &mut Parser<'_>, path: Marker, mode: Mode) -> Marker
 /// Parses the further segments of a path.
 // ::a::b
 #[cycle(grammar)]
-fn next_segments(p: &mut Parser<'_>, path: Marker, mode: Mode) -> Marker
+pub(crate) fn next_segments(p: &mut Parser<'_>, path: Marker, mode: Mode) -> Marker
     requires innermost { IsInnermost path p.old.nodes }
     ensures reads { (c : Bool) → Reads c (rows.next_segments (args_of mode)) p.old p.new }
     ensures asks { AsksIn result 3 p.old p.new }

@@ -206,7 +206,7 @@ fn for_type(p: &mut Parser<'_>)
 
 /// Completes a path as a type, or parses the rest of a macro call in the place of a type.
 // !(a)
-fn type_of_path(p: &mut Parser<'_>, frame: Marker) -> Marker
+pub(crate) fn type_of_path(p: &mut Parser<'_>, frame: Marker) -> Marker
     requires innermost { IsInnermost frame p.old.nodes }
     ensures reads { (c : Bool) → Reads c path_rows.type_of_path p.old p.new }
     ensures asks { AsksIn result 3 p.old p.new }
@@ -222,7 +222,7 @@ fn type_of_path(p: &mut Parser<'_>, frame: Marker) -> Marker
 /// Parses optional bounds after a type, which becomes the first of them.
 // + Send + 'a
 #[cycle(grammar)]
-fn opt_plus_bounds(p: &mut Parser<'_>, frame: Marker) -> Marker
+pub(crate) fn opt_plus_bounds(p: &mut Parser<'_>, frame: Marker) -> Marker
     requires innermost { IsInnermost frame p.old.nodes }
     ensures reads { (c : Bool) → Reads c path_rows.plus_bounds p.old p.new }
     ensures asks { AsksIn result 1 p.old p.new }

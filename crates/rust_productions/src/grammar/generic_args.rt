@@ -9,7 +9,7 @@ ghost use Rattle.rust_productions.specs.Reads.{looks, Saw};
 
 use crate::grammar::names::{at_literal, at_name_ref};
 use crate::grammar::types::at_type;
-use crate::grammar::{at, at_contextual, at_second, at_whole, current, nth};
+use crate::grammar::{at, at_contextual, at_pair, at_second, at_whole, current, nth};
 use parser_events::parser::Parser;
 use parser_input::syntax_kind::SyntaxKind;
 
@@ -58,6 +58,43 @@ pub fn at_new_arg(p: &mut Parser<'_>) -> bool
         return false;
     }
     if at_dyn_before(p) {
+        return false;
+    }
+    true
+}
+
+/// Returns `true` if a constant starts here as the value of an associated constant.
+pub fn at_const_value(p: &mut Parser<'_>) -> bool
+    ensures sees { (c : Bool) → Saw c rows.const_begins p.old result }
+    ensures some { IsTrue result → 1 ≤ tokens p.old }
+    ensures peeks { Peeks 1 p.old p.new }
+{
+    match current(p) {
+        SyntaxKind::L_CURLY
+        | SyntaxKind::MINUS
+        | SyntaxKind::INT_NUMBER
+        | SyntaxKind::FLOAT_NUMBER
+        | SyntaxKind::CHAR
+        | SyntaxKind::BYTE
+        | SyntaxKind::STRING
+        | SyntaxKind::BYTE_STRING
+        | SyntaxKind::C_STRING
+        | SyntaxKind::TRUE_KW
+        | SyntaxKind::FALSE_KW => true,
+        _ => false,
+    }
+}
+
+/// Returns `true` if a `:` is next, and no `::`.
+pub fn at_single_colon(p: &mut Parser<'_>) -> bool
+    ensures sees { (c : Bool) → Saw c rows.bounded_arg_begins p.old result }
+    ensures some { IsTrue result → 1 ≤ tokens p.old }
+    ensures peeks { Peeks 3 p.old p.new }
+{
+    if !at(p, SyntaxKind::COLON) {
+        return false;
+    }
+    if at_pair(p, SyntaxKind::COLON, SyntaxKind::COLON) {
         return false;
     }
     true

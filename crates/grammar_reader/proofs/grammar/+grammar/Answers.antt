@@ -729,47 +729,14 @@ items::functions::fn_body-returns-then-at-clause-reads = functions.items::functi
 pub items::functions::fn_body-returns-clause-reads : goal.items::functions::fn_body-returns-clause-reads
 items::functions::fn_body-returns-clause-reads = functions.items::functions::fn_body-returns-clause-reads
 
-pub generic_args::generic_arg-returns-in-LIFETIME_IDENT-clause-gives : goal.generic_args::generic_arg-returns-in-LIFETIME_IDENT-clause-gives
-generic_args::generic_arg-returns-in-LIFETIME_IDENT-clause-gives = generic_args.generic_args::generic_arg-returns-in-LIFETIME_IDENT-clause-gives
-
-pub generic_args::generic_arg-returns-in-MINUS-clause-gives : goal.generic_args::generic_arg-returns-in-MINUS-clause-gives
-generic_args::generic_arg-returns-in-MINUS-clause-gives = generic_args.generic_args::generic_arg-returns-in-MINUS-clause-gives
-
-pub generic_args::generic_arg-word_arg-requires : goal.generic_args::generic_arg-word_arg-requires
-generic_args::generic_arg-word_arg-requires = generic_args.generic_args::generic_arg-word_arg-requires
-
-pub generic_args::generic_arg-returns-in-IDENT-clause-gives : goal.generic_args::generic_arg-returns-in-IDENT-clause-gives
-generic_args::generic_arg-returns-in-IDENT-clause-gives = generic_args.generic_args::generic_arg-returns-in-IDENT-clause-gives
-
-pub generic_args::generic_arg-returns-then-at_literal-clause-gives : goal.generic_args::generic_arg-returns-then-at_literal-clause-gives
-generic_args::generic_arg-returns-then-at_literal-clause-gives = generic_args.generic_args::generic_arg-returns-then-at_literal-clause-gives
-
-pub generic_args::generic_arg-type_arg-requires : goal.generic_args::generic_arg-type_arg-requires
-generic_args::generic_arg-type_arg-requires = generic_args.generic_args::generic_arg-type_arg-requires
-
-pub generic_args::generic_arg-returns-else-at_literal-clause-gives : goal.generic_args::generic_arg-returns-else-at_literal-clause-gives
-generic_args::generic_arg-returns-else-at_literal-clause-gives = generic_args.generic_args::generic_arg-returns-else-at_literal-clause-gives
-
 pub generic_args::word_arg-assoc_type_arg-requires : goal.generic_args::word_arg-assoc_type_arg-requires
 generic_args::word_arg-assoc_type_arg-requires = generic_args.generic_args::word_arg-assoc_type_arg-requires
-
-pub generic_args::word_arg-returns-then-at_second-clause-reads : goal.generic_args::word_arg-returns-then-at_second-clause-reads
-generic_args::word_arg-returns-then-at_second-clause-reads = generic_args.generic_args::word_arg-returns-then-at_second-clause-reads
-
-pub generic_args::word_arg-type_arg-requires : goal.generic_args::word_arg-type_arg-requires
-generic_args::word_arg-type_arg-requires = generic_args.generic_args::word_arg-type_arg-requires
-
-pub generic_args::word_arg-returns-clause-reads : goal.generic_args::word_arg-returns-clause-reads
-generic_args::word_arg-returns-clause-reads = generic_args.generic_args::word_arg-returns-clause-reads
 
 pub generic_args::assoc_type_arg-complete-requires : goal.generic_args::assoc_type_arg-complete-requires
 generic_args::assoc_type_arg-complete-requires = generic_args.generic_args::assoc_type_arg-complete-requires
 
 pub generic_args::assoc_type_arg-returns-clause-reads : goal.generic_args::assoc_type_arg-returns-clause-reads
 generic_args::assoc_type_arg-returns-clause-reads = generic_args.generic_args::assoc_type_arg-returns-clause-reads
-
-pub generic_args::type_arg-any_type-requires : goal.generic_args::type_arg-any_type-requires
-generic_args::type_arg-any_type-requires = generic_args.generic_args::type_arg-any_type-requires
 
 pub generic_args::type_arg-complete-requires : goal.generic_args::type_arg-complete-requires
 generic_args::type_arg-complete-requires = generic_args.generic_args::type_arg-complete-requires
@@ -2330,3 +2297,99 @@ paths::opt_as_trait-returns-then-at-clause-reads = paths.paths::opt_as_trait-ret
 
 pub paths::opt_as_trait-returns-else-at-clause-reads : goal.paths::opt_as_trait-returns-else-at-clause-reads
 paths::opt_as_trait-returns-else-at-clause-reads = paths.paths::opt_as_trait-returns-else-at-clause-reads
+
+pub generic_args::generic_arg-new_arg-frame-requires : goal.generic_args::generic_arg-new_arg-frame-requires
+generic_args::generic_arg-new_arg-frame-requires = generic_args.generic_args::generic_arg-new_arg-frame-requires
+
+pub generic_args::generic_arg-returns-then-at_new_arg-clause-gives : goal.generic_args::generic_arg-returns-then-at_new_arg-clause-gives
+generic_args::generic_arg-returns-then-at_new_arg-clause-gives = generic_args.generic_args::generic_arg-returns-then-at_new_arg-clause-gives
+
+pub generic_args::generic_arg-returns-in-LIFETIME_IDENT-clause-gives : goal.generic_args::generic_arg-returns-in-LIFETIME_IDENT-clause-gives
+generic_args::generic_arg-returns-in-LIFETIME_IDENT-clause-gives = generic_args.generic_args::generic_arg-returns-in-LIFETIME_IDENT-clause-gives
+
+pub generic_args::generic_arg-returns-in-MINUS-clause-gives : goal.generic_args::generic_arg-returns-in-MINUS-clause-gives
+generic_args::generic_arg-returns-in-MINUS-clause-gives = generic_args.generic_args::generic_arg-returns-in-MINUS-clause-gives
+
+pub generic_args::generic_arg-word_arg-requires : goal.generic_args::generic_arg-word_arg-requires
+generic_args::generic_arg-word_arg-requires = generic_args.generic_args::generic_arg-word_arg-requires
+
+pub generic_args::generic_arg-returns-in-IDENT-clause-gives : goal.generic_args::generic_arg-returns-in-IDENT-clause-gives
+generic_args::generic_arg-returns-in-IDENT-clause-gives = generic_args.generic_args::generic_arg-returns-in-IDENT-clause-gives
+
+pub generic_args::generic_arg-returns-then-at_literal-clause-gives : goal.generic_args::generic_arg-returns-then-at_literal-clause-gives
+generic_args::generic_arg-returns-then-at_literal-clause-gives = generic_args.generic_args::generic_arg-returns-then-at_literal-clause-gives
+
+pub generic_args::generic_arg-type_arg-requires : goal.generic_args::generic_arg-type_arg-requires
+generic_args::generic_arg-type_arg-requires = generic_args.generic_args::generic_arg-type_arg-requires
+
+pub generic_args::generic_arg-returns-else-at_literal-clause-gives : goal.generic_args::generic_arg-returns-else-at_literal-clause-gives
+generic_args::generic_arg-returns-else-at_literal-clause-gives = generic_args.generic_args::generic_arg-returns-else-at_literal-clause-gives
+
+pub generic_args::word_arg-returns-then-at_second-clause-reads : goal.generic_args::word_arg-returns-then-at_second-clause-reads
+generic_args::word_arg-returns-then-at_second-clause-reads = generic_args.generic_args::word_arg-returns-then-at_second-clause-reads
+
+pub generic_args::word_arg-type_arg-requires : goal.generic_args::word_arg-type_arg-requires
+generic_args::word_arg-type_arg-requires = generic_args.generic_args::word_arg-type_arg-requires
+
+pub generic_args::word_arg-returns-clause-reads : goal.generic_args::word_arg-returns-clause-reads
+generic_args::word_arg-returns-clause-reads = generic_args.generic_args::word_arg-returns-clause-reads
+
+pub generic_args::type_arg-any_type-requires : goal.generic_args::type_arg-any_type-requires
+generic_args::type_arg-any_type-requires = generic_args.generic_args::type_arg-any_type-requires
+
+pub generic_args::new_arg-type_arg-requires : goal.generic_args::new_arg-type_arg-requires
+generic_args::new_arg-type_arg-requires = generic_args.generic_args::new_arg-type_arg-requires
+
+pub generic_args::new_arg-returns-then-at-clause-reads : goal.generic_args::new_arg-returns-then-at-clause-reads
+generic_args::new_arg-returns-then-at-clause-reads = generic_args.generic_args::new_arg-returns-then-at-clause-reads
+
+pub generic_args::new_arg-returns-then-at-clause-takes : goal.generic_args::new_arg-returns-then-at-clause-takes
+generic_args::new_arg-returns-then-at-clause-takes = generic_args.generic_args::new_arg-returns-then-at-clause-takes
+
+pub generic_args::new_arg-returns-then-at-2-clause-reads : goal.generic_args::new_arg-returns-then-at-2-clause-reads
+generic_args::new_arg-returns-then-at-2-clause-reads = generic_args.generic_args::new_arg-returns-then-at-2-clause-reads
+
+pub generic_args::new_arg-returns-then-at-2-clause-takes : goal.generic_args::new_arg-returns-then-at-2-clause-takes
+generic_args::new_arg-returns-then-at-2-clause-takes = generic_args.generic_args::new_arg-returns-then-at-2-clause-takes
+
+pub generic_args::new_arg-named_arg-requires : goal.generic_args::new_arg-named_arg-requires
+generic_args::new_arg-named_arg-requires = generic_args.generic_args::new_arg-named_arg-requires
+
+pub generic_args::new_arg-returns-clause-reads : goal.generic_args::new_arg-returns-clause-reads
+generic_args::new_arg-returns-clause-reads = generic_args.generic_args::new_arg-returns-clause-reads
+
+pub generic_args::block_arg-complete-requires : goal.generic_args::block_arg-complete-requires
+generic_args::block_arg-complete-requires = generic_args.generic_args::block_arg-complete-requires
+
+pub generic_args::block_arg-returns-clause-reads : goal.generic_args::block_arg-returns-clause-reads
+generic_args::block_arg-returns-clause-reads = generic_args.generic_args::block_arg-returns-clause-reads
+
+pub generic_args::named_arg-wrap-requires : goal.generic_args::named_arg-wrap-requires
+generic_args::named_arg-wrap-requires = generic_args.generic_args::named_arg-wrap-requires
+
+pub generic_args::named_arg-wrap-requires-2 : goal.generic_args::named_arg-wrap-requires-2
+generic_args::named_arg-wrap-requires-2 = generic_args.generic_args::named_arg-wrap-requires-2
+
+pub generic_args::named_arg-front_of_type-requires : goal.generic_args::named_arg-front_of_type-requires
+generic_args::named_arg-front_of_type-requires = generic_args.generic_args::named_arg-front_of_type-requires
+
+pub generic_args::named_arg-returns-then-at-clause-reads : goal.generic_args::named_arg-returns-then-at-clause-reads
+generic_args::named_arg-returns-then-at-clause-reads = generic_args.generic_args::named_arg-returns-then-at-clause-reads
+
+pub generic_args::named_arg-returns-then-at_single_colon-clause-reads : goal.generic_args::named_arg-returns-then-at_single_colon-clause-reads
+generic_args::named_arg-returns-then-at_single_colon-clause-reads = generic_args.generic_args::named_arg-returns-then-at_single_colon-clause-reads
+
+pub generic_args::named_arg-returns-clause-reads : goal.generic_args::named_arg-returns-clause-reads
+generic_args::named_arg-returns-clause-reads = generic_args.generic_args::named_arg-returns-clause-reads
+
+pub generic_args::const_or_type-returns-then-at_const_value-clause-reads : goal.generic_args::const_or_type-returns-then-at_const_value-clause-reads
+generic_args::const_or_type-returns-then-at_const_value-clause-reads = generic_args.generic_args::const_or_type-returns-then-at_const_value-clause-reads
+
+pub generic_args::const_or_type-returns-clause-reads : goal.generic_args::const_or_type-returns-clause-reads
+generic_args::const_or_type-returns-clause-reads = generic_args.generic_args::const_or_type-returns-clause-reads
+
+pub generic_args::front_of_type-next_segments-frame-requires : goal.generic_args::front_of_type-next_segments-frame-requires
+generic_args::front_of_type-next_segments-frame-requires = generic_args.generic_args::front_of_type-next_segments-frame-requires
+
+pub generic_args::front_of_type-returns-clause-reads : goal.generic_args::front_of_type-returns-clause-reads
+generic_args::front_of_type-returns-clause-reads = generic_args.generic_args::front_of_type-returns-clause-reads

@@ -192,6 +192,21 @@ decreases-types::type_no_bounds l = 512 * tokens l.p.now + 19
 abbrev pub decreases-types::expect_type_no_bounds : goal.decreases-types::expect_type_no_bounds
 decreases-types::expect_type_no_bounds l = 512 * tokens l.p.now + 20
 
+abbrev pub decreases-generic_args::new_arg : goal.decreases-generic_args::new_arg
+decreases-generic_args::new_arg l = 512 * tokens l.p.now + 24
+
+abbrev pub decreases-generic_args::block_arg : goal.decreases-generic_args::block_arg
+decreases-generic_args::block_arg l = 512 * tokens l.p.now + 3
+
+abbrev pub decreases-generic_args::named_arg : goal.decreases-generic_args::named_arg
+decreases-generic_args::named_arg l = 512 * tokens l.p.now + 10
+
+abbrev pub decreases-generic_args::const_or_type : goal.decreases-generic_args::const_or_type
+decreases-generic_args::const_or_type l = 512 * tokens l.p.now + 22
+
+abbrev pub decreases-generic_args::front_of_type : goal.decreases-generic_args::front_of_type
+decreases-generic_args::front_of_type l = 512 * tokens l.p.now + 9
+
 abbrev pub decreases-types::ptr_type : goal.decreases-types::ptr_type
 decreases-types::ptr_type l = 512 * tokens l.p.now
 
@@ -661,7 +676,7 @@ abbrev pub decreases-generic_params::opt_pred : goal.decreases-generic_params::o
 decreases-generic_params::opt_pred l = 512 * tokens l.p.now + 21
 
 abbrev pub decreases-generic_args::generic_arg : goal.decreases-generic_args::generic_arg
-decreases-generic_args::generic_arg l = 512 * tokens l.p.now + 21
+decreases-generic_args::generic_arg l = 512 * tokens l.p.now + 25
 
 abbrev pub decreases-generic_args::word_arg : goal.decreases-generic_args::word_arg
 decreases-generic_args::word_arg l = 512 * tokens l.p.now + 20
