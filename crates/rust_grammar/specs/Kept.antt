@@ -35,4 +35,4 @@ ProfileReadsAsBefore =
 abbrev pub ProfileEntriesAreKept : Type 0
 ProfileEntriesAreKept =
     (x : Production) (edition : Edition) (leaves : List Leaf)
-    → is_profile x ≡ true → entry_of x edition leaves ≡ entry profile x (input false edition leaves)
+    → is_profile x ≡ true → entry_of x false edition leaves ≡ entry profile x (input false edition leaves)

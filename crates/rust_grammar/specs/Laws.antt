@@ -125,14 +125,14 @@ abbrev pub EntriesAreRooted : Type 0
 EntriesAreRooted = (x : Production) (tokens : List Token) → is_entry x ≡ true → IsRooted (entry all.whole x tokens)
 
 -- the tree of an entry with these leaves
-abbrev pub entry_of : Production → Edition → List Leaf → Forest
-entry_of x edition leaves = entry all.whole x (input false edition leaves)
+abbrev pub entry_of : Production → (whole : Bool) → Edition → List Leaf → Forest
+entry_of x whole edition leaves = entry all.whole x (input whole edition leaves)
 
 -- Its steps fit every text with that input.
 abbrev pub EntriesFit : Type 0
 EntriesFit =
-    (x : Production) (edition : Edition) (leaves : List Leaf)
-    → is_entry x ≡ true → fits (steps (entry_of x edition leaves)) leaves ≡ true
+    (x : Production) (whole : Bool) (edition : Edition) (leaves : List Leaf)
+    → is_entry x ≡ true → fits (steps (entry_of x whole edition leaves)) leaves ≡ true
 
 -- In the tree of an entry each token tree begins with an opening bracket, and ends with its partner or the message that it is
 -- missing.

@@ -15,8 +15,7 @@ ghost use Rattle.parser_events.specs.Stack.{IsInnermost};
 ghost use Rattle.rust_productions.specs.Looks.{tokens, spent, Asks, Peeks, Stays};
 ghost use Rattle.rust_grammar.specs.Rule.{Kind, Contextual, Whole, Left, Say, Skip, Any, Want, Opt, there_at, One};
 ghost use Rattle.rust_grammar.specs.Meaning.{wrapped};
-ghost use Rattle.rust_grammar.specs.Words.{one, joined, '#'};
-ghost use Rattle.rust_grammar.specs.Notation.{next, wide};
+ghost use Rattle.rust_grammar.specs.Words.{one, joined};
 ghost use Rattle.rust_productions.specs.Reads.{Opens, Closes, Leaves, Does, Reads, Saw};
 
 use parser_events::message::Message;
@@ -140,21 +139,6 @@ pub fn at_pair_after(p: &mut Parser<'_>, first: SyntaxKind, second: SyntaxKind) 
         return false;
     }
     at_third(p, second)
-}
-
-/// Returns `true` if an attribute of the whole language starts here.
-pub fn at_new_attr(p: &mut Parser<'_>) -> bool
-    ensures sees { (c : Bool) → Saw c (wide (next '#')) p.old result }
-    ensures some { IsTrue result → 1 ≤ tokens p.old }
-    ensures peeks { Peeks 1 p.old p.new }
-{
-    if !at_whole(p) {
-        return false;
-    }
-    if at(p, SyntaxKind::POUND) {
-        return true;
-    }
-    false
 }
 
 /// Opens a node in the innermost one.

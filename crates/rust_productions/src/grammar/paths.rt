@@ -62,10 +62,10 @@ pub fn at_fn_args(p: &mut Parser<'_>) -> bool
     if !at_colons(p) {
         return false;
     }
-    if at_third(p, SyntaxKind::L_PAREN) {
-        return true;
+    if !at_third(p, SyntaxKind::L_PAREN) {
+        return false;
     }
-    false
+    true
 }
 
 /// Returns `true` if `!` is next, and no `!=`.

@@ -34,16 +34,16 @@ returns-then-not-at_colons-clause-sees c cond = saw-told (saw-so (c.at_whole.ens
 pub returns-then-not-at_colons-clause-peeks : goal.returns-then-not-at_colons-clause-peeks
 returns-then-not-at_colons-clause-peeks c = peeks-within (stays-then c.at_whole.ensures.same c.at_whole.ensures.stays (peeks-then c.at.ensures.peeks (c.at_colons.ensures.peeks))) (omega arith)
 
-pub returns-then-at_third-clause-sees : goal.returns-then-at_third-clause-sees
+pub returns-then-not-at_third-clause-sees : goal.returns-then-not-at_third-clause-sees
 unfolding look_of begins_below whole rule items statements expressions patterns types paths there_at shift passes is_silent begins in_mode anew row one_of any_of no_longer longest is_longer
-returns-then-at_third-clause-sees c cond = saw-told (saw-so (c.at_whole.ensures.sees cond) c.if-not-at_whole.false and saw-before c.at_whole.ensures.same (saw-so (c.at.ensures.sees cond) c.if-at.false) and saw-before c.at_whole.ensures.same (saw-before c.at.ensures.peeks.same (saw-so (c.at_colons.ensures.sees cond) c.if-not-at_colons.false)) and saw-before c.at_whole.ensures.same (saw-before c.at.ensures.peeks.same (saw-before c.at_colons.ensures.peeks.same (saw-so (c.at_third.ensures.sees cond) c.if-at_third.true))) and nothing) refl
+returns-then-not-at_third-clause-sees c cond = saw-told (saw-so (c.at_whole.ensures.sees cond) c.if-not-at_whole.false and saw-before c.at_whole.ensures.same (saw-so (c.at.ensures.sees cond) c.if-at.false) and saw-before c.at_whole.ensures.same (saw-before c.at.ensures.peeks.same (saw-so (c.at_colons.ensures.sees cond) c.if-not-at_colons.false)) and saw-before c.at_whole.ensures.same (saw-before c.at.ensures.peeks.same (saw-before c.at_colons.ensures.peeks.same (saw-so (c.at_third.ensures.sees cond) c.if-not-at_third.true))) and nothing) refl
 
-pub returns-then-at_third-clause-peeks : goal.returns-then-at_third-clause-peeks
-returns-then-at_third-clause-peeks c = peeks-within (stays-then c.at_whole.ensures.same c.at_whole.ensures.stays (peeks-then c.at.ensures.peeks (peeks-then c.at_colons.ensures.peeks (c.at_third.ensures.peeks)))) (omega arith)
+pub returns-then-not-at_third-clause-peeks : goal.returns-then-not-at_third-clause-peeks
+returns-then-not-at_third-clause-peeks c = peeks-within (stays-then c.at_whole.ensures.same c.at_whole.ensures.stays (peeks-then c.at.ensures.peeks (peeks-then c.at_colons.ensures.peeks (c.at_third.ensures.peeks)))) (omega arith)
 
 pub returns-clause-sees : goal.returns-clause-sees
 unfolding look_of begins_below whole rule items statements expressions patterns types paths there_at shift passes is_silent begins in_mode anew row one_of any_of no_longer longest is_longer
-returns-clause-sees c cond = saw-told (saw-so (c.at_whole.ensures.sees cond) c.if-not-at_whole.false and saw-before c.at_whole.ensures.same (saw-so (c.at.ensures.sees cond) c.if-at.false) and saw-before c.at_whole.ensures.same (saw-before c.at.ensures.peeks.same (saw-so (c.at_colons.ensures.sees cond) c.if-not-at_colons.false)) and saw-before c.at_whole.ensures.same (saw-before c.at.ensures.peeks.same (saw-before c.at_colons.ensures.peeks.same (saw-so (c.at_third.ensures.sees cond) c.if-at_third.false))) and nothing) refl
+returns-clause-sees c cond = saw-told (saw-so (c.at_whole.ensures.sees cond) c.if-not-at_whole.false and saw-before c.at_whole.ensures.same (saw-so (c.at.ensures.sees cond) c.if-at.false) and saw-before c.at_whole.ensures.same (saw-before c.at.ensures.peeks.same (saw-so (c.at_colons.ensures.sees cond) c.if-not-at_colons.false)) and saw-before c.at_whole.ensures.same (saw-before c.at.ensures.peeks.same (saw-before c.at_colons.ensures.peeks.same (saw-so (c.at_third.ensures.sees cond) c.if-not-at_third.false))) and nothing) refl
 
 pub returns-clause-peeks : goal.returns-clause-peeks
 returns-clause-peeks c = peeks-within (stays-then c.at_whole.ensures.same c.at_whole.ensures.stays (peeks-then c.at.ensures.peeks (peeks-then c.at_colons.ensures.peeks (c.at_third.ensures.peeks)))) (omega arith)
