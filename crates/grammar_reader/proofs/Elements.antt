@@ -75,6 +75,7 @@ module _ (list : ℕ) (r : Rule) (close : ℕ) {v : View} where
 
 pub said-element : (e : Element) → is_silent (element_of e) ≡ false
 unfolding is_silent
+said-element elements.Captured = refl
 said-element elements.ClosureParam = refl
 said-element elements.Expression = refl
 said-element elements.FieldValue = refl
@@ -90,6 +91,7 @@ said-element elements.Variant = refl
 
 pub sure-element : (e : Element) → passes (element_of e) ≡ false
 unfolding passes
+sure-element elements.Captured = refl
 sure-element elements.ClosureParam = refl
 sure-element elements.Expression = refl
 sure-element elements.FieldValue = refl
@@ -119,6 +121,7 @@ element-pays old mid new n few first cost fewer left little pays less = elim (ca
 ]
 
 pub few-looks-in : (e : Element) → looks_in e ≤ 600
+few-looks-in elements.Captured = omega arith
 few-looks-in elements.ClosureParam = omega arith
 few-looks-in elements.Expression = omega arith
 few-looks-in elements.FieldValue = omega arith
@@ -133,6 +136,7 @@ few-looks-in elements.Type = omega arith
 few-looks-in elements.Variant = omega arith
 
 pub few-looks-before : (e : Element) → looks_before e ≤ 14
+few-looks-before elements.Captured = omega arith
 few-looks-before elements.ClosureParam = omega arith
 few-looks-before elements.Expression = omega arith
 few-looks-before elements.FieldValue = omega arith

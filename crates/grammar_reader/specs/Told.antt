@@ -8,6 +8,7 @@ use Rattle.rust_grammar.specs.Statements.{Listing, after_block, in_block, in_mac
 use Rattle.rust_grammar.specs.Words.{one, '::', '<', '=', '#', '!'}
 use Rattle.rust_grammar.specs.Paths.{expr_args, type_arg, type_args}
 use Rattle.rust_grammar.specs.Expressions.{closure_param}
+use Rattle.rust_grammar.specs.Paths.{captured}
 use Rattle.rust_grammar.specs.Items.{record_field, tuple_field, variant}
 use Rattle.grammar_reader.specs.declared.grammar.expressions.Level.{Level}
 use Rattle.grammar_reader.specs.declared.grammar.expressions.Level.TheVariants as levels
@@ -28,6 +29,7 @@ level_of levels.Prefixed = rules.prefixed
 
 -- what the elements of a list are
 abbrev pub element_of : Element → Rule
+element_of elements.Captured = captured
 element_of elements.ClosureParam = closure_param
 element_of elements.Expression = Call rules.expression
 element_of elements.FieldValue = Call rules.field_value

@@ -298,7 +298,7 @@ fn bounded_type(p: &mut Parser<'_>, token: SyntaxKind, kind: SyntaxKind)
     requires some { 1 ≤ tokens p.old }
     ensures reads { (c : Bool) → Reads c
         (raw_of kind ⟨ One (one (raw_of token)) ▸ Bounds ⟩) p.old p.new }
-    ensures takes { Takes 4090 p.old p.new }
+    ensures takes { Takes 4070 p.old p.new }
 {
     let node = start(p);
     take(p, token);

@@ -3,6 +3,7 @@ mod Adt
 mod Atom
 mod Attributes
 mod Blocks
+mod ConstArgs
 mod Consts
 mod Control
 mod Expressions
@@ -15,6 +16,8 @@ mod Layers
 mod Lists
 mod MatchArm
 mod Members
+mod NewBounds
+mod NewParams
 mod Operand
 mod Params
 mod Paths
@@ -28,6 +31,7 @@ use Rattle.grammar_reader.proofs.grammar.+grammar.Answers.Adt as adt
 use Rattle.grammar_reader.proofs.grammar.+grammar.Answers.Atom as atom
 use Rattle.grammar_reader.proofs.grammar.+grammar.Answers.Attributes as attributes
 use Rattle.grammar_reader.proofs.grammar.+grammar.Answers.Blocks as blocks
+use Rattle.grammar_reader.proofs.grammar.+grammar.Answers.ConstArgs as const_args
 use Rattle.grammar_reader.proofs.grammar.+grammar.Answers.Consts as consts
 use Rattle.grammar_reader.proofs.grammar.+grammar.Answers.Control as control
 use Rattle.grammar_reader.proofs.grammar.+grammar.Answers.Expressions as expressions
@@ -40,6 +44,8 @@ use Rattle.grammar_reader.proofs.grammar.+grammar.Answers.Layers as layers
 use Rattle.grammar_reader.proofs.grammar.+grammar.Answers.Lists as lists
 use Rattle.grammar_reader.proofs.grammar.+grammar.Answers.MatchArm as match_arm
 use Rattle.grammar_reader.proofs.grammar.+grammar.Answers.Members as members
+use Rattle.grammar_reader.proofs.grammar.+grammar.Answers.NewBounds as new_bounds
+use Rattle.grammar_reader.proofs.grammar.+grammar.Answers.NewParams as new_params
 use Rattle.grammar_reader.proofs.grammar.+grammar.Answers.Operand as operand
 use Rattle.grammar_reader.proofs.grammar.+grammar.Answers.Params as params
 use Rattle.grammar_reader.proofs.grammar.+grammar.Answers.Paths as paths
@@ -744,20 +750,77 @@ generic_args::type_arg-complete-requires = generic_args.generic_args::type_arg-c
 pub generic_args::type_arg-returns-clause-reads : goal.generic_args::type_arg-returns-clause-reads
 generic_args::type_arg-returns-clause-reads = generic_args.generic_args::type_arg-returns-clause-reads
 
-pub generic_params::bound-lifetime_or_path-requires : goal.generic_params::bound-lifetime_or_path-requires
-generic_params::bound-lifetime_or_path-requires = generic_params.generic_params::bound-lifetime_or_path-requires
+pub const_args::expect_const_arg-returns-then-at_const_arg-clause-reads : goal.const_args::expect_const_arg-returns-then-at_const_arg-clause-reads
+const_args::expect_const_arg-returns-then-at_const_arg-clause-reads = const_args.const_args::expect_const_arg-returns-then-at_const_arg-clause-reads
 
-pub generic_params::bound-complete-requires : goal.generic_params::bound-complete-requires
-generic_params::bound-complete-requires = generic_params.generic_params::bound-complete-requires
+pub const_args::expect_const_arg-returns-clause-reads : goal.const_args::expect_const_arg-returns-clause-reads
+const_args::expect_const_arg-returns-clause-reads = const_args.const_args::expect_const_arg-returns-clause-reads
+
+pub const_args::const_arg-complete-requires : goal.const_args::const_arg-complete-requires
+const_args::const_arg-complete-requires = const_args.const_args::const_arg-complete-requires
+
+pub const_args::const_arg-returns-clause-reads : goal.const_args::const_arg-returns-clause-reads
+const_args::const_arg-returns-clause-reads = const_args.const_args::const_arg-returns-clause-reads
+
+pub const_args::const_value-returns-then-at-clause-reads : goal.const_args::const_value-returns-then-at-clause-reads
+const_args::const_value-returns-then-at-clause-reads = const_args.const_args::const_value-returns-then-at-clause-reads
+
+pub const_args::const_value-returns-then-at_literal-clause-reads : goal.const_args::const_value-returns-then-at_literal-clause-reads
+const_args::const_value-returns-then-at_literal-clause-reads = const_args.const_args::const_value-returns-then-at_literal-clause-reads
+
+pub const_args::const_value-returns-then-at_negated-clause-reads : goal.const_args::const_value-returns-then-at_negated-clause-reads
+const_args::const_value-returns-then-at_negated-clause-reads = const_args.const_args::const_value-returns-then-at_negated-clause-reads
+
+pub const_args::const_value-returns-clause-reads : goal.const_args::const_value-returns-clause-reads
+const_args::const_value-returns-clause-reads = const_args.const_args::const_value-returns-clause-reads
+
+pub const_args::const_path-complete-requires : goal.const_args::const_path-complete-requires
+const_args::const_path-complete-requires = const_args.const_args::const_path-complete-requires
+
+pub const_args::const_path-returns-clause-reads : goal.const_args::const_path-returns-clause-reads
+const_args::const_path-returns-clause-reads = const_args.const_args::const_path-returns-clause-reads
+
+pub const_args::expr_path-path_with_args-requires : goal.const_args::expr_path-path_with_args-requires
+const_args::expr_path-path_with_args-requires = const_args.const_args::expr_path-path_with_args-requires
+
+pub const_args::expr_path-returns-then-at_path-clause-gives : goal.const_args::expr_path-returns-then-at_path-clause-gives
+const_args::expr_path-returns-then-at_path-clause-gives = const_args.const_args::expr_path-returns-then-at_path-clause-gives
+
+pub const_args::expr_path-missing_expr_path-requires : goal.const_args::expr_path-missing_expr_path-requires
+const_args::expr_path-missing_expr_path-requires = const_args.const_args::expr_path-missing_expr_path-requires
+
+pub const_args::expr_path-returns-clause-gives : goal.const_args::expr_path-returns-clause-gives
+const_args::expr_path-returns-clause-gives = const_args.const_args::expr_path-returns-clause-gives
+
+pub generic_params::bound-plain_bound-requires : goal.generic_params::bound-plain_bound-requires
+generic_params::bound-plain_bound-requires = generic_params.generic_params::bound-plain_bound-requires
+
+pub generic_params::bound-returns-then-at_new_bound-clause-gives : goal.generic_params::bound-returns-then-at_new_bound-clause-gives
+generic_params::bound-returns-then-at_new_bound-clause-gives = generic_params.generic_params::bound-returns-then-at_new_bound-clause-gives
 
 pub generic_params::bound-returns-clause-gives : goal.generic_params::bound-returns-clause-gives
 generic_params::bound-returns-clause-gives = generic_params.generic_params::bound-returns-clause-gives
+
+pub generic_params::plain_bound-lifetime_or_path-requires : goal.generic_params::plain_bound-lifetime_or_path-requires
+generic_params::plain_bound-lifetime_or_path-requires = generic_params.generic_params::plain_bound-lifetime_or_path-requires
+
+pub generic_params::plain_bound-complete-requires : goal.generic_params::plain_bound-complete-requires
+generic_params::plain_bound-complete-requires = generic_params.generic_params::plain_bound-complete-requires
+
+pub generic_params::plain_bound-returns-clause-reads : goal.generic_params::plain_bound-returns-clause-reads
+generic_params::plain_bound-returns-clause-reads = generic_params.generic_params::plain_bound-returns-clause-reads
 
 pub generic_params::lifetime_or_path-returns-in-LIFETIME_IDENT-clause-reads : goal.generic_params::lifetime_or_path-returns-in-LIFETIME_IDENT-clause-reads
 generic_params::lifetime_or_path-returns-in-LIFETIME_IDENT-clause-reads = generic_params.generic_params::lifetime_or_path-returns-in-LIFETIME_IDENT-clause-reads
 
 pub generic_params::lifetime_or_path-returns-in-QUESTION-clause-reads : goal.generic_params::lifetime_or_path-returns-in-QUESTION-clause-reads
 generic_params::lifetime_or_path-returns-in-QUESTION-clause-reads = generic_params.generic_params::lifetime_or_path-returns-in-QUESTION-clause-reads
+
+pub generic_params::lifetime_or_path-lifetime-requires : goal.generic_params::lifetime_or_path-lifetime-requires
+generic_params::lifetime_or_path-lifetime-requires = generic_params.generic_params::lifetime_or_path-lifetime-requires
+
+pub generic_params::lifetime_or_path-path_after_question-requires : goal.generic_params::lifetime_or_path-path_after_question-requires
+generic_params::lifetime_or_path-path_after_question-requires = generic_params.generic_params::lifetime_or_path-path_after_question-requires
 
 pub generic_params::lifetime_or_path-path_type-requires : goal.generic_params::lifetime_or_path-path_type-requires
 generic_params::lifetime_or_path-path_type-requires = generic_params.generic_params::lifetime_or_path-path_type-requires
@@ -816,6 +879,18 @@ generic_params::bounds_after_colon-returns-then-at-clause-reads = generic_params
 pub generic_params::bounds_after_colon-returns-else-at-clause-reads : goal.generic_params::bounds_after_colon-returns-else-at-clause-reads
 generic_params::bounds_after_colon-returns-else-at-clause-reads = generic_params.generic_params::bounds_after_colon-returns-else-at-clause-reads
 
+pub generic_params::for_binder-returns-clause-reads : goal.generic_params::for_binder-returns-clause-reads
+generic_params::for_binder-returns-clause-reads = generic_params.generic_params::for_binder-returns-clause-reads
+
+pub generic_params::expect_generic_params-returns-then-at-clause-reads : goal.generic_params::expect_generic_params-returns-then-at-clause-reads
+generic_params::expect_generic_params-returns-then-at-clause-reads = generic_params.generic_params::expect_generic_params-returns-then-at-clause-reads
+
+pub generic_params::expect_generic_params-returns-clause-reads : goal.generic_params::expect_generic_params-returns-clause-reads
+generic_params::expect_generic_params-returns-clause-reads = generic_params.generic_params::expect_generic_params-returns-clause-reads
+
+pub generic_params::lifetime_and_bounds-returns-clause-reads : goal.generic_params::lifetime_and_bounds-returns-clause-reads
+generic_params::lifetime_and_bounds-returns-clause-reads = generic_params.generic_params::lifetime_and_bounds-returns-clause-reads
+
 pub generic_params::lifetime_param-complete-requires : goal.generic_params::lifetime_param-complete-requires
 generic_params::lifetime_param-complete-requires = generic_params.generic_params::lifetime_param-complete-requires
 
@@ -828,11 +903,17 @@ generic_params::type_param-complete-requires = generic_params.generic_params::ty
 pub generic_params::type_param-returns-clause-reads : goal.generic_params::type_param-returns-clause-reads
 generic_params::type_param-returns-clause-reads = generic_params.generic_params::type_param-returns-clause-reads
 
+pub generic_params::generic_param-returns-then-at_new_param-clause-gives : goal.generic_params::generic_param-returns-then-at_new_param-clause-gives
+generic_params::generic_param-returns-then-at_new_param-clause-gives = generic_params.generic_params::generic_param-returns-then-at_new_param-clause-gives
+
 pub generic_params::generic_param-returns-then-at-clause-gives : goal.generic_params::generic_param-returns-then-at-clause-gives
 generic_params::generic_param-returns-then-at-clause-gives = generic_params.generic_params::generic_param-returns-then-at-clause-gives
 
 pub generic_params::generic_param-returns-clause-gives : goal.generic_params::generic_param-returns-clause-gives
 generic_params::generic_param-returns-clause-gives = generic_params.generic_params::generic_param-returns-clause-gives
+
+pub generic_params::lifetime_or_type-lifetime-requires : goal.generic_params::lifetime_or_type-lifetime-requires
+generic_params::lifetime_or_type-lifetime-requires = generic_params.generic_params::lifetime_or_type-lifetime-requires
 
 pub generic_params::lifetime_or_type-any_type-requires : goal.generic_params::lifetime_or_type-any_type-requires
 generic_params::lifetime_or_type-any_type-requires = generic_params.generic_params::lifetime_or_type-any_type-requires
@@ -843,14 +924,35 @@ generic_params::lifetime_or_type-returns-then-at-clause-reads = generic_params.g
 pub generic_params::lifetime_or_type-returns-clause-reads : goal.generic_params::lifetime_or_type-returns-clause-reads
 generic_params::lifetime_or_type-returns-clause-reads = generic_params.generic_params::lifetime_or_type-returns-clause-reads
 
-pub generic_params::where_pred-lifetime_or_type-requires : goal.generic_params::where_pred-lifetime_or_type-requires
-generic_params::where_pred-lifetime_or_type-requires = generic_params.generic_params::where_pred-lifetime_or_type-requires
+pub generic_params::pred_bounds-returns-clause-reads : goal.generic_params::pred_bounds-returns-clause-reads
+generic_params::pred_bounds-returns-clause-reads = generic_params.generic_params::pred_bounds-returns-clause-reads
 
-pub generic_params::where_pred-complete-requires : goal.generic_params::where_pred-complete-requires
-generic_params::where_pred-complete-requires = generic_params.generic_params::where_pred-complete-requires
+pub generic_params::where_pred-binder_pred-requires : goal.generic_params::where_pred-binder_pred-requires
+generic_params::where_pred-binder_pred-requires = generic_params.generic_params::where_pred-binder_pred-requires
+
+pub generic_params::where_pred-plain_pred-requires : goal.generic_params::where_pred-plain_pred-requires
+generic_params::where_pred-plain_pred-requires = generic_params.generic_params::where_pred-plain_pred-requires
+
+pub generic_params::where_pred-returns-then-at_new_pred-clause-gives : goal.generic_params::where_pred-returns-then-at_new_pred-clause-gives
+generic_params::where_pred-returns-then-at_new_pred-clause-gives = generic_params.generic_params::where_pred-returns-then-at_new_pred-clause-gives
 
 pub generic_params::where_pred-returns-clause-gives : goal.generic_params::where_pred-returns-clause-gives
 generic_params::where_pred-returns-clause-gives = generic_params.generic_params::where_pred-returns-clause-gives
+
+pub generic_params::binder_pred-complete-requires : goal.generic_params::binder_pred-complete-requires
+generic_params::binder_pred-complete-requires = generic_params.generic_params::binder_pred-complete-requires
+
+pub generic_params::binder_pred-returns-clause-reads : goal.generic_params::binder_pred-returns-clause-reads
+generic_params::binder_pred-returns-clause-reads = generic_params.generic_params::binder_pred-returns-clause-reads
+
+pub generic_params::plain_pred-lifetime_or_type-requires : goal.generic_params::plain_pred-lifetime_or_type-requires
+generic_params::plain_pred-lifetime_or_type-requires = generic_params.generic_params::plain_pred-lifetime_or_type-requires
+
+pub generic_params::plain_pred-complete-requires : goal.generic_params::plain_pred-complete-requires
+generic_params::plain_pred-complete-requires = generic_params.generic_params::plain_pred-complete-requires
+
+pub generic_params::plain_pred-returns-clause-reads : goal.generic_params::plain_pred-returns-clause-reads
+generic_params::plain_pred-returns-clause-reads = generic_params.generic_params::plain_pred-returns-clause-reads
 
 pub generic_params::where_clause-complete-requires : goal.generic_params::where_clause-complete-requires
 generic_params::where_clause-complete-requires = generic_params.generic_params::where_clause-complete-requires
@@ -884,6 +986,96 @@ generic_params::opt_pred-returns-then-at_where_pred-clause-reads = generic_param
 
 pub generic_params::opt_pred-returns-else-at_where_pred-clause-reads : goal.generic_params::opt_pred-returns-else-at_where_pred-clause-reads
 generic_params::opt_pred-returns-else-at_where_pred-clause-reads = generic_params.generic_params::opt_pred-returns-else-at_where_pred-clause-reads
+
+pub new_bounds::new_bound-complete-requires : goal.new_bounds::new_bound-complete-requires
+new_bounds::new_bound-complete-requires = new_bounds.new_bounds::new_bound-complete-requires
+
+pub new_bounds::new_bound-returns-clause-reads : goal.new_bounds::new_bound-returns-clause-reads
+new_bounds::new_bound-returns-clause-reads = new_bounds.new_bounds::new_bound-returns-clause-reads
+
+pub new_bounds::maybe_in_parens-returns-then-at-clause-reads : goal.new_bounds::maybe_in_parens-returns-then-at-clause-reads
+new_bounds::maybe_in_parens-returns-then-at-clause-reads = new_bounds.new_bounds::maybe_in_parens-returns-then-at-clause-reads
+
+pub new_bounds::maybe_in_parens-returns-clause-reads : goal.new_bounds::maybe_in_parens-returns-clause-reads
+new_bounds::maybe_in_parens-returns-clause-reads = new_bounds.new_bounds::maybe_in_parens-returns-clause-reads
+
+pub new_bounds::in_parens-returns-clause-reads : goal.new_bounds::in_parens-returns-clause-reads
+new_bounds::in_parens-returns-clause-reads = new_bounds.new_bounds::in_parens-returns-clause-reads
+
+pub new_bounds::bound_inside-returns-then-at-clause-reads : goal.new_bounds::bound_inside-returns-then-at-clause-reads
+new_bounds::bound_inside-returns-then-at-clause-reads = new_bounds.new_bounds::bound_inside-returns-then-at-clause-reads
+
+pub new_bounds::bound_inside-returns-then-at_captures-clause-reads : goal.new_bounds::bound_inside-returns-then-at_captures-clause-reads
+new_bounds::bound_inside-returns-then-at_captures-clause-reads = new_bounds.new_bounds::bound_inside-returns-then-at_captures-clause-reads
+
+pub new_bounds::bound_inside-returns-clause-reads : goal.new_bounds::bound_inside-returns-clause-reads
+new_bounds::bound_inside-returns-clause-reads = new_bounds.new_bounds::bound_inside-returns-clause-reads
+
+pub new_bounds::use_captures-returns-clause-reads : goal.new_bounds::use_captures-returns-clause-reads
+new_bounds::use_captures-returns-clause-reads = new_bounds.new_bounds::use_captures-returns-clause-reads
+
+pub new_bounds::captures-complete-requires : goal.new_bounds::captures-complete-requires
+new_bounds::captures-complete-requires = new_bounds.new_bounds::captures-complete-requires
+
+pub new_bounds::captures-returns-clause-reads : goal.new_bounds::captures-returns-clause-reads
+new_bounds::captures-returns-clause-reads = new_bounds.new_bounds::captures-returns-clause-reads
+
+pub new_bounds::words_and_path-returns-clause-reads : goal.new_bounds::words_and_path-returns-clause-reads
+new_bounds::words_and_path-returns-clause-reads = new_bounds.new_bounds::words_and_path-returns-clause-reads
+
+pub new_bounds::opt_binder-returns-then-at_binder-clause-reads : goal.new_bounds::opt_binder-returns-then-at_binder-clause-reads
+new_bounds::opt_binder-returns-then-at_binder-clause-reads = new_bounds.new_bounds::opt_binder-returns-then-at_binder-clause-reads
+
+pub new_bounds::opt_binder-returns-else-at_binder-clause-reads : goal.new_bounds::opt_binder-returns-else-at_binder-clause-reads
+new_bounds::opt_binder-returns-else-at_binder-clause-reads = new_bounds.new_bounds::opt_binder-returns-else-at_binder-clause-reads
+
+pub new_params::new_param-returns-then-at-clause-anew : goal.new_params::new_param-returns-then-at-clause-anew
+new_params::new_param-returns-then-at-clause-anew = new_params.new_params::new_param-returns-then-at-clause-anew
+
+pub new_params::new_param-returns-clause-anew : goal.new_params::new_param-returns-clause-anew
+new_params::new_param-returns-clause-anew = new_params.new_params::new_param-returns-clause-anew
+
+pub new_params::const_param-complete-requires : goal.new_params::const_param-complete-requires
+new_params::const_param-complete-requires = new_params.new_params::const_param-complete-requires
+
+pub new_params::const_param-returns-clause-reads : goal.new_params::const_param-returns-clause-reads
+new_params::const_param-returns-clause-reads = new_params.new_params::const_param-returns-clause-reads
+
+pub new_params::inside_const_param-returns-clause-reads : goal.new_params::inside_const_param-returns-clause-reads
+new_params::inside_const_param-returns-clause-reads = new_params.new_params::inside_const_param-returns-clause-reads
+
+pub new_params::const_default-returns-then-at-clause-reads : goal.new_params::const_default-returns-then-at-clause-reads
+new_params::const_default-returns-then-at-clause-reads = new_params.new_params::const_default-returns-then-at-clause-reads
+
+pub new_params::const_default-returns-else-at-clause-reads : goal.new_params::const_default-returns-else-at-clause-reads
+new_params::const_default-returns-else-at-clause-reads = new_params.new_params::const_default-returns-else-at-clause-reads
+
+pub new_params::attributed_param-after_attributes-requires : goal.new_params::attributed_param-after_attributes-requires
+new_params::attributed_param-after_attributes-requires = new_params.new_params::attributed_param-after_attributes-requires
+
+pub new_params::attributed_param-returns-clause-anew : goal.new_params::attributed_param-returns-clause-anew
+new_params::attributed_param-returns-clause-anew = new_params.new_params::attributed_param-returns-clause-anew
+
+pub new_params::after_attributes-complete-requires : goal.new_params::after_attributes-complete-requires
+new_params::after_attributes-complete-requires = new_params.new_params::after_attributes-complete-requires
+
+pub new_params::after_attributes-complete-requires-in-CONST_KW : goal.new_params::after_attributes-complete-requires-in-CONST_KW
+new_params::after_attributes-complete-requires-in-CONST_KW = new_params.new_params::after_attributes-complete-requires-in-CONST_KW
+
+pub new_params::after_attributes-complete-requires-in_default : goal.new_params::after_attributes-complete-requires-in_default
+new_params::after_attributes-complete-requires-in_default = new_params.new_params::after_attributes-complete-requires-in_default
+
+pub new_params::after_attributes-returns-in-LIFETIME_IDENT-clause-completes : goal.new_params::after_attributes-returns-in-LIFETIME_IDENT-clause-completes
+new_params::after_attributes-returns-in-LIFETIME_IDENT-clause-completes = new_params.new_params::after_attributes-returns-in-LIFETIME_IDENT-clause-completes
+
+pub new_params::after_attributes-returns-in-CONST_KW-clause-completes : goal.new_params::after_attributes-returns-in-CONST_KW-clause-completes
+new_params::after_attributes-returns-in-CONST_KW-clause-completes = new_params.new_params::after_attributes-returns-in-CONST_KW-clause-completes
+
+pub new_params::after_attributes-returns-in_default-clause-completes : goal.new_params::after_attributes-returns-in_default-clause-completes
+new_params::after_attributes-returns-in_default-clause-completes = new_params.new_params::after_attributes-returns-in_default-clause-completes
+
+pub new_params::inside_type_param-returns-clause-reads : goal.new_params::inside_type_param-returns-clause-reads
+new_params::inside_type_param-returns-clause-reads = new_params.new_params::inside_type_param-returns-clause-reads
 
 pub items::item-attributed_item-requires : goal.items::item-attributed_item-requires
 items::item-attributed_item-requires = items.items::item-attributed_item-requires
@@ -1136,6 +1328,12 @@ lists::turn-returns-then-at_unexpected-clause-goes = lists.lists::turn-returns-t
 
 pub lists::turn-returns-clause-ends : goal.lists::turn-returns-clause-ends
 lists::turn-returns-clause-ends = lists.lists::turn-returns-clause-ends
+
+pub lists::read_element-captured-requires : goal.lists::read_element-captured-requires
+lists::read_element-captured-requires = lists.lists::read_element-captured-requires
+
+pub lists::read_element-returns-in-Captured-clause-reads : goal.lists::read_element-returns-in-Captured-clause-reads
+lists::read_element-returns-in-Captured-clause-reads = lists.lists::read_element-returns-in-Captured-clause-reads
 
 pub lists::read_element-closure_param-requires : goal.lists::read_element-closure_param-requires
 lists::read_element-closure_param-requires = lists.lists::read_element-closure_param-requires

@@ -616,7 +616,7 @@ decreases-items::items-turns l = tokens l.p
 
 -- generics, fields, arms and parameters by hand
 abbrev pub decreases-generic_params::bound : goal.decreases-generic_params::bound
-decreases-generic_params::bound l = 512 * tokens l.p.now + 18
+decreases-generic_params::bound l = 512 * tokens l.p.now + 22
 
 abbrev pub decreases-generic_params::lifetime_or_path : goal.decreases-generic_params::lifetime_or_path
 decreases-generic_params::lifetime_or_path l = 512 * tokens l.p.now + 17
@@ -628,10 +628,10 @@ abbrev pub decreases-generic_params::expect_path_type : goal.decreases-generic_p
 decreases-generic_params::expect_path_type l = 512 * tokens l.p.now + 17
 
 abbrev pub decreases-generic_params::bounds : goal.decreases-generic_params::bounds
-decreases-generic_params::bounds l = 512 * tokens l.p.now + 20
+decreases-generic_params::bounds l = 512 * tokens l.p.now + 24
 
 abbrev pub decreases-generic_params::opt_bounds : goal.decreases-generic_params::opt_bounds
-decreases-generic_params::opt_bounds l = 512 * tokens l.p.now + 19
+decreases-generic_params::opt_bounds l = 512 * tokens l.p.now + 23
 
 abbrev pub decreases-generic_params::further_bounds : goal.decreases-generic_params::further_bounds
 decreases-generic_params::further_bounds l = 512 * tokens l.p.now + 1
@@ -640,31 +640,31 @@ abbrev pub decreases-generic_params::further_bound : goal.decreases-generic_para
 decreases-generic_params::further_bound l = 512 * tokens l.p.now
 
 abbrev pub decreases-generic_params::opt_bound : goal.decreases-generic_params::opt_bound
-decreases-generic_params::opt_bound l = 512 * tokens l.p.now + 19
+decreases-generic_params::opt_bound l = 512 * tokens l.p.now + 23
 
 abbrev pub decreases-generic_params::bounds_after_colon : goal.decreases-generic_params::bounds_after_colon
 decreases-generic_params::bounds_after_colon l = 512 * tokens l.p.now
 
 abbrev pub decreases-generic_params::lifetime_param : goal.decreases-generic_params::lifetime_param
-decreases-generic_params::lifetime_param l = 512 * tokens l.p.now
+decreases-generic_params::lifetime_param l = 512 * tokens l.p.now + 1
 
 abbrev pub decreases-generic_params::type_param : goal.decreases-generic_params::type_param
 decreases-generic_params::type_param l = 512 * tokens l.p.now
 
 abbrev pub decreases-generic_params::generic_param : goal.decreases-generic_params::generic_param
-decreases-generic_params::generic_param l = 512 * tokens l.p.now + 1
+decreases-generic_params::generic_param l = 512 * tokens l.p.now + 4
 
 abbrev pub decreases-generic_params::lifetime_or_type : goal.decreases-generic_params::lifetime_or_type
-decreases-generic_params::lifetime_or_type l = 512 * tokens l.p.now + 19
+decreases-generic_params::lifetime_or_type l = 512 * tokens l.p.now + 30
 
 abbrev pub decreases-generic_params::where_pred : goal.decreases-generic_params::where_pred
-decreases-generic_params::where_pred l = 512 * tokens l.p.now + 20
+decreases-generic_params::where_pred l = 512 * tokens l.p.now + 32
 
 abbrev pub decreases-generic_params::where_clause : goal.decreases-generic_params::where_clause
 decreases-generic_params::where_clause l = 512 * tokens l.p.now
 
 abbrev pub decreases-generic_params::opt_preds : goal.decreases-generic_params::opt_preds
-decreases-generic_params::opt_preds l = 512 * tokens l.p.now + 21
+decreases-generic_params::opt_preds l = 512 * tokens l.p.now + 33
 
 abbrev pub decreases-generic_params::further_preds : goal.decreases-generic_params::further_preds
 decreases-generic_params::further_preds l = 512 * tokens l.p.now + 1
@@ -673,7 +673,88 @@ abbrev pub decreases-generic_params::further_pred : goal.decreases-generic_param
 decreases-generic_params::further_pred l = 512 * tokens l.p.now
 
 abbrev pub decreases-generic_params::opt_pred : goal.decreases-generic_params::opt_pred
-decreases-generic_params::opt_pred l = 512 * tokens l.p.now + 21
+decreases-generic_params::opt_pred l = 512 * tokens l.p.now + 33
+
+abbrev pub decreases-generic_params::plain_bound : goal.decreases-generic_params::plain_bound
+decreases-generic_params::plain_bound l = 512 * tokens l.p.now + 18
+
+abbrev pub decreases-generic_params::for_binder : goal.decreases-generic_params::for_binder
+decreases-generic_params::for_binder l = 512 * tokens l.p.now
+
+abbrev pub decreases-generic_params::expect_generic_params : goal.decreases-generic_params::expect_generic_params
+decreases-generic_params::expect_generic_params l = 512 * tokens l.p.now + 1
+
+abbrev pub decreases-generic_params::lifetime_and_bounds : goal.decreases-generic_params::lifetime_and_bounds
+decreases-generic_params::lifetime_and_bounds l = 512 * tokens l.p.now
+
+abbrev pub decreases-generic_params::plain_pred : goal.decreases-generic_params::plain_pred
+decreases-generic_params::plain_pred l = 512 * tokens l.p.now + 31
+
+abbrev pub decreases-generic_params::binder_pred : goal.decreases-generic_params::binder_pred
+decreases-generic_params::binder_pred l = 512 * tokens l.p.now + 1
+
+abbrev pub decreases-generic_params::pred_bounds : goal.decreases-generic_params::pred_bounds
+decreases-generic_params::pred_bounds l = 512 * tokens l.p.now + 25
+
+abbrev pub decreases-new_bounds::new_bound : goal.decreases-new_bounds::new_bound
+decreases-new_bounds::new_bound l = 512 * tokens l.p.now + 21
+
+abbrev pub decreases-new_bounds::maybe_in_parens : goal.decreases-new_bounds::maybe_in_parens
+decreases-new_bounds::maybe_in_parens l = 512 * tokens l.p.now + 20
+
+abbrev pub decreases-new_bounds::in_parens : goal.decreases-new_bounds::in_parens
+decreases-new_bounds::in_parens l = 512 * tokens l.p.now
+
+abbrev pub decreases-new_bounds::bound_inside : goal.decreases-new_bounds::bound_inside
+decreases-new_bounds::bound_inside l = 512 * tokens l.p.now + 19
+
+abbrev pub decreases-new_bounds::use_captures : goal.decreases-new_bounds::use_captures
+decreases-new_bounds::use_captures l = 512 * tokens l.p.now
+
+abbrev pub decreases-new_bounds::captures : goal.decreases-new_bounds::captures
+decreases-new_bounds::captures l = 512 * tokens l.p.now
+
+abbrev pub decreases-new_bounds::words_and_path : goal.decreases-new_bounds::words_and_path
+decreases-new_bounds::words_and_path l = 512 * tokens l.p.now + 18
+
+abbrev pub decreases-new_bounds::opt_binder : goal.decreases-new_bounds::opt_binder
+decreases-new_bounds::opt_binder l = 512 * tokens l.p.now + 1
+
+abbrev pub decreases-new_params::new_param : goal.decreases-new_params::new_param
+decreases-new_params::new_param l = 512 * tokens l.p.now + 3
+
+abbrev pub decreases-new_params::const_param : goal.decreases-new_params::const_param
+decreases-new_params::const_param l = 512 * tokens l.p.now + 1
+
+abbrev pub decreases-new_params::inside_const_param : goal.decreases-new_params::inside_const_param
+decreases-new_params::inside_const_param l = 512 * tokens l.p.now
+
+abbrev pub decreases-new_params::const_default : goal.decreases-new_params::const_default
+decreases-new_params::const_default l = 512 * tokens l.p.now
+
+abbrev pub decreases-new_params::attributed_param : goal.decreases-new_params::attributed_param
+decreases-new_params::attributed_param l = 512 * tokens l.p.now + 2
+
+abbrev pub decreases-new_params::after_attributes : goal.decreases-new_params::after_attributes
+decreases-new_params::after_attributes l = 512 * tokens l.p.now + 3
+
+abbrev pub decreases-new_params::inside_type_param : goal.decreases-new_params::inside_type_param
+decreases-new_params::inside_type_param l = 512 * tokens l.p.now + 1
+
+abbrev pub decreases-const_args::expect_const_arg : goal.decreases-const_args::expect_const_arg
+decreases-const_args::expect_const_arg l = 512 * tokens l.p.now + 14
+
+abbrev pub decreases-const_args::const_arg : goal.decreases-const_args::const_arg
+decreases-const_args::const_arg l = 512 * tokens l.p.now + 13
+
+abbrev pub decreases-const_args::const_value : goal.decreases-const_args::const_value
+decreases-const_args::const_value l = 512 * tokens l.p.now + 12
+
+abbrev pub decreases-const_args::const_path : goal.decreases-const_args::const_path
+decreases-const_args::const_path l = 512 * tokens l.p.now + 11
+
+abbrev pub decreases-const_args::expr_path : goal.decreases-const_args::expr_path
+decreases-const_args::expr_path l = 512 * tokens l.p.now + 10
 
 abbrev pub decreases-generic_args::generic_arg : goal.decreases-generic_args::generic_arg
 decreases-generic_args::generic_arg l = 512 * tokens l.p.now + 25
@@ -747,7 +828,7 @@ decreases-generic_params::further_bounds-turns l = tokens l.p
 
 abbrev pub invariant-generic_params::further_preds-turns : goal.invariant-generic_params::further_preds-turns
 invariant-generic_params::further_preds-turns l = record {
-  goes : TurnsFrom l.condition (One 'comma' ▸ ⁅ WherePred ⁆) l.initial.p l.p;
+  goes : (c : Bool) → TurnsFrom c (One 'comma' ▸ ⁅ WherePred ⁆) l.initial.p l.p;
   left : tokens l.p ≤ tokens l.initial.p;
   looks : spent l.p ≤ spent l.initial.p;
 }

@@ -88,7 +88,7 @@ pub(crate) fn type_alias(p: &mut Parser<'_>, item: Marker, condition: bool)
     expect_name(p);
     opt_generic_params(p);
     bounds_after_colon(p);
-    opt_where_clause(p, condition);
+    opt_where_clause(p);
     opt_type_after(p, SyntaxKind::EQ);
     expect(p, SyntaxKind::SEMICOLON);
     complete(p, item, SyntaxKind::TYPE_ALIAS);

@@ -35,7 +35,7 @@ pub(crate) fn fn_item(p: &mut Parser<'_>, item: Marker, condition: bool)
     opt_generic_params(p);
     expect_params(p);
     opt_ret_type(p);
-    opt_where_clause(p, condition);
+    opt_where_clause(p);
     fn_body(p);
     complete(p, item, SyntaxKind::FN);
 }

@@ -34,7 +34,7 @@ pub(crate) fn at_named_member(p: &mut Parser<'_>) -> bool
 /// Returns `true` if a tuple field starts here: at an attribute, a visibility or a type.
 pub(crate) fn at_tuple_field(p: &mut Parser<'_>) -> bool
     ensures sees { (c : Bool) → Saw c (begins looks rows.typed) p.old result }
-    ensures peeks { Peeks 6 p.old p.new }
+    ensures peeks { Peeks 17 p.old p.new }
 {
     match current(p) {
         SyntaxKind::POUND | SyntaxKind::PUB_KW => true,

@@ -32,7 +32,7 @@ pub(crate) fn impl_item(p: &mut Parser<'_>, item: Marker, condition: bool)
     opt_generic_params(p);
     expect_type(p);
     opt_type_after(p, SyntaxKind::FOR_KW);
-    opt_where_clause(p, condition);
+    opt_where_clause(p);
     expect_assoc_items(p);
     complete(p, item, SyntaxKind::IMPL);
 }
@@ -50,7 +50,7 @@ pub(crate) fn trait_item(p: &mut Parser<'_>, item: Marker, condition: bool)
     expect_name(p);
     opt_generic_params(p);
     bounds_after_colon(p);
-    opt_where_clause(p, condition);
+    opt_where_clause(p);
     expect_assoc_items(p);
     complete(p, item, SyntaxKind::TRAIT);
 }

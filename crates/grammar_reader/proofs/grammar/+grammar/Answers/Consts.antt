@@ -39,7 +39,7 @@ unfolding look_of begins_below whole rule items statements expressions patterns 
 items::consts::opt_value-returns-else-at-clause-reads t c = reads-here (saw-so (c.at.ensures.sees c.args.condition) c.if-at.false and nothing) (reads-nothing _ c.at.ensures.peeks.same)
 
 pub items::consts::type_alias-complete-requires : goal.items::consts::type_alias-complete-requires
-items::consts::type_alias-complete-requires t c = (c.expect.ensures.reads true).does.innermost _ ((c.opt_type_after.ensures.reads true).does.innermost _ (c.opt_where_clause.ensures.reads.does.innermost _ ((c.bounds_after_colon.ensures.reads true).does.innermost _ ((c.opt_generic_params.ensures.reads true).does.innermost _ ((c.expect_name.ensures.reads true).does.innermost _ ((c.take.ensures.reads true).does.innermost _ c.requires.innermost))))))
+items::consts::type_alias-complete-requires t c = (c.expect.ensures.reads true).does.innermost _ ((c.opt_type_after.ensures.reads true).does.innermost _ ((c.opt_where_clause.ensures.reads true).does.innermost _ ((c.bounds_after_colon.ensures.reads true).does.innermost _ ((c.opt_generic_params.ensures.reads true).does.innermost _ ((c.expect_name.ensures.reads true).does.innermost _ ((c.take.ensures.reads true).does.innermost _ c.requires.innermost))))))
 
 pub items::consts::type_alias-returns-clause-completes : goal.items::consts::type_alias-returns-clause-completes
-items::consts::type_alias-returns-clause-completes t c = completes-wrap (reads-then _ (c.take.ensures.reads c.args.condition) (reads-then _ (c.expect_name.ensures.reads c.args.condition) (reads-then _ (c.opt_generic_params.ensures.reads c.args.condition) (reads-then _ (c.bounds_after_colon.ensures.reads c.args.condition) (reads-then _ c.opt_where_clause.ensures.reads (reads-then _ (c.opt_type_after.ensures.reads _) (c.expect.ensures.reads c.args.condition))))))) c.complete.ensures.closes
+items::consts::type_alias-returns-clause-completes t c = completes-wrap (reads-then _ (c.take.ensures.reads c.args.condition) (reads-then _ (c.expect_name.ensures.reads c.args.condition) (reads-then _ (c.opt_generic_params.ensures.reads c.args.condition) (reads-then _ (c.bounds_after_colon.ensures.reads c.args.condition) (reads-then _ (c.opt_where_clause.ensures.reads _) (reads-then _ (c.opt_type_after.ensures.reads _) (c.expect.ensures.reads c.args.condition))))))) c.complete.ensures.closes

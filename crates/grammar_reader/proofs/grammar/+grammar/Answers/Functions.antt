@@ -20,10 +20,10 @@ pub items::functions::fn_item-fn_words-requires : goal.items::functions::fn_item
 items::functions::fn_item-fn_words-requires t c = record { begins = c.requires.begins.sees; some = c.requires.begins.some }
 
 pub items::functions::fn_item-complete-requires : goal.items::functions::fn_item-complete-requires
-items::functions::fn_item-complete-requires t c = (c.fn_body.ensures.reads true).does.innermost _ (c.opt_where_clause.ensures.reads.does.innermost _ ((c.opt_ret_type.ensures.reads true).does.innermost _ ((c.expect_params.ensures.reads true).does.innermost _ ((c.opt_generic_params.ensures.reads true).does.innermost _ ((c.expect_name.ensures.reads true).does.innermost _ ((c.fn_words.ensures.reads true).does.innermost _ c.requires.innermost))))))
+items::functions::fn_item-complete-requires t c = (c.fn_body.ensures.reads true).does.innermost _ ((c.opt_where_clause.ensures.reads true).does.innermost _ ((c.opt_ret_type.ensures.reads true).does.innermost _ ((c.expect_params.ensures.reads true).does.innermost _ ((c.opt_generic_params.ensures.reads true).does.innermost _ ((c.expect_name.ensures.reads true).does.innermost _ ((c.fn_words.ensures.reads true).does.innermost _ c.requires.innermost))))))
 
 pub items::functions::fn_item-returns-clause-completes : goal.items::functions::fn_item-returns-clause-completes
-items::functions::fn_item-returns-clause-completes t c = completes-wrap (reads-three _ (c.fn_words.ensures.reads c.args.condition) (reads-then _ (c.expect_name.ensures.reads c.args.condition) (reads-then _ (c.opt_generic_params.ensures.reads c.args.condition) (reads-then _ (c.expect_params.ensures.reads c.args.condition) (reads-then _ (c.opt_ret_type.ensures.reads _) (reads-then _ c.opt_where_clause.ensures.reads (c.fn_body.ensures.reads c.args.condition))))))) c.complete.ensures.closes
+items::functions::fn_item-returns-clause-completes t c = completes-wrap (reads-three _ (c.fn_words.ensures.reads c.args.condition) (reads-then _ (c.expect_name.ensures.reads c.args.condition) (reads-then _ (c.opt_generic_params.ensures.reads c.args.condition) (reads-then _ (c.expect_params.ensures.reads c.args.condition) (reads-then _ (c.opt_ret_type.ensures.reads _) (reads-then _ (c.opt_where_clause.ensures.reads _) (c.fn_body.ensures.reads c.args.condition))))))) c.complete.ensures.closes
 
 pub items::functions::expect_params-returns-then-at-clause-reads : goal.items::functions::expect_params-returns-then-at-clause-reads
 unfolding look_of begins_below whole rule items statements expressions patterns types paths there_at shift passes is_silent begins in_mode anew row one_of any_of no_longer longest is_longer

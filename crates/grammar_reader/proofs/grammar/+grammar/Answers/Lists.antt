@@ -8,7 +8,7 @@ use Rattle.rust_grammar.specs.Expressions.{expressions}
 use Rattle.rust_grammar.specs.Items.{items, record_field, tuple_field, variant}
 use Rattle.rust_grammar.specs.Meaning.{begins_below, look_of}
 use Rattle.rust_grammar.specs.Notation.{any_of, is_longer, no_longer, longest, one_of, row}
-use Rattle.rust_grammar.specs.Paths.{paths}
+use Rattle.rust_grammar.specs.Paths.{captured, paths}
 use Rattle.rust_grammar.specs.Patterns.{patterns}
 use Rattle.rust_grammar.specs.Rule.{begins, in_mode, anew, is_silent, passes, shift, there_at}
 use Rattle.rust_grammar.specs.Statements.{statements}
@@ -91,6 +91,13 @@ lists::turn-returns-clause-asks t c = record {
   looks = omega (arith, c.at_element.ensures.peeks.looks, c.at_list_end.ensures.peeks.looks, c.at_unexpected.ensures.peeks.looks);
 }
 
+pub lists::read_element-captured-requires : goal.lists::read_element-captured-requires
+unfolding look_of begins_below whole rule items statements expressions patterns types paths there_at shift passes is_silent begins in_mode anew row one_of any_of no_longer longest is_longer
+lists::read_element-captured-requires t c = record { some = begun-left captured refl (subst (λ (e : Element). Saw false (begins looks (element_of e)) c.args.p.now true) c.in-Captured.is c.requires.begins) }
+
+pub lists::read_element-returns-in-Captured-clause-reads : goal.lists::read_element-returns-in-Captured-clause-reads
+lists::read_element-returns-in-Captured-clause-reads t c = subst (λ (e : Element). Reads false (element_of e) c.args.p.now c.captured.new.p) (sym c.in-Captured.is) (c.captured.ensures.reads false)
+
 pub lists::read_element-closure_param-requires : goal.lists::read_element-closure_param-requires
 lists::read_element-closure_param-requires t c =
     let seen = subst (λ (e : Element). Saw false (begins looks (element_of e)) c.args.p.now true) c.in-ClosureParam.is c.requires.begins in
@@ -128,7 +135,7 @@ unfolding look_of begins_below whole rule items statements expressions patterns 
 lists::read_element-generic_param-requires t c = (omega arith, begun-left (Call rules.generic_param) refl (subst (λ (e : Element). Saw false (begins looks (element_of e)) c.args.p.now true) c.in-GenericParam.is c.requires.begins))
 
 pub lists::read_element-returns-in-GenericParam-clause-reads : goal.lists::read_element-returns-in-GenericParam-clause-reads
-lists::read_element-returns-in-GenericParam-clause-reads t c = subst (λ (e : Element). Reads false (element_of e) c.args.p.now c.generic_param.new.p) (sym c.in-GenericParam.is) (reads-call false c.generic_param.ensures.gives)
+lists::read_element-returns-in-GenericParam-clause-reads t c = subst (λ (e : Element). Reads false (element_of e) c.args.p.now c.generic_param.new.p) (sym c.in-GenericParam.is) (reads-call false (c.generic_param.ensures.gives false))
 
 pub lists::read_element-param-requires : goal.lists::read_element-param-requires
 unfolding look_of begins_below whole rule items statements expressions patterns types paths there_at shift passes is_silent begins in_mode anew row one_of any_of no_longer longest is_longer

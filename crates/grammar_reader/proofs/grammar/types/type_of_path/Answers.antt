@@ -17,7 +17,7 @@ use Rattle.rust_productions.proofs.Facts.{nothing, saw-so, ◌and◌}
 use Rattle.grammar_reader.proofs.grammar.types.type_of_path.Goals as goal
 
 pub wrap-requires : goal.wrap-requires
-wrap-requires c = (c.expect_token_tree.ensures.reads true).does.innermost _ ((c.take.ensures.reads true).does.innermost _ (c.at_macro_call.ensures.peeks.same.innermost _ c.requires))
+wrap-requires c = (c.expect_token_tree.ensures.reads true).does.innermost _ ((c.take.ensures.reads true).does.innermost _ (c.at_macro_call.ensures.peeks.same.innermost _ c.requires.innermost))
 
 pub returns-then-at_macro_call-clause-reads : goal.returns-then-at_macro_call-clause-reads
 unfolding look_of begins_below whole rule items statements expressions patterns types paths there_at shift passes is_silent begins in_mode anew row one_of any_of no_longer longest is_longer
