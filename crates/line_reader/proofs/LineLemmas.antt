@@ -125,7 +125,7 @@ read-more limit input left known kept kept' unread unread' is_long is_long' is_b
       not_begun = λ e. absurd (cc);
     }
 
--- what a line that was read is told as
+-- the result for a line that was read
 told : (limit : ℕ) (front kept : List ℕ) (is_long : Bool) (known : Option (List ℕ)) (input rest : List ℕ) → IsFront limit front kept is_long →
     lines input ≡ front ∷ lines rest → known ≡ Some rest → TakesLine limit input known (if is_long then TooLong else Whole) kept
 told limit front kept true known input rest f is here = (front, rest, is, here, f)

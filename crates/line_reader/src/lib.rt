@@ -1,7 +1,7 @@
 //! Lines of an input, each of them bounded.
 //!
-//! A [`LineReader`] reads lines from any reader. A line that is longer than a limit is passed over
-//! and takes no memory.
+//! A [`LineReader`] reads lines from any reader. A line past a limit is skipped, and its bytes are
+//! not kept.
 #![tactic(auto)]
 
 mod reader;

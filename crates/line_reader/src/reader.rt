@@ -20,7 +20,7 @@ pub enum LineRead {
     End,
     /// A line within the limit.
     Whole,
-    /// A line past the limit, which was passed over.
+    /// A line past the limit, which is skipped.
     TooLong,
 }
 
@@ -69,7 +69,7 @@ fn append(
     line.extend_from_slice(part)
 }
 
-/// Returns what the end of a line is told as.
+/// Returns the result at the end of a line.
 fn line_read(is_long: bool) -> LineRead
     ensures { result ≡ (if is_long then TooLong else Whole) }
 {
@@ -153,7 +153,7 @@ impl<R: Read> LineReader<R> {
     }
 
     /// Reads the next line into `line`, without its line feed. A line of more than `limit` bytes is
-    /// passed over.
+    /// skipped.
     ///
     /// # Errors
     ///
