@@ -6,6 +6,8 @@ use crate::version::Version;
 use std::alloc::Global;
 use std::fs::{self, File, Metadata, OpenFile, OpenOptions};
 use std::io::{self, ErrorKind, Read, Write};
+use std::os::unix::fs::{MetadataExt, chown};
+use std::path::Path;
 use std::rt::Files;
 
 /// How many names are tried for a file beside another.
@@ -13,8 +15,9 @@ const NAMES: u32 = 100;
 
 /// The files of a file system.
 ///
-/// A write makes a new file beside the old one, syncs it and renames it over the old one, so at
-/// each moment the path has the old bytes or the new ones. The mode is kept, and a link stays a link.
+/// A write makes a new file beside the old one, syncs it, renames it over the old one and syncs the
+/// directory, so at each moment the path has the old bytes or the new ones. The mode is kept, owner
+/// and group as far as the system allows, and a link stays a link.
 pub struct Disk<'a, R: Files + AllocGlobal> {
     rt: &'a R,
 }
@@ -46,6 +49,29 @@ impl<'a, R: Files + AllocGlobal> Disk<'a, R> {
         Err(TargetError::Io(io::Error::from(ErrorKind::AlreadyExists)))
     }
 
+    /// Gives the file at `path` the owner and group of `metadata`, or the group alone, or neither, as
+    /// far as the system allows.
+    fn keep_owner(&self, path: &str, metadata: &Metadata) {
+        let (uid, gid) = (metadata.uid(), metadata.gid());
+        let is_same = match fs::metadata(self.rt, path) {
+            Ok(new) => (new.uid(), new.gid()) == (uid, gid),
+            Err(_) => false,
+        };
+        if !is_same && chown(self.rt, path, Some(uid), Some(gid)).is_err() {
+            let _ = chown(self.rt, path, None, Some(gid));
+        }
+    }
+
+    /// Syncs the directory of `path`, if the system can.
+    fn sync_directory(&self, path: &str) {
+        let Some(directory) = Path::new(path).parent() else {
+            return;
+        };
+        if let Ok(directory) = File::open(self.rt, directory) {
+            let _ = directory.sync_all();
+        }
+    }
+
     /// Gives `file` the mode of `metadata` and the bytes, and syncs it.
     fn fill(
         &self,
@@ -65,6 +91,7 @@ impl<'a, R: Files + AllocGlobal> Disk<'a, R> {
             return Err(TargetError::Changed);
         }
         fs::rename(self.rt, from, to)?;
+        self.sync_directory(to);
         Ok(())
     }
 }
@@ -95,6 +122,7 @@ impl<'a, R: Files + AllocGlobal> Target for Disk<'a, R> {
             return Err(TargetError::Changed);
         }
         let (file, beside) = self.create_beside(alloc, target)?;
+        self.keep_owner(beside.as_str(), &metadata);
         let written = match self.fill(file, &metadata, bytes) {
             Ok(()) => self.replace(beside.as_str(), target, version),
             Err(error) => Err(error),

@@ -1,13 +1,13 @@
 -- What the functions of an index return, from its starts.
-use Rattle.std.proofs.Common.{◌≡◌, ℕ, suc, ◌+◌, ◌-◌, ◌<◌, ◌≤◌, Bool, true, false, nat_le, nat_lt, Option, None, Some, List, length, get_or, take, drop, refl, ap, sym, add-one, ◌∙◌, arith, if◌then◌else◌, Bor, inl, inr, [], ◌∷◌, ◌++◌, append-nil, ◌^◌, length-take, length-drop}
-use Rattle.std.proofs.lemmas.List.{take_more, length-take-le}
+use Rattle.std.proofs.Common.{◌≡◌, ℕ, suc, ◌+◌, ◌-◌, ◌<◌, ◌≤◌, nat_le, Option, None, Some, List, length, get_or, take, drop, refl, ap, sym, add-one, ◌∙◌, arith, if◌then◌else◌, Bor, inl, inr, [], ◌∷◌, ◌++◌, append-nil, ◌^◌, length-take, length-drop}
+use Rattle.std.proofs.lemmas.List.{take_more, length-take-le, take-take, drop-take, take-append-drop, drop-drop}
 use Rattle.std.proofs.lemmas.Str.{IsUtf8-between}
 use Rattle.line_index.specs.declared.encoding.Encoding.{Encoding}
 use Rattle.line_index.specs.declared.line_col.LineCol.{LineCol}
 use Rattle.line_index.specs.Columns.{units, reach, floor, line_col, offset}
 use Rattle.line_index.proofs.Bytes.{starts_after-feed, starts_after-other}
-use Rattle.line_index.proofs.EncodeLemmas.{units-bound}
-use Rattle.std.specs.Prelude.{IsUtf8, IsCharBoundary, slice_range}
+use Rattle.line_index.proofs.EncodeLemmas.{units-append, units-bound}
+use Rattle.std.specs.Prelude.{IsUtf8, IsCharBoundary}
 use Rattle.std.specs.Option.{option_copied}
 use Rattle.std.specs.Slice.{IsItemAt}
 use Rattle.std.proofs.lemmas.Bool.{cases_lt, ltb-true, ltb-false, le-leb, lt-leb, eq-eqb, ne_eqb}
@@ -98,11 +98,39 @@ units-fit e text from to u small le f t =
     let b = units-bound e (take (to - from) (drop from text)) (IsUtf8-between text from to u le f t) in
     omega (arith, length-take (to - from) (drop from text), length-drop from text)
 
+-- the units of a part that is cut in two
+pub units-split : (e : Encoding) (text : List ℕ) (start mid to : ℕ) → start ≤ mid → mid ≤ to →
+    units e (take (to - start) (drop start text)) ≡ units e (take (mid - start) (drop start text)) + units e (take (to - mid) (drop mid text))
+units-split e text start mid to h k =
+    let a : ℕ = mid - start in
+    let b : ℕ = to - mid in
+    let xs : List ℕ = drop start text in
+    let all : to - start ≡ a + b = omega arith in
+    let whole : take a (take (a + b) xs) ++ drop a (take (a + b) xs) ≡ take (a + b) xs = take-append-drop a (take (a + b) xs) in
+    let front : take a (take (a + b) xs) ≡ take a xs = take-take a (a + b) xs (omega arith) in
+    let rest : drop a (take (a + b) xs) ≡ take b (drop a xs) = drop-take a b xs in
+    let at : start + a ≡ mid = omega arith in
+    let far : drop a xs ≡ drop mid text = drop-drop a start text ∙ ap (λ n. drop n text) at in
+    rw (all, ← whole, front, rest, far) (units-append e (take a xs) (take b (drop mid text)))
+
 -- the place of an offset, from its parts
 pub line_col-from : (e : Encoding) (text : List ℕ) (n at line start col : ℕ) → at ≡ floor text n → line ≡ feeds (take at text) →
     start ≡ line_start line text → col ≡ units e (take (at - start) (drop start text)) →
     ◌≡◌ {A = LineCol} (record { line = line; col = col }) (line_col e text n)
 line_col-from e text n at line start col is-at is-line is-start is-col = rw (is-col, is-start, is-line, is-at) refl
+
+-- a column is counted on from a known place of the same line
+pub col-on : (e : Encoding) (text : List ℕ) (n known at : ℕ) (p : LineCol) → known ≡ floor text n → p ≡ line_col e text n →
+    feeds (take at text) ≡ p.line → known ≤ at → at ≤ length text →
+    p.col + units e (take (at - known) (drop known text)) ≡ units e (take (at - line_start (feeds (take at text)) text) (drop (line_start (feeds (take at text)) text) text))
+col-on e text n known at p is-known is-p same h k =
+    let line : ℕ = feeds (take known text) in
+    let start : ℕ = line_start line text in
+    let is-line : p.line ≡ line = ap (λ q. LineCol.line q) is-p ∙ ap (λ m. feeds (take m text)) (sym is-known) in
+    let is-col : p.col ≡ units e (take (known - start) (drop start text)) =
+    ap (λ q. LineCol.col q) is-p ∙ ap (λ m. units e (take (m - line_start (feeds (take m text)) text) (drop (line_start (feeds (take m text)) text) text))) (sym is-known) in
+    let from : start ≤ known = starts_before line known text (omega arith) (omega arith) in
+    rw (same ∙ is-line, is-col) (sym (units-split e text start known at from h))
 
 -- the offset of a place, from its parts
 pub offset-from : (e : Encoding) (text : List ℕ) (p : LineCol) (start end found at : ℕ) → p.line ≤ feeds text →

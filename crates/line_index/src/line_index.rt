@@ -127,6 +127,34 @@ impl<'a> LineIndex<'a> {
         }
     }
 
+    /// Returns the line and column of `offset`, counted on from a known place.
+    ///
+    /// If both are on one line, and `offset` is not before `from`, only the bytes between them are
+    /// counted.
+    pub fn line_col_from(
+        &self,
+        encoding: Encoding,
+        from: usize,
+        place: LineCol,
+        offset: usize,
+    ) -> LineCol
+        requires { place ≡ line_col encoding self.now from }
+        ensures { result ≡ line_col encoding self.now offset }
+    {
+        let text = self.text();
+        let known = text.floor_char_boundary(from);
+        let to = text.floor_char_boundary(offset);
+        let line = self.line_of(to);
+        if line != place.line || to < known {
+            return self.line_col(encoding, offset);
+        }
+        let between = units(encoding, &text.as_bytes()[known..to]);
+        LineCol {
+            line,
+            col: place.col + between,
+        }
+    }
+
     /// Returns the offset of a line and column.
     ///
     /// A line past the last one leads to the end of the text, a column past the end of its line to

@@ -46,6 +46,20 @@ fn are_places(index: &LineIndex<'_>) -> bool {
     })
 }
 
+/// Returns `true` if counting on from each place to each other one leads to that one's columns.
+fn are_counted_on(index: &LineIndex<'_>) -> bool {
+    PLACES.iter().all(|(from, _, _)| {
+        let known = index.line_col(Encoding::Utf16, *from);
+        PLACES.iter().all(|(offset, line, cols)| {
+            index.line_col_from(Encoding::Utf16, *from, known, *offset)
+                == LineCol {
+                    line: *line,
+                    col: cols[1],
+                }
+        })
+    })
+}
+
 fn are_rounded(index: &LineIndex<'_>) -> bool {
     ROUNDED.iter().all(|(offset, as_offset)| {
         index.line_col(Encoding::Utf16, *offset) == index.line_col(Encoding::Utf16, *as_offset)
@@ -87,6 +101,7 @@ fn index_of(alloc: Global, text: &str) -> Result<LineIndex<'_>, AllocError> {
 fn places_are_as_worked_by_hand(rt: HostRuntime) -> Result<(), Fail> {
     let index = index_of(rt.alloc(), TEXT)?;
     let is_right = are_places(&index)
+        & are_counted_on(&index)
         & are_rounded(&index)
         & are_clamped(&index)
         & are_lines(&index);

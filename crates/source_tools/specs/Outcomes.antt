@@ -27,9 +27,9 @@ pub data Outcome : Type 0 where
 
 -- Messages count where they are shown.
 abbrev pub has_messages : View → Edition → List ℕ → Bool
-has_messages Messages edition text = not (length (messages edition (chars text)) == 0)
-has_messages Tokens edition text = false
-has_messages Tree edition text = false
+has_messages (Messages format) edition text = not (length (messages edition (chars text)) == 0)
+has_messages (Tokens format) edition text = false
+has_messages (Tree format) edition text = false
 
 -- what becomes of a text
 abbrev pub viewed : View → List ℕ → Edition → List ℕ → Outcome

@@ -1,5 +1,5 @@
 -- What is shown of a text: messages, tokens or the tree.
-use Rattle.std.specs.Prelude.{ℕ, ◌-◌, List, [], ◌∷◌, ◌++◌, chars, codes, length, slice_range, take}
+use Rattle.std.specs.Prelude.{ℕ, suc, ◌-◌, List, [], ◌∷◌, ◌++◌, chars, codes, length, slice_range, take}
 use Rattle.std.specs.List.{flat_map}
 use Rattle.rowan_green.specs.declared.utility_types.NodeOrToken.TheVariants.{Node, Token}
 use Rattle.rowan.specs.Place.{kind_at, text_at, start_of, end_of}
@@ -12,6 +12,11 @@ use Rattle.rust_document.specs.Reading.{Message, messages, tree}
 use Rattle.rust_document.specs.Tokens.{Span, tokens_of}
 use Rattle.source_tools.specs.Rows.{message_rows, range_text, token_row, quoted}
 use Rattle.source_tools.specs.Words.{kind_name, words}
+use Rattle.line_index.specs.declared.encoding.Encoding.TheVariants.{Utf32}
+use Rattle.line_index.specs.Columns.{line_col}
+use Rattle.source_tools.specs.Json.{message_item, token_item, element_item, file_object}
+use Rattle.source_tools.specs.declared.view.Format.{Format}
+use Rattle.source_tools.specs.declared.view.Format.TheVariants.{Text, Json}
 use Rattle.source_tools.specs.declared.view.View.{View}
 use Rattle.source_tools.specs.declared.view.View.TheVariants.{Messages, Tokens, Tree}
 
@@ -45,9 +50,42 @@ tree_rows margin [] = []
 tree_rows margin (Enter c ∷ events) = (margin ++ row_of_element c) ++ tree_rows (inner margin) events
 tree_rows margin (Leave c ∷ events) = tree_rows (outer margin) events
 
+-- ---- items of a list in JSON
+
+abbrev pub item_of_message : List ℕ → Message → List ℕ
+item_of_message text m = message_item (line_col Utf32 text m.0) m.0 (words m.1)
+
+abbrev pub item_of_token : Span → List ℕ
+item_of_token t = token_item (kind_name t.kind) t.start t.end
+
+abbrev pub item_of_element : ℕ → Cursor → List ℕ
+item_of_element depth c = element_item depth (kind_name (kind_at (place_in c))) (start_of (place_in c)) (end_of (place_in c))
+
+-- an item for each element that is entered, with the number of the nodes around it
+abbrev pub tree_items : ℕ → List Event → List ℕ
+tree_items depth [] = []
+tree_items depth (Enter c ∷ events) = item_of_element depth c ++ tree_items (suc depth) events
+tree_items depth (Leave c ∷ events) = tree_items (depth - 1) events
+
+-- ---- a text in each view
+
+abbrev pub events_of : Edition → List ℕ → List Event
+events_of edition text = walk (Node (element_at 0 (tree edition (chars text)) []).place)
+
+abbrev pub message_view : Format → List ℕ → Edition → List ℕ → List ℕ
+message_view Text path edition text = flat_map (rows_of_message path text) (messages edition (chars text))
+message_view Json path edition text = file_object path (codes "messages") (flat_map (item_of_message text) (messages edition (chars text)))
+
+abbrev pub token_view : Format → List ℕ → Edition → List ℕ → List ℕ
+token_view Text path edition text = flat_map (row_of_token text) (tokens_of edition (chars text))
+token_view Json path edition text = file_object path (codes "tokens") (flat_map item_of_token (tokens_of edition (chars text)))
+
+abbrev pub tree_view : Format → List ℕ → Edition → List ℕ → List ℕ
+tree_view Text path edition text = tree_rows [] (events_of edition text)
+tree_view Json path edition text = file_object path (codes "tree") (tree_items 0 (events_of edition text))
+
 -- what is shown of a text
 unfoldable pub rows_of : View → List ℕ → Edition → List ℕ → List ℕ
-rows_of Messages path edition text = flat_map (rows_of_message path text) (messages edition (chars text))
-rows_of Tokens path edition text = flat_map (row_of_token text) (tokens_of edition (chars text))
-rows_of Tree path edition text =
-    tree_rows [] (walk (Node (element_at 0 (tree edition (chars text)) []).place))
+rows_of (Messages format) path edition text = message_view format path edition text
+rows_of (Tokens format) path edition text = token_view format path edition text
+rows_of (Tree format) path edition text = tree_view format path edition text

@@ -30,7 +30,11 @@ pub fn text_of(bytes: &[u8]) -> Option<&str>
 }
 
 /// Returns `text` as bytes, behind the byte order mark of `old` if that has one.
-pub(crate) fn encode(alloc: Global, old: &[u8], text: &str) -> Result<Vec<u8>, AllocError>
+///
+/// # Errors
+///
+/// Out of memory.
+pub fn encode(alloc: Global, old: &[u8], text: &str) -> Result<Vec<u8>, AllocError>
     ensures { IfOk result (λ bytes. bytes.items ≡ encoded old.now text.now) }
 {
     let mut bytes = Vec::new(alloc);

@@ -3,6 +3,7 @@
 
 mod decode;
 mod diffs;
+mod json;
 mod messages;
 mod plan;
 mod rename;
@@ -16,7 +17,7 @@ mod tree;
 mod view;
 mod writes;
 
-pub use decode::text_of;
+pub use decode::{encode, text_of};
 pub use diffs::write_diffs;
 pub use plan::{RenameFailure, plan_renames};
 pub use rename::{RenameStop, rename_files};
@@ -24,7 +25,7 @@ pub use renaming::{RenameFault, Renaming, rename_bytes};
 pub use show_files::{Stop, show};
 pub use source::{FileError, FileFault, Source};
 pub use summary::Summary;
-pub use view::{FileView, View, view_bytes, view_file};
+pub use view::{FileView, Format, View, view_bytes, view_file};
 pub use writes::{FileChange, WriteFault, write_changes};
 
 #[cfg(test)]

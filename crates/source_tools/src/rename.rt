@@ -15,7 +15,7 @@ use std::alloc::Global;
 pub enum RenameStop {
     /// A file cannot be renamed in. No file is written.
     RefusedFile(RenameFailure),
-    /// The file at the path could not be written. Those before it are written.
+    /// The file at the path could not be written. Those before it, if there are any, are written.
     Unwritten(String, TargetError),
 }
 
@@ -25,7 +25,7 @@ pub enum RenameStop {
 /// # Errors
 ///
 /// - [`RenameStop::RefusedFile`] if a file cannot be renamed in; then no file is written.
-/// - [`RenameStop::Unwritten`] if a file cannot be written; those before it are written.
+/// - [`RenameStop::Unwritten`] if a file cannot be written; those before it, if there are any, are written.
 pub fn rename_files<T: Target>(
     alloc: Global,
     renaming: &Renaming<'_>,

@@ -2,6 +2,8 @@
 
 ghost use Rattle.std.specs.Prelude.{◌≡◌, ◌≤◌, ◌<◌, ◌+◌, ◌^◌, ◌++◌, OnOk, IfOk, length, take, string_bytes, codes};
 ghost use Rattle.std.specs.List.{flat_map};
+ghost use Rattle.line_index.specs.declared.encoding.Encoding.TheVariants.{Utf32};
+ghost use Rattle.line_index.specs.Columns.{line_col};
 ghost use Rattle.line_index.specs.Lines.{feeds};
 ghost use Rattle.source_tools.specs.Rows.{below, escaped, excerpt, message_rows, quoted, range_text, row, token_row};
 
@@ -53,6 +55,8 @@ fn row_of(alloc: Global, path: &str, place: LineCol, words: &str) -> Result<Stri
 #[derive(Drop)]
 pub(crate) struct Message<'a> {
     pub(crate) offset: usize,
+    /// The line and column of the offset, in characters.
+    pub(crate) place: LineCol,
     pub(crate) words: &'a str,
 }
 
@@ -64,11 +68,12 @@ pub(crate) fn push_message(
     message: &Message<'_>,
     rows: &mut Vec<u8>,
 ) -> Result<(), AllocError>
-    requires { length index.now < 2 ^ 32 }
+    requires text { length index.now < 2 ^ 32 }
+    requires place { message.now.place ≡ line_col Utf32 index.now message.now.offset }
     ensures { OnOk result (rows.new.items ≡ rows.old.items
         ++ message_rows path.now index.now message.now.offset message.now.words.now) }
 {
-    let place = index.line_col(Encoding::Utf32, message.offset);
+    let place = message.place;
     let byte = index.line_col(Encoding::Utf8, message.offset);
     let Some(line) = index.line(place.line) else {
         unreachable!()

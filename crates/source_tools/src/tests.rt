@@ -1,8 +1,8 @@
 //! Files in memory, also where a read or a write fails.
 
 use crate::{
-    FileError, RenameFault, RenameStop, Renaming, Source, Stop, Summary, View, plan_renames,
-    rename_files, show, write_diffs,
+    FileError, Format, RenameFault, RenameStop, Renaming, Source, Stop, Summary, View,
+    plan_renames, rename_files, show, write_diffs,
 };
 use file_target::{Contents, Memory, Target, TargetError, Version};
 use parser_input::Edition;
@@ -36,10 +36,10 @@ fn show_four(alloc: Global, view: View, output: &mut Vec<u8>) -> Result<Summary,
 fn messages_have_places(rt: HostRuntime) -> Result<(), Fail> {
     let alloc = rt.alloc();
     let mut output = Vec::new(alloc);
-    let summary = match show_four(alloc, View::Messages, &mut output) {
+    let summary = match show_four(alloc, View::Messages(Format::Text), &mut output) {
         Err(Stop::NoMemory) => {
             output.clear();
-            show_four(alloc, View::Messages, &mut output)?
+            show_four(alloc, View::Messages(Format::Text), &mut output)?
         }
         answer => answer?,
     };
@@ -66,14 +66,50 @@ fn shown(alloc: Global, view: View, text: &str) -> Result<Vec<u8>, Stop> {
 #[test]
 fn tokens_and_trees_have_rows(rt: HostRuntime) -> Result<(), Fail> {
     let alloc = rt.alloc();
-    let tokens = shown(alloc, View::Tokens, "struct\tS;")?;
+    let tokens = shown(alloc, View::Tokens(Format::Text), "struct\tS;")?;
     let expected =
         "STRUCT_KW@0..6 \"struct\"\nWHITESPACE@6..7 \"\\t\"\nIDENT@7..8 \"S\"\nSEMICOLON@8..9 \";\"\n";
     assert!(rt; tokens.as_slice() == expected.as_bytes());
-    let tree = shown(alloc, View::Tree, "mod a;")?;
+    let tree = shown(alloc, View::Tree(Format::Text), "mod a;")?;
     let expected = "SOURCE_FILE@0..6\n  MODULE@0..6\n    MOD_KW@0..3 \"mod\"\n    \
         WHITESPACE@3..4 \" \"\n    NAME@4..5\n      IDENT@4..5 \"a\"\n    SEMICOLON@5..6 \";\"\n";
     assert!(rt; tree.as_slice() == expected.as_bytes());
+    Ok(())
+}
+
+/// Each view as JSON.
+const OBJECTS: [(View, &str, &str); 4] = [
+    (
+        View::Messages(Format::Json),
+        "fn f() {\n let \u{e9} = ;}",
+        "{\"path\":\"a.rs\",\"messages\":[{\"line\":2,\"column\":9,\"offset\":18,\
+        \"message\":\"expected an expression\"}]}\n",
+    ),
+    (
+        View::Messages(Format::Json),
+        "mod a;",
+        "{\"path\":\"a.rs\",\"messages\":[]}\n",
+    ),
+    (
+        View::Tokens(Format::Json),
+        "S\t",
+        "{\"path\":\"a.rs\",\"tokens\":[{\"kind\":\"IDENT\",\"start\":0,\"end\":1},\
+        {\"kind\":\"WHITESPACE\",\"start\":1,\"end\":2}]}\n",
+    ),
+    (
+        View::Tree(Format::Json),
+        " ",
+        "{\"path\":\"a.rs\",\"tree\":[{\"depth\":0,\"kind\":\"SOURCE_FILE\",\"start\":0,\"end\":1},\
+        {\"depth\":1,\"kind\":\"WHITESPACE\",\"start\":0,\"end\":1}]}\n",
+    ),
+];
+
+#[test]
+fn views_have_objects(rt: HostRuntime) -> Result<(), Fail> {
+    for (view, text, expected) in OBJECTS.iter() {
+        let shown = shown(rt.alloc(), *view, text)?;
+        assert!(rt; shown.as_slice() == expected.as_bytes());
+    }
     Ok(())
 }
 

@@ -1,12 +1,10 @@
 //! The tree of a document as rows.
 
-ghost use Rattle.std.specs.Prelude.{◌≡◌, [], ◌++◌, OnOk, chars};
-ghost use Rattle.rowan_green.specs.declared.utility_types.NodeOrToken.TheVariants.{Node};
-ghost use Rattle.rowan.specs.Walk.{walk};
-ghost use Rattle.syntax_tree.specs.Element.{element_at};
-ghost use Rattle.rust_document.specs.Reading.{tree};
-ghost use Rattle.source_tools.specs.Texts.{outer, row_of_element, tree_rows};
+ghost use Rattle.std.specs.Prelude.{◌≡◌, [], ◌++◌, OnOk, codes};
+ghost use Rattle.source_tools.specs.Json.{file_object};
+ghost use Rattle.source_tools.specs.Texts.{events_of, item_of_element, outer, row_of_element, tree_items, tree_rows};
 
+use crate::json::{ElementPlace, push_element_item, push_object};
 use crate::rows::{push_range, push_text};
 use rowan::{ElementExt, SyntaxElement, WalkEvent};
 use rowan_green::NodeOrToken;
@@ -39,8 +37,8 @@ pub(crate) fn push_tree(
     document: &Document,
     rows: &mut Vec<u8>,
 ) -> Result<(), AllocError>
-    ensures { OnOk result (rows.new.items ≡ rows.old.items ++ tree_rows []
-        (walk (Node (element_at 0 (tree document.now.edition (chars document.now.text)) []).place))) }
+    ensures { OnOk result (rows.new.items ≡ rows.old.items
+        ++ tree_rows [] (events_of document.now.edition document.now.text)) }
 {
     let mut margin = Vec::new(alloc);
     let mut events = document.root().cursor().preorder_with_tokens(alloc)?;
@@ -54,5 +52,59 @@ pub(crate) fn push_tree(
             WalkEvent::Leave(_) => margin.truncate(margin.len().saturating_sub(2)),
         }
     }
+    Ok(())
+}
+
+/// Appends the item of an element that has `depth` nodes around it.
+fn push_item(
+    alloc: Global,
+    depth: usize,
+    element: &SyntaxElement<RustLanguage>,
+    items: &mut Vec<u8>,
+) -> Result<(), AllocError>
+    ensures { OnOk result (items.new.items ≡ items.old.items ++ item_of_element depth element.now) }
+{
+    let range = element.text_range();
+    let place = ElementPlace {
+        depth,
+        start: usize::from(range.start()),
+        end: usize::from(range.end()),
+    };
+    push_element_item(alloc, element.kind().name(), place, items)?;
+    Ok(())
+}
+
+/// Appends an item for each element of the tree of `document`, a node before what is in it.
+fn push_items(alloc: Global, document: &Document, items: &mut Vec<u8>) -> Result<(), AllocError>
+    ensures { OnOk result (items.new.items ≡ items.old.items
+        ++ tree_items 0 (events_of document.now.edition document.now.text)) }
+{
+    let mut levels: Vec<u8> = Vec::new(alloc);
+    let mut events = document.root().cursor().preorder_with_tokens(alloc)?;
+    'events: while let Some(event) = events.next() {
+        match event? {
+            WalkEvent::Enter(element) => {
+                push_item(alloc, levels.as_slice().len(), &element, items)?;
+                levels.push(0)?;
+            }
+            WalkEvent::Leave(_) => levels.truncate(levels.as_slice().len().saturating_sub(1)),
+        }
+    }
+    Ok(())
+}
+
+/// Appends the object of the tree of `document`.
+pub(crate) fn push_tree_list(
+    alloc: Global,
+    path: &str,
+    document: &Document,
+    rows: &mut Vec<u8>,
+) -> Result<(), AllocError>
+    ensures { OnOk result (rows.new.items ≡ rows.old.items ++ file_object path.now (codes "tree")
+        (tree_items 0 (events_of document.now.edition document.now.text))) }
+{
+    let mut items = Vec::new(alloc);
+    push_items(alloc, document, &mut items)?;
+    push_object(alloc, path, "tree", items.as_slice(), rows)?;
     Ok(())
 }

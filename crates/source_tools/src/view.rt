@@ -1,29 +1,38 @@
 //! What is shown of a text.
 
-ghost use Rattle.std.specs.Prelude.{◌≡◌, IfOk, IfSome};
-ghost use Rattle.source_tools.specs.Texts.{rows_of};
+ghost use Rattle.std.specs.Prelude.{◌≡◌, ◌++◌, IfOk, IfSome, OnOk};
+ghost use Rattle.source_tools.specs.Texts.{message_view, rows_of, token_view, tree_view};
 ghost use Rattle.source_tools.specs.Outcomes.{IsOutcome, has_messages, outcome_in, outcome_of, viewed};
 
 use crate::decode::text_of;
-use crate::messages::push_messages;
+use crate::messages::{push_message_list, push_messages};
 use crate::source::{FileError, Source};
-use crate::tokens::push_tokens;
-use crate::tree::push_tree;
+use crate::tokens::{push_token_list, push_tokens};
+use crate::tree::{push_tree, push_tree_list};
 use file_target::{Target, TargetError};
 use parser_input::Edition;
 use rust_document::{Document, OpenError};
 use std::alloc::{AllocError, Global};
 use syntax_tree::TreeIds;
 
+/// How a text is shown.
+#[derive(Clone, Copy, Debug, PartialEq, Eq, Drop)]
+pub enum Format {
+    /// Rows of text.
+    Text,
+    /// An object in JSON, on a line of its own.
+    Json,
+}
+
 /// What is shown of a text.
 #[derive(Clone, Copy, Debug, PartialEq, Eq, Drop)]
 pub enum View {
     /// Its messages, with their lines.
-    Messages,
+    Messages(Format),
     /// Its tokens, a row each.
-    Tokens,
+    Tokens(Format),
     /// Its tree, a row for each element.
-    Tree,
+    Tree(Format),
 }
 
 /// The rows that are shown of a file.
@@ -32,6 +41,57 @@ pub struct FileView {
     pub rows: Vec<u8>,
     /// The view is of messages, and there are some.
     pub has_messages: bool,
+}
+
+/// Appends the messages of `document` in a format.
+fn push_message_view(
+    alloc: Global,
+    format: Format,
+    path: &str,
+    document: &Document,
+    rows: &mut Vec<u8>,
+) -> Result<(), AllocError>
+    ensures { OnOk result (rows.new.items ≡ rows.old.items
+        ++ message_view format path.now document.now.edition document.now.text) }
+{
+    match format {
+        Format::Text => push_messages(alloc, path, document, rows),
+        Format::Json => push_message_list(alloc, path, document, rows),
+    }
+}
+
+/// Appends the tokens of `document` in a format.
+fn push_token_view(
+    alloc: Global,
+    format: Format,
+    path: &str,
+    document: &Document,
+    rows: &mut Vec<u8>,
+) -> Result<(), AllocError>
+    ensures { OnOk result (rows.new.items ≡ rows.old.items
+        ++ token_view format path.now document.now.edition document.now.text) }
+{
+    match format {
+        Format::Text => push_tokens(alloc, document, rows),
+        Format::Json => push_token_list(alloc, path, document, rows),
+    }
+}
+
+/// Appends the tree of `document` in a format.
+fn push_tree_view(
+    alloc: Global,
+    format: Format,
+    path: &str,
+    document: &Document,
+    rows: &mut Vec<u8>,
+) -> Result<(), AllocError>
+    ensures { OnOk result (rows.new.items ≡ rows.old.items
+        ++ tree_view format path.now document.now.edition document.now.text) }
+{
+    match format {
+        Format::Text => push_tree(alloc, document, rows),
+        Format::Json => push_tree_list(alloc, path, document, rows),
+    }
 }
 
 /// Returns the rows that are shown of `document`.
@@ -46,9 +106,9 @@ fn rows_of(
 {
     let mut rows = Vec::new(alloc);
     match view {
-        View::Messages => push_messages(alloc, path, document, &mut rows)?,
-        View::Tokens => push_tokens(alloc, document, &mut rows)?,
-        View::Tree => push_tree(alloc, document, &mut rows)?,
+        View::Messages(format) => push_message_view(alloc, format, path, document, &mut rows)?,
+        View::Tokens(format) => push_token_view(alloc, format, path, document, &mut rows)?,
+        View::Tree(format) => push_tree_view(alloc, format, path, document, &mut rows)?,
     }
     Ok(rows)
 }
@@ -58,8 +118,8 @@ fn has_messages(view: View, document: &Document) -> bool
     ensures { result ≡ has_messages view document.now.edition document.now.text }
 {
     match view {
-        View::Messages => !document.errors().is_empty(),
-        View::Tokens | View::Tree => false,
+        View::Messages(_) => !document.errors().is_empty(),
+        View::Tokens(_) | View::Tree(_) => false,
     }
 }
 

@@ -31,7 +31,7 @@ impl Drop for FileChange {
 
 impl FileChange {
     /// Returns the path.
-    pub(crate) fn into_path(self) -> String
+    pub fn into_path(self) -> String
         ensures { result ≡ self.path }
     {
         let FileChange {
@@ -44,7 +44,7 @@ impl FileChange {
     }
 }
 
-/// A file that could not be written, and why. The files of the changes before it are written.
+/// A file that could not be written, and why. The files of the changes before it, if there are any, are written.
 #[derive(Debug, Drop)]
 pub struct WriteFault {
     /// The index of the change.

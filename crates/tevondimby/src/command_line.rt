@@ -13,6 +13,8 @@ links in it are not followed. A file's edition is that of `--edition`, or else o
 The exit status is 0, or 1 if `check` prints messages, or 2 after a fault: a file that cannot be read \
 is named on standard error, and the others are still read.";
 
+const JSON: &str = "Prints an object in JSON for each file, on a line of its own";
+
 const RENAME: &str = "\
 Renames each identifier OLD to NEW, in macro calls too. These are tokens: scopes, names in format \
 strings and names that macros make are not followed.
@@ -44,6 +46,7 @@ fn files<'a>(alloc: Global) -> Arg<'a> {
 fn reading<'a>(alloc: Global, name: &'a str, about: &'a str) -> Result<Command<'a>, AllocError> {
     Command::new(alloc, name)
         .about(about)
+        .arg(flag(alloc, "json", JSON))?
         .arg(edition(alloc))?
         .arg(files(alloc))
 }

@@ -6,6 +6,7 @@ mod edition_of;
 mod inputs;
 mod run;
 mod source_list;
+mod view;
 
 use std::process::ExitCode;
 

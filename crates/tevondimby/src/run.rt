@@ -4,20 +4,24 @@ use crate::command_line::command;
 use crate::edition_of::edition_named;
 use crate::inputs::Inputs;
 use crate::source_list::{SourceList, source_list};
+use crate::view::view;
 use anyhow::Result;
 use clap::ArgMatches;
 use source_tools::{
-    FileFault, RenameFailure, RenameStop, Renaming, Source, View, plan_renames, rename_files, show,
+    Format, RenameFailure, RenameStop, Renaming, Source, View, plan_renames, rename_files,
     write_diffs,
 };
 use std::alloc::AllocError;
 use std::env;
 
 /// The exit status after a fault.
-const FAULT: u8 = 2;
+pub(crate) const FAULT: u8 = 2;
 
 /// Returns the files of a command.
-fn files_of(rt: &HostRuntime, matches: &ArgMatches<'_>) -> Result<SourceList, AllocError> {
+pub(crate) fn files_of(
+    rt: &HostRuntime,
+    matches: &ArgMatches<'_>,
+) -> Result<SourceList, AllocError> {
     let edition = match matches.get_str("edition") {
         Some(name) => edition_named(name),
         None => None,
@@ -29,35 +33,11 @@ fn files_of(rt: &HostRuntime, matches: &ArgMatches<'_>) -> Result<SourceList, Al
 }
 
 /// Returns the path of the source with this index.
-fn path_of(sources: &[Source], index: usize) -> &str {
+pub(crate) fn path_of(sources: &[Source], index: usize) -> &str {
     match sources.get(index) {
         Some(source) => source.path.as_str(),
         None => "",
     }
-}
-
-/// Names the files that are left out.
-fn report(rt: &HostRuntime, sources: &[Source], faults: &[FileFault]) {
-    for fault in faults {
-        let path = path_of(sources, fault.index);
-        let error = &fault.error;
-        let _ = eprintln!(rt; "tevondimby: {path}: {error}");
-    }
-}
-
-/// Shows files.
-fn view(rt: &HostRuntime, view: View, matches: &ArgMatches<'_>) -> Result<u8> {
-    let list = files_of(rt, matches)?;
-    let inputs = Inputs::new(rt);
-    let sources = list.sources.as_slice();
-    let mut output = rt.stdout();
-    let summary = show(rt.alloc(), view, &inputs, sources, &mut output)?;
-    report(rt, sources, summary.faults.as_slice());
-    Ok(if list.has_faults {
-        FAULT
-    } else {
-        summary.status()
-    })
 }
 
 /// Names the file that stopped a renaming.
@@ -68,7 +48,9 @@ fn report_stop(rt: &HostRuntime, sources: &[Source], stop: &RenameStop) {
             let _ = eprintln!(rt; "tevondimby: {path}: {fault}; no file is written");
         }
         RenameStop::Unwritten(path, error) => {
-            let _ = eprintln!(rt; "tevondimby: {path}: {error}; the files before it are written");
+            let _ = eprintln!(rt;
+                "tevondimby: {path}: {error}; files before it, if any, are written"
+            );
         }
     }
 }
@@ -109,6 +91,15 @@ fn rename(rt: &HostRuntime, matches: &ArgMatches<'_>) -> Result<u8> {
     }
 }
 
+/// Returns the format that the flags ask for.
+fn format_of(matches: &ArgMatches<'_>) -> Format {
+    if matches.get_flag("json") {
+        Format::Json
+    } else {
+        Format::Text
+    }
+}
+
 /// Runs the command of the command line. Returns its exit status.
 pub(crate) fn run(rt: &HostRuntime) -> Result<u8> {
     let alloc = rt.alloc();
@@ -121,9 +112,9 @@ pub(crate) fn run(rt: &HostRuntime) -> Result<u8> {
         }
     };
     match matches.subcommand() {
-        Some(("check", matches)) => view(rt, View::Messages, matches),
-        Some(("tokens", matches)) => view(rt, View::Tokens, matches),
-        Some(("tree", matches)) => view(rt, View::Tree, matches),
+        Some(("check", matches)) => view(rt, View::Messages(format_of(matches)), matches),
+        Some(("tokens", matches)) => view(rt, View::Tokens(format_of(matches)), matches),
+        Some(("tree", matches)) => view(rt, View::Tree(format_of(matches)), matches),
         Some(("rename", matches)) => rename(rt, matches),
         _ => Ok(FAULT),
     }

@@ -6,5 +6,5 @@ use Rattle.source_tools.proofs.messages.push_error.Goals as goal
 pub returns : goal.returns
 returns c =
     c.in_ok-push_message.ensures
-    ∙ ap (λ (said : List ℕ). c.args.rows.now.items ++ message_rows c.args.path.now c.args.index.now c.args.error.offset said)
-    (c.as_str.ensures.value ∙ c.in_ok-words.ensures.ok ∙ words-are c.args.error.message)
+    ∙ ap (λ (said : List ℕ). c.args.rows.now.items ++ message_rows c.args.path.now c.args.index.now c.args.placed.now.error.offset said)
+    (c.as_str.ensures.value ∙ c.in_ok-words.ensures.ok ∙ words-are c.args.placed.now.error.message)

@@ -1,0 +1,45 @@
+//! Files are shown.
+
+use crate::inputs::Inputs;
+use crate::run::{FAULT, files_of, path_of};
+use anyhow::Result;
+use clap::ArgMatches;
+use source_tools::{FileFault, Source, View, show};
+use std::io::IsTerminal;
+
+/// How many files are shown before the line of progress is written again.
+const STEP: usize = 100;
+
+/// Names the files that are left out.
+fn report(rt: &HostRuntime, sources: &[Source], faults: &[FileFault]) {
+    for fault in faults {
+        let path = path_of(sources, fault.index);
+        let error = &fault.error;
+        let _ = eprintln!(rt; "tevondimby: {path}: {error}");
+    }
+}
+
+/// Writes a line of progress on a terminal, over the last one.
+fn write_progress(rt: &HostRuntime, shown: usize, count: usize) {
+    let _ = eprint!(rt; "\r{shown} of {count} files\r");
+}
+
+/// Shows files, and writes a line of progress if standard error is a terminal and they are many.
+pub(crate) fn view(rt: &HostRuntime, view: View, matches: &ArgMatches<'_>) -> Result<u8> {
+    let list = files_of(rt, matches)?;
+    let inputs = Inputs::new(rt);
+    let sources = list.sources.as_slice();
+    let has_progress = sources.len() > STEP && rt.stderr().is_terminal();
+    let mut status = if list.has_faults { FAULT } else { 0 };
+    let mut shown: usize = 0;
+    for part in sources.chunks(STEP) {
+        if has_progress {
+            write_progress(rt, shown, sources.len());
+        }
+        let summary = show(rt.alloc(), view, &inputs, part, &mut rt.stdout())?;
+        report(rt, part, summary.faults.as_slice());
+        status = status.max(summary.status());
+        shown = shown.saturating_add(part.len());
+    }
+    Ok(status)
+}
