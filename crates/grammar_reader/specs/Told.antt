@@ -1,4 +1,4 @@
--- What a function that reads several things is told to read.
+-- The argument of a function that reads one of several things.
 use Rattle.std.specs.Prelude.{ℕ, [], ◌∷◌}
 use Rattle.rust_grammar.specs.Calls.{Attribute, GenericArgs, Item}
 use Rattle.rust_grammar.specs.Notation.{◌or◌, ⁅◌⁆, ◌before◌, ◌not_before◌, list_element, until}

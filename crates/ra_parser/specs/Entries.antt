@@ -34,11 +34,11 @@ single_of singles.Meta = meta
 single_of singles.Pattern = pattern
 single_of singles.Type = any_type
 
--- so many tokens are read at most
+-- the largest number of tokens of an input that is read
 abbrev pub most_tokens : ℕ
 most_tokens = 16777216
 
--- Why an input is not read: it is too long, or memory was refused for one that is not.
+-- Why an input is not read: it is too long, or it is not and an allocation failed.
 abbrev pub RefusesParse : List Token → ParseError → Type 0
 RefusesParse ts TooLong = most_tokens < length ts
 RefusesParse ts NoMemory = length ts ≤ most_tokens

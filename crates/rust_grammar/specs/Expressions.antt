@@ -1,4 +1,4 @@
--- The rows of expressions: ranges and assignments, the layers of operators, what stands after an expression, and the rest.
+-- The rows of expressions: ranges and assignments, the layers of operators, postfix operators, and the rest.
 use Rattle.std.specs.Prelude.{[], ◌∷◌}
 use Rattle.parser_input.specs.Kinds.{PARAM_LIST, PARAM, MACRO_CALL, NAME_REF, BLOCK_EXPR, RANGE_EXPR, BIN_EXPR, CAST_EXPR, PREFIX_EXPR, REF_EXPR, CALL_EXPR, ARG_LIST, INDEX_EXPR, TRY_EXPR, METHOD_CALL_EXPR, FIELD_EXPR, MACRO_EXPR, RECORD_EXPR, RECORD_EXPR_FIELD_LIST, RECORD_EXPR_FIELD, PATH_EXPR, TUPLE_EXPR, PAREN_EXPR, ARRAY_EXPR, RETURN_EXPR, BREAK_EXPR, CONTINUE_EXPR, CLOSURE_EXPR, LET_EXPR, IF_EXPR, WHILE_EXPR, LOOP_EXPR, FOR_EXPR, MATCH_EXPR, MATCH_ARM_LIST, MATCH_ARM, MATCH_GUARD}
 use Rattle.parser_events.specs.Forest.{ExpectedExpression, ExpectedMatchArm, ExpectedField}
@@ -12,7 +12,7 @@ use Rattle.rust_grammar.specs.Shared.{field_name, type_annotation}
 abbrev pub body_begins : Look
 body_begins = Both InCondition (next 'l_curly')
 
--- the two marks of a range
+-- the two range operators
 abbrev pub range_mark : Rule
 range_mark = op 'dots_eq' or op 'dots'
 

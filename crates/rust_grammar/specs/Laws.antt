@@ -68,7 +68,7 @@ IsReadTurnByTurn a = (in_condition : Bool) (s : Reading) → reads in_condition 
 abbrev pub RepetitionsAreReadTurnByTurn : Type 0
 RepetitionsAreReadTurnByTurn = (x : Production) → All IsReadTurnByTurn (repeated (all.rule x))
 
--- To see where a rule begins after so many tokens is to see it at the place after them.
+-- To see where a rule begins `count` tokens ahead is to see it at the place after them.
 abbrev pub LooksAhead : Rule → Type 0
 LooksAhead a =
     (count : ℕ) (in_condition : Bool) (s : Reading)
@@ -79,7 +79,7 @@ LooksAhead a =
 abbrev pub PartsLookAhead : Type 0
 PartsLookAhead = (x : Production) → All LooksAhead (nearby (all.rule x))
 
--- A production that is called anew begins where it would with nothing given, wherever productions begin; and so does a node.
+-- A production that is called begins where it would with nothing given, wherever productions begin; and so does a node.
 abbrev pub CallsHaveGivenNothing : Type 0
 CallsHaveGivenNothing =
     (looks : Production → Look) (x : Production) (in_condition : Bool) (s : Reading)

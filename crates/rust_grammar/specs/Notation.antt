@@ -35,7 +35,8 @@ width (When l a) = width a
 width (Node k a) = width a
 width a = None
 
--- `a ▹ b` is a rule where a is one leaf, of so many tokens; after any other part it is none, and an error where a rule is asked.
+-- `a ▹ b` is a rule where a is one leaf, whose tokens are counted; after any other part it is none, and an error where a rule
+-- is asked.
 abbrev pub Measured : Option ℕ → Type 0
 Measured (Some n) = Rule
 Measured None = Unit {0}
@@ -189,7 +190,7 @@ abbrev pub list_element : (list : ℕ) → (element : Rule) → (close : Spellin
 list_element list element close = element ▸ separator close or When unexpected (Skip (UnexpectedIn list))
 
 -- The rest of a list after its opening spelling, in the node `list`: elements with commas between them, up to `close`. A
--- missing comma is told; what begins no element stands in an error, up to a token at which the list gives up.
+-- missing comma is reported; what begins no element goes into an error, up to a token at which the list gives up.
 abbrev pub rest_listed : (list : ℕ) → (element : Rule) → (close : Spelling) → Rule
 rest_listed list element close = off ((Unless (until close) (list_element list element close)) *) ▸ One close !
 
@@ -229,6 +230,6 @@ no_longer ks (x ∷ xs) = but_not (is_longer ks x.parts) x (no_longer ks xs)
 unfoldable pub longest : Spelling → Look
 longest x = Both (spelled_at 0 x) (no_longer x.parts operators)
 
--- an operator, where no longer one stands
+-- an operator, where no longer one is next
 abbrev pub op : Spelling → Rule
 op x = When (longest x) (One x)

@@ -189,7 +189,7 @@ bounds_after_plus = One '+' ▸ ⁅ Bound ⁆ ▸ further_bound *
 abbrev pub plus_bounds : Rule
 plus_bounds = ⁅ When (next '+') (TYPE_BOUND <⟨ Nothing ⟩ ▸ TYPE_BOUND_LIST <⟨ bounds_after_plus ⟩ ▸ DYN_TRAIT_TYPE <⟨ Nothing ⟩) ⁆
 
--- An argument that only the whole language has: `'a + A`, a block, or a name with its arguments. What stands behind these tells
+-- An argument that only the whole language has: `'a + A`, a block, or a name with its arguments. What follows these tells
 -- what they are: `= T`, `: A`, or they were the front of a type.
 abbrev pub dyn_word_begins : Look
 dyn_word_begins = Both (Contextual 0 DYN_KW) (one_of 1 ('?' ∷ 'lifetime' ∷ 'l_paren' ∷ 'for' ∷ refs))

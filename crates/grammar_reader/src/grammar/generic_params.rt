@@ -1,4 +1,4 @@
-//! Generic parameters, bounds, and what `where` asks.
+//! Generic parameters, bounds and where clauses.
 
 ghost use Rattle.std.specs.Prelude.{◌≤◌, Bool, true, false};
 ghost use Rattle.parser_input.specs.Kinds.{TYPE_BOUND, WHERE_PRED};

@@ -204,7 +204,7 @@ fn for_type(p: &mut Parser<'_>)
     complete(p, node, SyntaxKind::FOR_TYPE);
 }
 
-/// Completes a path as a type, or parses the rest of a macro call in the place of a type.
+/// Completes a path as a type, or parses the rest of a macro call in place of a type.
 // !(a)
 pub(crate) fn type_of_path(p: &mut Parser<'_>, frame: Marker) -> Marker
     requires innermost { IsInnermost frame p.old.nodes }

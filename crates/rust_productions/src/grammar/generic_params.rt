@@ -1,4 +1,4 @@
-//! Generic parameters, bounds, and what `where` asks.
+//! Generic parameters, bounds and where clauses.
 
 ghost use Rattle.std.specs.Prelude.{◌≤◌, Bool, IsTrue};
 ghost use Rattle.parser_input.specs.Kinds.{NAME_REF};

@@ -1,4 +1,4 @@
-//! What stands in structs and enums: variants, and fields with and without names.
+//! The members of structs and enums: variants, and fields with and without names.
 
 ghost use Rattle.std.specs.Prelude.{◌≤◌, Bool, false, true};
 ghost use Rattle.rust_grammar.specs.Calls.{Attribute, Name, Visibility};
