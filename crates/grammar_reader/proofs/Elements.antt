@@ -87,6 +87,7 @@ said-element elements.PatternField = refl
 said-element elements.RecordField = refl
 said-element elements.TupleField = refl
 said-element elements.Type = refl
+said-element elements.TypeArg = refl
 said-element elements.Variant = refl
 
 pub sure-element : (e : Element) → passes (element_of e) ≡ false
@@ -103,6 +104,7 @@ sure-element elements.PatternField = refl
 sure-element elements.RecordField = refl
 sure-element elements.TupleField = refl
 sure-element elements.Type = refl
+sure-element elements.TypeArg = refl
 sure-element elements.Variant = refl
 
 pub ends : (list : ℕ) (r : Rule) (close : ℕ) → EndsAtEnd false (list_turn list r close)
@@ -133,9 +135,10 @@ few-looks-in elements.PatternField = omega arith
 few-looks-in elements.RecordField = omega arith
 few-looks-in elements.TupleField = omega arith
 few-looks-in elements.Type = omega arith
+few-looks-in elements.TypeArg = omega arith
 few-looks-in elements.Variant = omega arith
 
-pub few-looks-before : (e : Element) → looks_before e ≤ 14
+pub few-looks-before : (e : Element) → looks_before e ≤ 30
 few-looks-before elements.Captured = omega arith
 few-looks-before elements.ClosureParam = omega arith
 few-looks-before elements.Expression = omega arith
@@ -148,4 +151,5 @@ few-looks-before elements.PatternField = omega arith
 few-looks-before elements.RecordField = omega arith
 few-looks-before elements.TupleField = omega arith
 few-looks-before elements.Type = omega arith
+few-looks-before elements.TypeArg = omega arith
 few-looks-before elements.Variant = omega arith

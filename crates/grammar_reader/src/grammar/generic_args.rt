@@ -12,7 +12,7 @@ ghost use Rattle.rust_grammar.specs.Whole.{rule};
 ghost use Rattle.rust_grammar.specs.Words.{'=', '-', 'ident'};
 ghost use Rattle.rust_grammar.specs.Paths as rows;
 ghost use Rattle.rust_productions.specs.Looks.{tokens, spent, Takes, Asks, TakesIn, AsksIn};
-ghost use Rattle.rust_productions.specs.Reads.{looks, Gives, Reads, Saw};
+ghost use Rattle.rust_productions.specs.Reads.{looks, Anew, Gives, Reads, Saw};
 ghost use Rattle.rust_productions.specs.Starts.{Starts};
 
 use crate::grammar::const_args::const_arg;
@@ -185,7 +185,7 @@ fn literal_arg(p: &mut Parser<'_>)
 fn word_arg(p: &mut Parser<'_>)
     requires word { Starts (Kind 0 kinds.IDENT) p.old }
     requires other { (c : Bool) → Saw c (wide rows.new_arg_begins) p.old false }
-    ensures reads { (c : Bool) → Reads c (rule rules.generic_arg) p.old p.new }
+    ensures anew { (c : Bool) → Anew c (rule rules.generic_arg) p.old p.new }
     ensures takes { Takes 2900 p.old p.new }
 {
     if at_second(p, SyntaxKind::EQ) {

@@ -2388,8 +2388,8 @@ types::for_type-complete-requires = types.types::for_type-complete-requires
 pub types::for_type-returns-clause-reads : goal.types::for_type-returns-clause-reads
 types::for_type-returns-clause-reads = types.types::for_type-returns-clause-reads
 
-pub types::opt_plus_bounds-wrap-frame-requires-2 : goal.types::opt_plus_bounds-wrap-frame-requires-2
-types::opt_plus_bounds-wrap-frame-requires-2 = types.types::opt_plus_bounds-wrap-frame-requires-2
+pub types::opt_plus_bounds-wrap-frame-requires-then-at : goal.types::opt_plus_bounds-wrap-frame-requires-then-at
+types::opt_plus_bounds-wrap-frame-requires-then-at = types.types::opt_plus_bounds-wrap-frame-requires-then-at
 
 pub types::opt_plus_bounds-returns-then-at-clause-reads : goal.types::opt_plus_bounds-returns-then-at-clause-reads
 types::opt_plus_bounds-returns-then-at-clause-reads = types.types::opt_plus_bounds-returns-then-at-clause-reads
@@ -2523,14 +2523,14 @@ generic_args::generic_arg-type_arg-requires = generic_args.generic_args::generic
 pub generic_args::generic_arg-returns-else-at_literal-clause-gives : goal.generic_args::generic_arg-returns-else-at_literal-clause-gives
 generic_args::generic_arg-returns-else-at_literal-clause-gives = generic_args.generic_args::generic_arg-returns-else-at_literal-clause-gives
 
-pub generic_args::word_arg-returns-then-at_second-clause-reads : goal.generic_args::word_arg-returns-then-at_second-clause-reads
-generic_args::word_arg-returns-then-at_second-clause-reads = generic_args.generic_args::word_arg-returns-then-at_second-clause-reads
+pub generic_args::word_arg-returns-then-at_second-clause-anew : goal.generic_args::word_arg-returns-then-at_second-clause-anew
+generic_args::word_arg-returns-then-at_second-clause-anew = generic_args.generic_args::word_arg-returns-then-at_second-clause-anew
 
 pub generic_args::word_arg-type_arg-requires : goal.generic_args::word_arg-type_arg-requires
 generic_args::word_arg-type_arg-requires = generic_args.generic_args::word_arg-type_arg-requires
 
-pub generic_args::word_arg-returns-clause-reads : goal.generic_args::word_arg-returns-clause-reads
-generic_args::word_arg-returns-clause-reads = generic_args.generic_args::word_arg-returns-clause-reads
+pub generic_args::word_arg-returns-clause-anew : goal.generic_args::word_arg-returns-clause-anew
+generic_args::word_arg-returns-clause-anew = generic_args.generic_args::word_arg-returns-clause-anew
 
 pub generic_args::type_arg-any_type-requires : goal.generic_args::type_arg-any_type-requires
 generic_args::type_arg-any_type-requires = generic_args.generic_args::type_arg-any_type-requires
@@ -2565,8 +2565,8 @@ generic_args::block_arg-returns-clause-reads = generic_args.generic_args::block_
 pub generic_args::named_arg-wrap-requires : goal.generic_args::named_arg-wrap-requires
 generic_args::named_arg-wrap-requires = generic_args.generic_args::named_arg-wrap-requires
 
-pub generic_args::named_arg-wrap-requires-2 : goal.generic_args::named_arg-wrap-requires-2
-generic_args::named_arg-wrap-requires-2 = generic_args.generic_args::named_arg-wrap-requires-2
+pub generic_args::named_arg-wrap-requires-then-at_single_colon : goal.generic_args::named_arg-wrap-requires-then-at_single_colon
+generic_args::named_arg-wrap-requires-then-at_single_colon = generic_args.generic_args::named_arg-wrap-requires-then-at_single_colon
 
 pub generic_args::named_arg-front_of_type-requires : goal.generic_args::named_arg-front_of_type-requires
 generic_args::named_arg-front_of_type-requires = generic_args.generic_args::named_arg-front_of_type-requires
@@ -2591,3 +2591,21 @@ generic_args::front_of_type-next_segments-frame-requires = generic_args.generic_
 
 pub generic_args::front_of_type-returns-clause-reads : goal.generic_args::front_of_type-returns-clause-reads
 generic_args::front_of_type-returns-clause-reads = generic_args.generic_args::front_of_type-returns-clause-reads
+
+pub types::any_type-inside-frame-requires : goal.types::any_type-inside-frame-requires
+types::any_type-inside-frame-requires = types.types::any_type-inside-frame-requires
+
+pub types::after_paren-tuple_tail-requires : goal.types::after_paren-tuple_tail-requires
+types::after_paren-tuple_tail-requires = types.types::after_paren-tuple_tail-requires
+
+pub types::inside-returns-in-STAR-clause-takes : goal.types::inside-returns-in-STAR-clause-takes
+types::inside-returns-in-STAR-clause-takes = types.types::inside-returns-in-STAR-clause-takes
+
+pub types::inside-returns-in-AMP-clause-takes : goal.types::inside-returns-in-AMP-clause-takes
+types::inside-returns-in-AMP-clause-takes = types.types::inside-returns-in-AMP-clause-takes
+
+pub lists::read_element-type_arg-requires : goal.lists::read_element-type_arg-requires
+lists::read_element-type_arg-requires = lists.lists::read_element-type_arg-requires
+
+pub lists::read_element-returns-in-TypeArg-clause-reads : goal.lists::read_element-returns-in-TypeArg-clause-reads
+lists::read_element-returns-in-TypeArg-clause-reads = lists.lists::read_element-returns-in-TypeArg-clause-reads

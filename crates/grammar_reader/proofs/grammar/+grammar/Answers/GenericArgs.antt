@@ -13,7 +13,7 @@ use Rattle.rust_grammar.specs.Types.{types}
 use Rattle.rust_grammar.specs.Whole.{rule, whole}
 use Rattle.rust_grammar.specs.Words.{'lifetime', '+'}
 use Rattle.rust_productions.proofs.ByHand.{after-look, completes-leave, does-nothing, does-then, reads-call, reads-node, reads-nothing, reads-then, reads-wrap}
-use Rattle.rust_productions.proofs.Choices.{anew-after, anew-completes, gives-anew, reads-here}
+use Rattle.rust_productions.proofs.Choices.{anew-after, anew-completes, anew-here, anew-look, gives-anew, reads-here}
 use Rattle.rust_productions.proofs.Facts.{begun, nothing, saw-so, ◌and◌}
 use Rattle.rust_productions.proofs.Looking.{saw-arm, saw-not}
 use Rattle.rust_productions.proofs.Seen.{begins-else, begins-here, begins-row, saw-after, saw-before, saw-else, saw-inside, saw-left}
@@ -43,22 +43,22 @@ generic_args::generic_arg-returns-then-at_new_arg-clause-gives t c = λ cond. gi
 
 pub generic_args::generic_arg-returns-in-LIFETIME_IDENT-clause-gives : goal.generic_args::generic_arg-returns-in-LIFETIME_IDENT-clause-gives
 unfolding look_of begins_below whole rule items statements expressions patterns types paths there_at shift passes is_silent begins in_mode anew row one_of any_of no_longer longest is_longer
-generic_args::generic_arg-returns-in-LIFETIME_IDENT-clause-gives t c = λ cond. gives-anew (anew-after refl (reads-here (saw-so (c.at_new_arg.ensures.sees cond) c.if-at_new_arg.false and saw-before c.at_new_arg.ensures.peeks.same (saw-arm c.in-LIFETIME_IDENT.is (c.current.ensures.sees cond)) and nothing) (after-look _ c.at_new_arg.ensures.peeks.same (after-look _ c.current.ensures.peeks.same (c.lifetime_arg.ensures.reads cond)))))
+generic_args::generic_arg-returns-in-LIFETIME_IDENT-clause-gives t c = λ cond. gives-anew (anew-here (saw-so (c.at_new_arg.ensures.sees cond) c.if-at_new_arg.false and saw-before c.at_new_arg.ensures.peeks.same (saw-arm c.in-LIFETIME_IDENT.is (c.current.ensures.sees cond)) and nothing) (anew-look c.at_new_arg.ensures.peeks.same (anew-look c.current.ensures.peeks.same (anew-after refl (c.lifetime_arg.ensures.reads cond)))))
 
 pub generic_args::generic_arg-returns-in-MINUS-clause-gives : goal.generic_args::generic_arg-returns-in-MINUS-clause-gives
 unfolding look_of begins_below whole rule items statements expressions patterns types paths there_at shift passes is_silent begins in_mode anew row one_of any_of no_longer longest is_longer
-generic_args::generic_arg-returns-in-MINUS-clause-gives t c = λ cond. gives-anew (anew-after refl (reads-here (saw-so (c.at_new_arg.ensures.sees cond) c.if-at_new_arg.false and saw-before c.at_new_arg.ensures.peeks.same (saw-arm c.in-MINUS.is (c.current.ensures.sees cond)) and nothing) (after-look _ c.at_new_arg.ensures.peeks.same (after-look _ c.current.ensures.peeks.same (c.negative_arg.ensures.reads cond)))))
+generic_args::generic_arg-returns-in-MINUS-clause-gives t c = λ cond. gives-anew (anew-here (saw-so (c.at_new_arg.ensures.sees cond) c.if-at_new_arg.false and saw-before c.at_new_arg.ensures.peeks.same (saw-arm c.in-MINUS.is (c.current.ensures.sees cond)) and nothing) (anew-look c.at_new_arg.ensures.peeks.same (anew-look c.current.ensures.peeks.same (anew-after refl (c.negative_arg.ensures.reads cond)))))
 
 pub generic_args::generic_arg-word_arg-requires : goal.generic_args::generic_arg-word_arg-requires
 generic_args::generic_arg-word_arg-requires t c = (omega arith, (record { sees = λ d. saw-after c.current.ensures.peeks.same (saw-after c.at_new_arg.ensures.peeks.same (saw-before c.at_new_arg.ensures.peeks.same (saw-arm c.in-IDENT.is (c.current.ensures.sees d)))); some = omega (arith, c.requires.begins.some, c.at_new_arg.ensures.peeks.left, c.current.ensures.peeks.left) }, (λ d. saw-after c.current.ensures.peeks.same (saw-after c.at_new_arg.ensures.peeks.same (saw-so (c.at_new_arg.ensures.sees d) c.if-at_new_arg.false)))))
 
 pub generic_args::generic_arg-returns-in-IDENT-clause-gives : goal.generic_args::generic_arg-returns-in-IDENT-clause-gives
 unfolding look_of begins_below whole rule items statements expressions patterns types paths there_at shift passes is_silent begins in_mode anew row one_of any_of no_longer longest is_longer
-generic_args::generic_arg-returns-in-IDENT-clause-gives t c = λ cond. gives-anew (anew-after refl (after-look _ c.at_new_arg.ensures.peeks.same (after-look _ c.current.ensures.peeks.same (c.word_arg.ensures.reads cond))))
+generic_args::generic_arg-returns-in-IDENT-clause-gives t c = λ cond. gives-anew (anew-look c.at_new_arg.ensures.peeks.same (anew-look c.current.ensures.peeks.same (c.word_arg.ensures.anew cond)))
 
 pub generic_args::generic_arg-returns-then-at_literal-clause-gives : goal.generic_args::generic_arg-returns-then-at_literal-clause-gives
 unfolding look_of begins_below whole rule items statements expressions patterns types paths there_at shift passes is_silent begins in_mode anew row one_of any_of no_longer longest is_longer
-generic_args::generic_arg-returns-then-at_literal-clause-gives t c = λ cond. gives-anew (anew-after refl (reads-here (saw-so (c.at_new_arg.ensures.sees cond) c.if-at_new_arg.false and saw-before c.at_new_arg.ensures.peeks.same (saw-not c.in_default.not-LIFETIME_IDENT (c.current.ensures.sees cond)) and saw-before c.at_new_arg.ensures.peeks.same (saw-not c.in_default.not-MINUS (c.current.ensures.sees cond)) and saw-before c.at_new_arg.ensures.peeks.same (saw-not c.in_default.not-IDENT (c.current.ensures.sees cond)) and begun rules.literal (saw-before c.at_new_arg.ensures.peeks.same (saw-before c.current.ensures.peeks.same (saw-so (c.at_literal.ensures.sees cond) c.if-at_literal.true))) nothing) (after-look _ c.at_new_arg.ensures.peeks.same (after-look _ c.current.ensures.peeks.same (after-look _ c.at_literal.ensures.peeks.same (c.literal_arg.ensures.reads cond))))))
+generic_args::generic_arg-returns-then-at_literal-clause-gives t c = λ cond. gives-anew (anew-here (saw-so (c.at_new_arg.ensures.sees cond) c.if-at_new_arg.false and saw-before c.at_new_arg.ensures.peeks.same (saw-not c.in_default.not-LIFETIME_IDENT (c.current.ensures.sees cond)) and saw-before c.at_new_arg.ensures.peeks.same (saw-not c.in_default.not-MINUS (c.current.ensures.sees cond)) and saw-before c.at_new_arg.ensures.peeks.same (saw-not c.in_default.not-IDENT (c.current.ensures.sees cond)) and begun rules.literal (saw-before c.at_new_arg.ensures.peeks.same (saw-before c.current.ensures.peeks.same (saw-so (c.at_literal.ensures.sees cond) c.if-at_literal.true))) nothing) (anew-look c.at_new_arg.ensures.peeks.same (anew-look c.current.ensures.peeks.same (anew-look c.at_literal.ensures.peeks.same (anew-after refl (c.literal_arg.ensures.reads cond))))))
 
 pub generic_args::generic_arg-type_arg-requires : goal.generic_args::generic_arg-type_arg-requires
 unfolding look_of begins_below whole rule items statements expressions patterns types paths there_at shift passes is_silent begins in_mode anew row one_of any_of no_longer longest is_longer
@@ -66,19 +66,19 @@ generic_args::generic_arg-type_arg-requires t c = (omega arith, record { sees = 
 
 pub generic_args::generic_arg-returns-else-at_literal-clause-gives : goal.generic_args::generic_arg-returns-else-at_literal-clause-gives
 unfolding look_of begins_below whole rule items statements expressions patterns types paths there_at shift passes is_silent begins in_mode anew row one_of any_of no_longer longest is_longer
-generic_args::generic_arg-returns-else-at_literal-clause-gives t c = λ cond. gives-anew (anew-after refl (reads-here (saw-so (c.at_new_arg.ensures.sees cond) c.if-at_new_arg.false and saw-before c.at_new_arg.ensures.peeks.same (saw-not c.in_default.not-LIFETIME_IDENT (c.current.ensures.sees cond)) and saw-before c.at_new_arg.ensures.peeks.same (saw-not c.in_default.not-MINUS (c.current.ensures.sees cond)) and saw-before c.at_new_arg.ensures.peeks.same (saw-not c.in_default.not-IDENT (c.current.ensures.sees cond)) and begun rules.literal (saw-before c.at_new_arg.ensures.peeks.same (saw-before c.current.ensures.peeks.same (saw-so (c.at_literal.ensures.sees cond) c.if-at_literal.false))) nothing) (after-look _ c.at_new_arg.ensures.peeks.same (after-look _ c.current.ensures.peeks.same (after-look _ c.at_literal.ensures.peeks.same (c.type_arg.ensures.reads cond))))))
+generic_args::generic_arg-returns-else-at_literal-clause-gives t c = λ cond. gives-anew (anew-here (saw-so (c.at_new_arg.ensures.sees cond) c.if-at_new_arg.false and saw-before c.at_new_arg.ensures.peeks.same (saw-not c.in_default.not-LIFETIME_IDENT (c.current.ensures.sees cond)) and saw-before c.at_new_arg.ensures.peeks.same (saw-not c.in_default.not-MINUS (c.current.ensures.sees cond)) and saw-before c.at_new_arg.ensures.peeks.same (saw-not c.in_default.not-IDENT (c.current.ensures.sees cond)) and begun rules.literal (saw-before c.at_new_arg.ensures.peeks.same (saw-before c.current.ensures.peeks.same (saw-so (c.at_literal.ensures.sees cond) c.if-at_literal.false))) nothing) (anew-look c.at_new_arg.ensures.peeks.same (anew-look c.current.ensures.peeks.same (anew-look c.at_literal.ensures.peeks.same (anew-after refl (c.type_arg.ensures.reads cond))))))
 
-pub generic_args::word_arg-returns-then-at_second-clause-reads : goal.generic_args::word_arg-returns-then-at_second-clause-reads
+pub generic_args::word_arg-returns-then-at_second-clause-anew : goal.generic_args::word_arg-returns-then-at_second-clause-anew
 unfolding look_of begins_below whole rule items statements expressions patterns types paths there_at shift passes is_silent begins in_mode anew row one_of any_of no_longer longest is_longer
-generic_args::word_arg-returns-then-at_second-clause-reads t c = λ cond. reads-here (c.requires.other cond and c.requires.word.sees cond and saw-so (c.at_second.ensures.sees cond) c.if-at_second.true and nothing) (after-look _ c.at_second.ensures.peeks.same (c.assoc_type_arg.ensures.reads cond))
+generic_args::word_arg-returns-then-at_second-clause-anew t c = λ cond. anew-here (c.requires.other cond and c.requires.word.sees cond and saw-so (c.at_second.ensures.sees cond) c.if-at_second.true and nothing) (anew-look c.at_second.ensures.peeks.same (anew-after refl (c.assoc_type_arg.ensures.reads cond)))
 
 pub generic_args::word_arg-type_arg-requires : goal.generic_args::word_arg-type_arg-requires
 unfolding look_of begins_below whole rule items statements expressions patterns types paths there_at shift passes is_silent begins in_mode anew row one_of any_of no_longer longest is_longer
 generic_args::word_arg-type_arg-requires t c = (omega arith, record { sees = λ d. saw-after c.at_second.ensures.peeks.same (begins-here rules.any_type refl (c.requires.word.sees d and nothing) refl); some = omega (arith, c.requires.word.some, c.at_second.ensures.peeks.left) })
 
-pub generic_args::word_arg-returns-clause-reads : goal.generic_args::word_arg-returns-clause-reads
+pub generic_args::word_arg-returns-clause-anew : goal.generic_args::word_arg-returns-clause-anew
 unfolding look_of begins_below whole rule items statements expressions patterns types paths there_at shift passes is_silent begins in_mode anew row one_of any_of no_longer longest is_longer
-generic_args::word_arg-returns-clause-reads t c = λ cond. reads-here (c.requires.other cond and c.requires.word.sees cond and saw-so (c.at_second.ensures.sees cond) c.if-at_second.false and nothing) (after-look _ c.at_second.ensures.peeks.same (c.type_arg.ensures.reads cond))
+generic_args::word_arg-returns-clause-anew t c = λ cond. anew-here (c.requires.other cond and c.requires.word.sees cond and saw-so (c.at_second.ensures.sees cond) c.if-at_second.false and nothing) (anew-look c.at_second.ensures.peeks.same (anew-after refl (c.type_arg.ensures.reads cond)))
 
 pub generic_args::type_arg-any_type-requires : goal.generic_args::type_arg-any_type-requires
 generic_args::type_arg-any_type-requires t c = (omega arith, record { sees = λ d. saw-inside c.start-node.ensures.opens (c.requires.begins.sees d); some = omega (arith, c.requires.begins.some, c.start-node.ensures.stays.left) })
@@ -125,8 +125,8 @@ generic_args::block_arg-returns-clause-reads t c = λ cond. reads-node _ c.start
 pub generic_args::named_arg-wrap-requires : goal.generic_args::named_arg-wrap-requires
 generic_args::named_arg-wrap-requires t c = (c.const_or_type.ensures.reads true).does.innermost _ ((c.take.ensures.reads true).does.innermost _ (c.at.ensures.peeks.same.innermost _ c.requires.innermost))
 
-pub generic_args::named_arg-wrap-requires-2 : goal.generic_args::named_arg-wrap-requires-2
-generic_args::named_arg-wrap-requires-2 t c = (c.bounds.ensures.gives true).does.innermost _ ((c.take-2.ensures.reads true).does.innermost _ (c.at_single_colon.ensures.peeks.same.innermost _ (c.at.ensures.peeks.same.innermost _ c.requires.innermost)))
+pub generic_args::named_arg-wrap-requires-then-at_single_colon : goal.generic_args::named_arg-wrap-requires-then-at_single_colon
+generic_args::named_arg-wrap-requires-then-at_single_colon t c = (c.bounds.ensures.gives true).does.innermost _ ((c.take-then-at_single_colon.ensures.reads true).does.innermost _ (c.at_single_colon.ensures.peeks.same.innermost _ (c.at.ensures.peeks.same.innermost _ c.requires.innermost)))
 
 pub generic_args::named_arg-front_of_type-requires : goal.generic_args::named_arg-front_of_type-requires
 generic_args::named_arg-front_of_type-requires t c = (omega arith, c.at_single_colon.ensures.peeks.same.innermost _ (c.at.ensures.peeks.same.innermost _ c.requires.innermost))
@@ -137,7 +137,7 @@ generic_args::named_arg-returns-then-at-clause-reads t c = λ cond. reads-here (
 
 pub generic_args::named_arg-returns-then-at_single_colon-clause-reads : goal.generic_args::named_arg-returns-then-at_single_colon-clause-reads
 unfolding look_of begins_below whole rule items statements expressions patterns types paths there_at shift passes is_silent begins in_mode anew row one_of any_of no_longer longest is_longer
-generic_args::named_arg-returns-then-at_single_colon-clause-reads t c = λ cond. reads-here (saw-so (c.at.ensures.sees cond) c.if-at.false and saw-before c.at.ensures.peeks.same (saw-so (c.at_single_colon.ensures.sees cond) c.if-at_single_colon.true) and nothing) (after-look _ c.at.ensures.peeks.same (after-look _ c.at_single_colon.ensures.peeks.same (reads-wrap _ (reads-then _ (c.take-2.ensures.reads cond) (reads-call _ (c.bounds.ensures.gives cond))) c.wrap-2.ensures.wraps)))
+generic_args::named_arg-returns-then-at_single_colon-clause-reads t c = λ cond. reads-here (saw-so (c.at.ensures.sees cond) c.if-at.false and saw-before c.at.ensures.peeks.same (saw-so (c.at_single_colon.ensures.sees cond) c.if-at_single_colon.true) and nothing) (after-look _ c.at.ensures.peeks.same (after-look _ c.at_single_colon.ensures.peeks.same (reads-wrap _ (reads-then _ (c.take-then-at_single_colon.ensures.reads cond) (reads-call _ (c.bounds.ensures.gives cond))) c.wrap-then-at_single_colon.ensures.wraps)))
 
 pub generic_args::named_arg-returns-clause-reads : goal.generic_args::named_arg-returns-clause-reads
 unfolding look_of begins_below whole rule items statements expressions patterns types paths there_at shift passes is_silent begins in_mode anew row one_of any_of no_longer longest is_longer

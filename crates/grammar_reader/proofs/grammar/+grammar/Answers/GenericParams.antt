@@ -19,7 +19,7 @@ use Rattle.grammar_reader.specs.declared.grammar.paths.Mode.TheVariants as modes
 use Rattle.grammar_reader.proofs.PathArgs.{paths-begin}
 use Rattle.rust_productions.specs.Looks.{tokens}
 use Rattle.rust_productions.specs.Reads.{Saw}
-use Rattle.rust_productions.proofs.ByHand.{after-look, reads-call, reads-node, reads-nothing, reads-then}
+use Rattle.rust_productions.proofs.ByHand.{after-look, reads-call, reads-node, reads-nothing, reads-or, reads-then, reads-when}
 use Rattle.rust_productions.proofs.Choices.{anew-after, anew-here, anew-look, gives-anew, reads-here}
 use Rattle.rust_productions.proofs.Facts.{begun, nothing, saw-so, ◌and◌}
 use Rattle.rust_productions.proofs.Looking.{saw-arm, saw-not}
@@ -200,7 +200,7 @@ generic_params::where_pred-plain_pred-requires t c = (omega arith, (record { see
 
 pub generic_params::where_pred-returns-then-at_new_pred-clause-gives : goal.generic_params::where_pred-returns-then-at_new_pred-clause-gives
 unfolding look_of begins_below whole rule items statements expressions patterns types paths there_at shift passes is_silent begins in_mode anew row one_of any_of no_longer longest is_longer
-generic_params::where_pred-returns-then-at_new_pred-clause-gives t c = λ cond. gives-anew (anew-after refl (reads-here (saw-so (c.at_new_pred.ensures.sees cond) c.if-at_new_pred.true and nothing) (after-look cond c.at_new_pred.ensures.peeks.same (c.binder_pred.ensures.reads cond))))
+generic_params::where_pred-returns-then-at_new_pred-clause-gives t c = λ cond. gives-anew (anew-after refl (reads-or cond (saw-so (c.at_new_pred.ensures.sees cond) c.if-at_new_pred.true) (reads-when cond (after-look cond c.at_new_pred.ensures.peeks.same (c.binder_pred.ensures.reads cond)))))
 
 pub generic_params::where_pred-returns-clause-gives : goal.generic_params::where_pred-returns-clause-gives
 unfolding look_of begins_below whole rule items statements expressions patterns types paths there_at shift passes is_silent begins in_mode anew row one_of any_of no_longer longest is_longer

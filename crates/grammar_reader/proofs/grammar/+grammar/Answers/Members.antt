@@ -21,6 +21,7 @@ use Rattle.rust_productions.proofs.Facts.{begun, nothing, ◌and◌}
 use Rattle.rust_productions.proofs.Given.{reads-three, reads-two}
 use Rattle.rust_productions.proofs.Looking.{saw-arm, saw-not}
 use Rattle.rust_productions.proofs.Seen.{saw-after, saw-else, saw-inside, saw-told}
+use Rattle.grammar_reader.proofs.AnyMode.{type-mode}
 use Rattle.grammar_reader.proofs.grammar.+grammar.Goals as goal
 
 pub items::members::variant-named-requires : goal.items::members::variant-named-requires
@@ -81,7 +82,7 @@ items::members::typed-returns-in-PUB_KW-clause-reads t c = reads-here (saw-arm c
 
 pub items::members::typed-any_type-requires : goal.items::members::typed-any_type-requires
 unfolding look_of begins_below whole rule items statements expressions patterns types paths there_at shift passes is_silent begins in_mode anew row one_of any_of no_longer longest is_longer
-items::members::typed-any_type-requires t c = (omega arith, (saw-after c.current.ensures.peeks.same (saw-else (looks rules.any_type) (begins looks (Attribute * ▸ ⁅ Visibility ⁆ ▸ AnyType !)) (saw-not c.in_default.not-POUND (c.current.ensures.sees false) and saw-not c.in_default.not-PUB_KW (c.current.ensures.sees false) and nothing) c.requires.begins refl), omega arith))
+items::members::typed-any_type-requires t c = (omega arith, record { sees = λ d. saw-after c.current.ensures.peeks.same (type-mode (saw-else (looks rules.any_type) (begins looks (Attribute * ▸ ⁅ Visibility ⁆ ▸ AnyType !)) (saw-not c.in_default.not-POUND (c.current.ensures.sees false) and saw-not c.in_default.not-PUB_KW (c.current.ensures.sees false) and nothing) c.requires.begins refl)); some = omega (arith, c.requires.some, c.current.ensures.peeks.left) })
 
 pub items::members::typed-returns-in_default-clause-reads : goal.items::members::typed-returns-in_default-clause-reads
 unfolding look_of begins_below whole rule items statements expressions patterns types paths there_at shift passes is_silent begins in_mode anew row one_of any_of no_longer longest is_longer

@@ -46,7 +46,7 @@ unfolding look_of begins_below whole rule items statements expressions patterns 
 new_bounds::bound_inside-returns-clause-reads t c = λ cond. reads-here (saw-so (c.at.ensures.sees cond) c.if-at.false and saw-before c.at.ensures.peeks.same (saw-so (c.at_captures.ensures.sees cond) c.if-at_captures.false) and nothing) (after-look cond c.at.ensures.peeks.same (after-look cond c.at_captures.ensures.peeks.same (c.words_and_path.ensures.reads cond)))
 
 pub new_bounds::use_captures-returns-clause-reads : goal.new_bounds::use_captures-returns-clause-reads
-new_bounds::use_captures-returns-clause-reads t c = λ cond. reads-then cond (c.take.ensures.reads cond) (c.captures.ensures.reads cond)
+new_bounds::use_captures-returns-clause-reads t c = λ cond. reads-then cond (c.take.ensures.reads cond) (c.captures-2.ensures.reads cond)
 
 pub new_bounds::captures-complete-requires : goal.new_bounds::captures-complete-requires
 new_bounds::captures-complete-requires t c = (c.rest_of_list.ensures.reads true).does.innermost _ ((c.take.ensures.reads true).does.innermost _ (c.start-list.ensures.marker))

@@ -67,7 +67,7 @@ pub expressions::operand::operand-postfixes-frame-requires : goal.expressions::o
 expressions::operand::operand-postfixes-frame-requires t c = (omega arith, c.inside-frame.ensures.takes.marker)
 
 pub expressions::operand::operand-returns-clause-anew : goal.expressions::operand::operand-returns-clause-anew
-expressions::operand::operand-returns-clause-anew t c = anew-first c.start-frame.ensures.opens (completes-leave (reads-then _ (c.inside-frame.ensures.reads _) (c.postfixes-frame.ensures.reads c.args.condition)) c.abandon.ensures.leaves)
+expressions::operand::operand-returns-clause-anew t c = anew-first c.start-frame.ensures.opens (completes-leave (reads-then _ c.inside-frame.ensures.reads (c.postfixes-frame.ensures.reads c.args.condition)) c.abandon.ensures.leaves)
 
 pub expressions::operand::postfixes-turns-preserved : goal.expressions::operand::postfixes-turns-preserved
 unfolding tokens look_of begins_below whole rule items statements expressions patterns types paths there_at shift passes is_silent begins in_mode anew row one_of any_of no_longer longest is_longer

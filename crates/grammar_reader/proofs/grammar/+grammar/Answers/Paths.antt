@@ -112,7 +112,7 @@ pub paths::fn_args-returns-clause-reads : goal.paths::fn_args-returns-clause-rea
 paths::fn_args-returns-clause-reads t c = λ cond. reads-then _ (c.paren_args.ensures.reads cond) (c.opt_ret_type.ensures.reads cond)
 
 pub paths::paren_args-opt_colons_before_paren-requires : goal.paths::paren_args-opt_colons_before_paren-requires
-paths::paren_args-opt_colons_before_paren-requires t c = record { sees = λ d. saw-inside c.start-list.ensures.opens (c.requires.begins.sees d); some = omega (arith, c.requires.begins.some, c.start-list.ensures.stays.left) }
+paths::paren_args-opt_colons_before_paren-requires t c = record { begins = record { sees = λ d. saw-inside c.start-list.ensures.opens (c.requires.begins.sees d); some = omega (arith, c.requires.begins.some, c.start-list.ensures.stays.left) } }
 
 pub paths::paren_args-complete-requires : goal.paths::paren_args-complete-requires
 paths::paren_args-complete-requires t c = (c.rest_of_list.ensures.reads true).does.innermost _ ((c.take.ensures.reads true).does.innermost _ ((c.opt_colons_before_paren.ensures.reads true).does.innermost _ c.start-list.ensures.marker))

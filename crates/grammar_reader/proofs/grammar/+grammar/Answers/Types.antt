@@ -16,7 +16,7 @@ use Rattle.grammar_reader.specs.declared.grammar.paths.Mode.TheVariants as modes
 use Rattle.grammar_reader.proofs.PathArgs.{any-mode, as-word, paths-begin}
 use Rattle.rust_productions.specs.Reads.{looks, Saw}
 use Rattle.rust_productions.proofs.Begins.{saw-begun-path}
-use Rattle.rust_productions.proofs.ByHand.{after-look, completes-leave, does-nothing, goes, reads-call, reads-mode, reads-more, reads-node, reads-none, reads-nothing, reads-opt, reads-then, reads-wrap}
+use Rattle.rust_productions.proofs.ByHand.{after-look, completes-leave, does-nothing, goes, reads-call, reads-mode, reads-more, reads-node, reads-none, reads-nothing, reads-opt, reads-or, reads-then, reads-wrap}
 use Rattle.rust_productions.proofs.Choices.{anew-after, anew-completes, gives-anew, reads-here}
 use Rattle.rust_productions.proofs.Facts.{begun, nothing, saw-so, ◌and◌}
 use Rattle.rust_productions.proofs.Looking.{saw-arm, saw-not}
@@ -121,16 +121,16 @@ unfolding look_of begins_below whole rule items statements expressions patterns 
 types::expect_type-returns-clause-reads t c = λ cond. reads-here (begun rules.any_type (saw-so (c.at_type.ensures.sees cond) c.if-at_type.false) nothing) (after-look _ c.at_type.ensures.peeks.same (c.error.ensures.reads cond))
 
 pub types::ptr_type-complete-requires : goal.types::ptr_type-complete-requires
-types::ptr_type-complete-requires t c = (c.expect_type.ensures.reads true).does.innermost _ ((c.const_or_mut.ensures.reads true).does.innermost _ ((c.take.ensures.reads true).does.innermost _ c.start-node.ensures.marker))
+types::ptr_type-complete-requires t c = (c.expect_type_no_bounds.ensures.reads true).does.innermost _ ((c.const_or_mut.ensures.reads true).does.innermost _ ((c.take.ensures.reads true).does.innermost _ c.start-node.ensures.marker))
 
 pub types::ptr_type-returns-clause-reads : goal.types::ptr_type-returns-clause-reads
-types::ptr_type-returns-clause-reads t c = λ cond. reads-node _ c.start-node.ensures.opens (reads-then _ (c.take.ensures.reads cond) (reads-then _ (c.const_or_mut.ensures.reads cond) (c.expect_type.ensures.reads cond))) c.complete.ensures.closes
+types::ptr_type-returns-clause-reads t c = λ cond. reads-node _ c.start-node.ensures.opens (reads-then _ (c.take.ensures.reads cond) (reads-then _ (c.const_or_mut.ensures.reads cond) (c.expect_type_no_bounds.ensures.reads cond))) c.complete.ensures.closes
 
 pub types::ref_type-complete-requires : goal.types::ref_type-complete-requires
-types::ref_type-complete-requires t c = (c.expect_type.ensures.reads true).does.innermost _ ((c.eat.ensures.reads true).does.innermost _ ((c.opt_lifetime.ensures.reads true).does.innermost _ ((c.take.ensures.reads true).does.innermost _ c.start-node.ensures.marker)))
+types::ref_type-complete-requires t c = (c.expect_type_no_bounds.ensures.reads true).does.innermost _ ((c.eat.ensures.reads true).does.innermost _ ((c.opt_lifetime.ensures.reads true).does.innermost _ ((c.take.ensures.reads true).does.innermost _ c.start-node.ensures.marker)))
 
 pub types::ref_type-returns-clause-reads : goal.types::ref_type-returns-clause-reads
-types::ref_type-returns-clause-reads t c = λ cond. reads-node _ c.start-node.ensures.opens (reads-then _ (c.take.ensures.reads cond) (reads-then _ (c.opt_lifetime.ensures.reads cond) (reads-then _ (c.eat.ensures.reads cond) (c.expect_type.ensures.reads cond)))) c.complete.ensures.closes
+types::ref_type-returns-clause-reads t c = λ cond. reads-node _ c.start-node.ensures.opens (reads-then _ (c.take.ensures.reads cond) (reads-then _ (c.opt_lifetime.ensures.reads cond) (reads-then _ (c.eat.ensures.reads cond) (c.expect_type_no_bounds.ensures.reads cond)))) c.complete.ensures.closes
 
 pub types::paren_type-after_paren-requires : goal.types::paren_type-after_paren-requires
 types::paren_type-after_paren-requires t c = (omega arith, (c.take.ensures.reads true).does.innermost _ c.requires.innermost)
@@ -173,11 +173,11 @@ pub types::array_length-returns-clause-reads : goal.types::array_length-returns-
 types::array_length-returns-clause-reads t c = λ cond. reads-node cond c.start-node.ensures.opens (reads-mode cond c.expect_expression.ensures.reads) c.complete.ensures.closes
 
 pub types::ret_type-complete-requires : goal.types::ret_type-complete-requires
-types::ret_type-complete-requires t c = (c.expect_type.ensures.reads true).does.innermost _ ((c.take_pair.ensures.reads true 0 0).does.innermost _ c.start-node.ensures.marker)
+types::ret_type-complete-requires t c = (c.expect_type_no_bounds.ensures.reads true).does.innermost _ ((c.take_pair.ensures.reads true 0 0).does.innermost _ c.start-node.ensures.marker)
 
 pub types::ret_type-returns-clause-gives : goal.types::ret_type-returns-clause-gives
 unfolding look_of begins_below whole rule items statements expressions patterns types paths there_at shift passes is_silent begins in_mode anew row one_of any_of no_longer longest is_longer
-types::ret_type-returns-clause-gives t c = λ cond. gives-anew (anew-after refl (reads-node _ c.start-node.ensures.opens (reads-then _ (c.take_pair.ensures.reads cond _ _) (c.expect_type.ensures.reads cond)) c.complete.ensures.closes))
+types::ret_type-returns-clause-gives t c = λ cond. gives-anew (anew-after refl (reads-node _ c.start-node.ensures.opens (reads-then _ (c.take_pair.ensures.reads cond _ _) (c.expect_type_no_bounds.ensures.reads cond)) c.complete.ensures.closes))
 
 pub types::opt_type_after-returns-then-at-clause-reads : goal.types::opt_type_after-returns-then-at-clause-reads
 unfolding look_of begins_below whole rule items statements expressions patterns types paths there_at shift passes is_silent begins in_mode anew row one_of any_of no_longer longest is_longer
@@ -248,7 +248,7 @@ types::new_type-returns-clause-reads t c = λ cond. reads-here (saw-so (c.at.ens
 
 pub types::for_or_path-returns-then-at-clause-reads : goal.types::for_or_path-returns-then-at-clause-reads
 unfolding look_of begins_below whole rule items statements expressions patterns types paths there_at shift passes is_silent begins in_mode anew row one_of any_of no_longer longest is_longer
-types::for_or_path-returns-then-at-clause-reads t c = λ cond. reads-here (saw-so (c.at.ensures.sees cond) c.if-at.true and nothing) (after-look _ c.at.ensures.peeks.same (c.for_type.ensures.reads cond))
+types::for_or_path-returns-then-at-clause-reads t c = λ cond. reads-or _ (saw-so (c.at.ensures.sees cond) c.if-at.true) (after-look _ c.at.ensures.peeks.same (c.for_type.ensures.reads cond))
 
 pub types::for_or_path-returns-then-at-clause-takes : goal.types::for_or_path-returns-then-at-clause-takes
 types::for_or_path-returns-then-at-clause-takes t c = record {
@@ -293,12 +293,12 @@ types::for_type-complete-requires t c = (c.expect_type_no_bounds.ensures.reads t
 pub types::for_type-returns-clause-reads : goal.types::for_type-returns-clause-reads
 types::for_type-returns-clause-reads t c = λ cond. reads-node _ c.start-node.ensures.opens (reads-then _ (c.for_binder.ensures.reads cond) (c.expect_type_no_bounds.ensures.reads cond)) c.complete.ensures.closes
 
-pub types::opt_plus_bounds-wrap-frame-requires-2 : goal.types::opt_plus_bounds-wrap-frame-requires-2
-types::opt_plus_bounds-wrap-frame-requires-2 t c = (c.bounds_after_plus.ensures.reads true).does.innermost _ c.wrap-frame.ensures.marker
+pub types::opt_plus_bounds-wrap-frame-requires-then-at : goal.types::opt_plus_bounds-wrap-frame-requires-then-at
+types::opt_plus_bounds-wrap-frame-requires-then-at t c = (c.bounds_after_plus.ensures.reads true).does.innermost _ c.wrap-frame.ensures.marker
 
 pub types::opt_plus_bounds-returns-then-at-clause-reads : goal.types::opt_plus_bounds-returns-then-at-clause-reads
 unfolding look_of begins_below whole rule items statements expressions patterns types paths there_at shift passes is_silent begins in_mode anew row one_of any_of no_longer longest is_longer
-types::opt_plus_bounds-returns-then-at-clause-reads t c = λ cond. reads-here (saw-so (c.at.ensures.sees cond) c.if-at.true and nothing) (after-look _ c.at.ensures.peeks.same (reads-then _ (reads-wrap _ (reads-nothing _ (does-nothing _)) c.wrap-frame.ensures.wraps) (reads-then _ (reads-wrap _ (c.bounds_after_plus.ensures.reads cond) c.wrap-frame-2.ensures.wraps) (reads-wrap _ (reads-nothing _ (does-nothing _)) c.wrap.ensures.wraps))))
+types::opt_plus_bounds-returns-then-at-clause-reads t c = λ cond. reads-here (saw-so (c.at.ensures.sees cond) c.if-at.true and nothing) (after-look _ c.at.ensures.peeks.same (reads-then _ (reads-wrap _ (reads-nothing _ (does-nothing _)) c.wrap-frame.ensures.wraps) (reads-then _ (reads-wrap _ (c.bounds_after_plus.ensures.reads cond) c.wrap-frame-then-at.ensures.wraps) (reads-wrap _ (reads-nothing _ (does-nothing _)) c.wrap.ensures.wraps))))
 
 pub types::opt_plus_bounds-returns-clause-reads : goal.types::opt_plus_bounds-returns-clause-reads
 unfolding look_of begins_below whole rule items statements expressions patterns types paths there_at shift passes is_silent begins in_mode anew row one_of any_of no_longer longest is_longer
@@ -350,3 +350,23 @@ types::inside-returns-else-at_new_type t c = record {
 
 pub types::expect_type-any_type-requires : goal.types::expect_type-any_type-requires
 types::expect_type-any_type-requires t c = (omega arith, record { sees = λ d. saw-after c.at_type.ensures.peeks.same (saw-so (c.at_type.ensures.sees d) c.if-at_type.true); some = omega (arith, c.at_type.ensures.some c.if-at_type.true, c.at_type.ensures.peeks.left) })
+
+pub types::any_type-inside-frame-requires : goal.types::any_type-inside-frame-requires
+types::any_type-inside-frame-requires t c = (omega arith, (record { sees = λ d. saw-inside c.start-frame.ensures.opens (c.requires.begins.sees d); some = omega (arith, c.requires.begins.some, c.start-frame.ensures.stays.left) }, c.start-frame.ensures.marker))
+
+pub types::after_paren-tuple_tail-requires : goal.types::after_paren-tuple_tail-requires
+types::after_paren-tuple_tail-requires t c = (omega arith, (c.expect_type.ensures.reads true).does.innermost _ (c.at.ensures.peeks.same.innermost _ c.requires.innermost))
+
+pub types::inside-returns-in-STAR-clause-takes : goal.types::inside-returns-in-STAR-clause-takes
+types::inside-returns-in-STAR-clause-takes t c = record {
+  left = omega (arith, c.ptr_type.ensures.takes.left, c.current.ensures.peeks.left);
+  looks = omega (arith, c.ptr_type.ensures.takes.looks, c.current.ensures.peeks.looks);
+  marker = (c.ptr_type.ensures.reads true).does.innermost _ (c.current.ensures.peeks.same.innermost _ c.requires.innermost);
+}
+
+pub types::inside-returns-in-AMP-clause-takes : goal.types::inside-returns-in-AMP-clause-takes
+types::inside-returns-in-AMP-clause-takes t c = record {
+  left = omega (arith, c.ref_type.ensures.takes.left, c.current.ensures.peeks.left);
+  looks = omega (arith, c.ref_type.ensures.takes.looks, c.current.ensures.peeks.looks);
+  marker = (c.ref_type.ensures.reads true).does.innermost _ (c.current.ensures.peeks.same.innermost _ c.requires.innermost);
+}
