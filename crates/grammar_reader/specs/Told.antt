@@ -1,14 +1,13 @@
 -- The argument of a function that reads one of several things.
 use Rattle.std.specs.Prelude.{ℕ, [], ◌∷◌}
-use Rattle.rust_grammar.specs.Calls.{Attribute, GenericArgs, Item}
-use Rattle.rust_grammar.specs.Notation.{◌or◌, ⁅◌⁆, ◌before◌, ◌not_before◌, list_element, until}
+use Rattle.rust_grammar.specs.Calls.{Attribute, Item}
+use Rattle.rust_grammar.specs.Notation.{◌or◌, ◌before◌, ◌not_before◌, list_element, until}
 use Rattle.rust_grammar.specs.Rule as rules
 use Rattle.rust_grammar.specs.Rule.{Look, Either, Rule, Call, Unless, When}
 use Rattle.rust_grammar.specs.Statements.{Listing, after_block, in_block, in_macro}
 use Rattle.rust_grammar.specs.Words.{one, '::', '<', '=', '#', '!'}
-use Rattle.rust_grammar.specs.Paths.{expr_args, type_arg, type_args}
+use Rattle.rust_grammar.specs.Paths.{captured, expr_args, type_arg, type_args}
 use Rattle.rust_grammar.specs.Expressions.{closure_param}
-use Rattle.rust_grammar.specs.Paths.{captured}
 use Rattle.rust_grammar.specs.Items.{record_field, tuple_field, variant}
 use Rattle.grammar_reader.specs.declared.grammar.expressions.Level.{Level}
 use Rattle.grammar_reader.specs.declared.grammar.expressions.Level.TheVariants as levels

@@ -1,5 +1,5 @@
 -- Const arguments.
-use Rattle.std.proofs.Common.{true, false, arith}
+use Rattle.std.proofs.Common.{true, arith}
 use Rattle.rust_grammar.specs.Expressions.{expressions}
 use Rattle.rust_grammar.specs.Items.{items}
 use Rattle.rust_grammar.specs.Meaning.{begins_below, look_of}

@@ -1,5 +1,5 @@
 -- Bounds that only the whole language has.
-use Rattle.std.proofs.Common.{true, false}
+use Rattle.std.proofs.Common.{true}
 use Rattle.rust_grammar.specs.Expressions.{expressions}
 use Rattle.rust_grammar.specs.Items.{items}
 use Rattle.rust_grammar.specs.Meaning.{begins_below, look_of}

@@ -1,5 +1,5 @@
 -- Types, arm by arm.
-use Rattle.std.proofs.Common.{true, false, refl, subst, arith}
+use Rattle.std.proofs.Common.{true, refl, subst, arith}
 use Rattle.rust_grammar.specs.Rule as rules
 use Rattle.rust_grammar.specs.Rule.{Look}
 use Rattle.rust_grammar.specs.Expressions.{expressions}
@@ -13,7 +13,7 @@ use Rattle.rust_grammar.specs.Statements.{statements}
 use Rattle.rust_grammar.specs.Types.{for_or_path_begins, front_path_begins, new_type_begins, types}
 use Rattle.rust_grammar.specs.Whole.{rule, whole}
 use Rattle.grammar_reader.specs.declared.grammar.paths.Mode.TheVariants as modes
-use Rattle.grammar_reader.proofs.PathArgs.{any-mode, as-word, paths-begin}
+use Rattle.grammar_reader.proofs.PathArgs.{as-word, paths-begin}
 use Rattle.rust_productions.specs.Reads.{looks, Saw}
 use Rattle.rust_productions.proofs.Begins.{saw-begun-path}
 use Rattle.rust_productions.proofs.ByHand.{after-look, completes-leave, does-nothing, goes, reads-call, reads-mode, reads-more, reads-node, reads-none, reads-nothing, reads-opt, reads-or, reads-then, reads-wrap}
