@@ -54,7 +54,7 @@ impl<'a> Reading<'a> {
         ensures lexed { IfOk result (λ reading. reading.lexed ≡ whole_of edition (chars text.now)) }
         ensures tree { IfOk result (λ reading.
             IsTreeOf (tree_of (is_whole grammar) (production_of entry_point) edition (chars text.now))
-                reading.rows.items reading.said.items) }
+            reading.rows.items reading.said.items) }
     {
         let lexed = LexedStr::new(alloc, edition, text)?;
         let input = grammar.input(alloc, &lexed)?;

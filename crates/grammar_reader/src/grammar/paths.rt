@@ -20,9 +20,7 @@ use parser_events::message::Message;
 use parser_events::parser::{Marker, Parser};
 use parser_input::syntax_kind::SyntaxKind;
 use rust_productions::grammar::names::{at_name_ref, name_ref};
-use rust_productions::grammar::paths::{
-    at_colons, at_fn_args, at_next_segment, first_word,
-};
+use rust_productions::grammar::paths::{at_colons, at_fn_args, at_next_segment, first_word};
 use rust_productions::grammar::{
     abandon, at, at_second, at_third, complete, error, expect, start, take, take_pair, wrap,
 };

@@ -15,8 +15,7 @@ ghost use Rattle.rust_productions.specs.Starts.{Starts};
 
 use crate::grammar::names::{at_name_ref, expect_name_ref, name_ref};
 use crate::grammar::{
-    abandon, at, at_pair, at_third, at_whole, complete, error, nth,
-    start, take_pair, wrap,
+    abandon, at, at_pair, at_third, at_whole, complete, error, nth, start, take_pair, wrap,
 };
 use parser_events::message::Message;
 use parser_events::parser::{Marker, Parser};

@@ -9,9 +9,7 @@ ghost use Rattle.rust_grammar.specs.Types as rows;
 ghost use Rattle.rust_productions.specs.Reads.{looks, Saw};
 
 use crate::grammar::paths::at_path;
-use crate::grammar::{
-    at_contextual, at_second, at_third, at_whole, current, nth,
-};
+use crate::grammar::{at_contextual, at_second, at_third, at_whole, current, nth};
 use parser_events::parser::Parser;
 use parser_input::syntax_kind::SyntaxKind;
 

@@ -161,3 +161,14 @@ returns-in-Variant-clause-peeks c = record {
   left = omega arith;
   looks = subst (λ (e : Element). spent c.at_named_member-in-Variant.new.p ≤ spent c.args.p.now + looks_before e) (sym c.in-Variant.is) (omega (arith, c.at_named_member-in-Variant.ensures.peeks.looks));
 }
+
+pub returns-in-TypeArg-clause-sees : goal.returns-in-TypeArg-clause-sees
+unfolding look_of begins_below whole rule items statements expressions patterns types paths there_at shift passes is_silent begins in_mode anew row one_of any_of no_longer longest is_longer
+returns-in-TypeArg-clause-sees c = subst (λ (e : Element). Saw false (begins looks (element_of e)) c.args.p.now c.at_type-in-TypeArg.result) (sym c.in-TypeArg.is) (c.at_type-in-TypeArg.ensures.sees false)
+
+pub returns-in-TypeArg-clause-peeks : goal.returns-in-TypeArg-clause-peeks
+returns-in-TypeArg-clause-peeks c = record {
+  same = search rules;
+  left = omega arith;
+  looks = subst (λ (e : Element). spent c.at_type-in-TypeArg.new.p ≤ spent c.args.p.now + looks_before e) (sym c.in-TypeArg.is) (omega (arith, c.at_type-in-TypeArg.ensures.peeks.looks));
+}
