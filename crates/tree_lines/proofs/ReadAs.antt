@@ -1,5 +1,5 @@
 -- What is listed of a text's steps is the tree of the text.
-use Rattle.std.proofs.Common.{false, ◌≡◌, ℕ, true, List, [], ◌++◌, length, map, refl, ap, ◌∙◌}
+use Rattle.std.proofs.Common.{Bool, ◌≡◌, ℕ, true, List, [], ◌++◌, length, map, refl, ap, ◌∙◌}
 use Rattle.parser_input.specs.Input.{Token, input}
 use Rattle.parser_input.specs.Lexed.{leaves_of}
 use Rattle.parser_input.specs.Stored.{Whole, whole_of}
