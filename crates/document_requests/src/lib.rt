@@ -4,6 +4,7 @@
 //! `run` reads a request as JSON from any reader, and writes its answer to any writer.
 #![tactic(auto)]
 
+mod answer_line;
 pub mod apply;
 mod device;
 pub mod fault;
@@ -12,13 +13,18 @@ mod lines;
 mod print;
 pub mod reply;
 pub mod request;
+mod rule;
 pub mod run;
 pub mod serve;
+mod serve_lines;
 mod shape;
 pub mod stop;
 pub mod watched;
 
 pub use fault::Fault;
 pub use reply::{Refusal, Reply};
+pub use rule::{CommitRule, answer_by};
+pub use serve_lines::serve_lines;
+pub use shape::commands_of;
 pub use request::{Change, Command, Entry, Op, Request, Target};
 pub use watched::Watched;

@@ -3,10 +3,12 @@
 use crate::command_line::command;
 use crate::edition_of::edition_named;
 use crate::inputs::Inputs;
+use crate::rewrite::rewrite;
 use crate::source_list::{SourceList, source_list};
 use crate::view::view;
 use anyhow::Result;
 use clap::ArgMatches;
+use document_requests::{Watched, serve_lines};
 use source_tools::{
     Format, RenameFailure, RenameStop, Renaming, Source, View, plan_renames, rename_files,
     write_diffs,
@@ -18,10 +20,7 @@ use std::env;
 pub(crate) const FAULT: u8 = 2;
 
 /// Returns the files of a command.
-pub(crate) fn files_of(
-    rt: &HostRuntime,
-    matches: &ArgMatches<'_>,
-) -> Result<SourceList, AllocError> {
+pub(crate) fn files_of(rt: &HostRuntime, matches: &ArgMatches<'_>) -> Result<SourceList, AllocError> {
     let edition = match matches.get_str("edition") {
         Some(name) => edition_named(name),
         None => None,
@@ -48,9 +47,7 @@ fn report_stop(rt: &HostRuntime, sources: &[Source], stop: &RenameStop) {
             let _ = eprintln!(rt; "tevondimby: {path}: {fault}; no file is written");
         }
         RenameStop::Unwritten(path, error) => {
-            let _ = eprintln!(rt;
-                "tevondimby: {path}: {error}; files before it, if any, are written"
-            );
+            let _ = eprintln!(rt; "tevondimby: {path}: {error}; files before it, if any, are written");
         }
     }
 }
@@ -100,6 +97,18 @@ fn format_of(matches: &ArgMatches<'_>) -> Format {
     }
 }
 
+/// Answers the requests on standard input, one a line.
+fn serve(rt: &HostRuntime) -> Result<u8> {
+    let mut writer = Watched::new(rt.stdout());
+    match serve_lines(rt.alloc(), rt.stdin(), &mut writer) {
+        Ok(()) => Ok(0),
+        Err(fault) => {
+            let _ = eprintln!(rt; "tevondimby: {fault}");
+            Ok(FAULT)
+        }
+    }
+}
+
 /// Runs the command of the command line. Returns its exit status.
 pub(crate) fn run(rt: &HostRuntime) -> Result<u8> {
     let alloc = rt.alloc();
@@ -116,6 +125,8 @@ pub(crate) fn run(rt: &HostRuntime) -> Result<u8> {
         Some(("tokens", matches)) => view(rt, View::Tokens(format_of(matches)), matches),
         Some(("tree", matches)) => view(rt, View::Tree(format_of(matches)), matches),
         Some(("rename", matches)) => rename(rt, matches),
+        Some(("rewrite", matches)) => rewrite(rt, matches),
+        Some(("serve", _)) => serve(rt),
         _ => Ok(FAULT),
     }
 }

@@ -1,0 +1,2 @@
+pub mod RewriteLemmas
+pub mod CommandLemmas
