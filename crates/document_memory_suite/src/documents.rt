@@ -1,4 +1,5 @@
 //! Documents that are opened, edited and committed.
+use crate::differences::{difference, line_indent};
 use anyhow::bail;
 use memory_table::row::{Ask, Row};
 use memory_table::shown::all_shown;
@@ -23,9 +24,12 @@ pub(crate) enum DocumentCall {
     Commit(&'static str, Changes),
     /// Commits changes, unless a text has messages.
     CommitWithoutMessages(&'static str, Changes),
+    /// Tells the first difference that changes make.
+    Difference(&'static str, Changes),
     Payload,
     Find,
     Editor,
+    LineIndent,
 }
 
 /// The changes of one commit.
@@ -50,7 +54,7 @@ pub(crate) enum Changes {
 /// An element by its kind and range.
 type Place = (SyntaxKind, u32, u32);
 
-fn range(start: u32, end: u32) -> TextRange {
+pub(crate) fn range(start: u32, end: u32) -> TextRange {
     if end < start {
         return TextRange::empty(TextSize(start));
     }
@@ -245,7 +249,7 @@ fn arguments(
     replacing(alloc, editor, found(alloc, document, ONE)?, &new)
 }
 
-fn recorded(
+pub(crate) fn recorded(
     alloc: Global,
     changes: Changes,
     document: &Document,
@@ -343,6 +347,7 @@ impl Ask for DocumentCall {
         let edition = Edition::Edition2021;
         match self {
             DocumentCall::Payload => payload_read(alloc),
+            DocumentCall::LineIndent => line_indent(alloc),
             DocumentCall::Open(edition, text) => {
                 let document = open(alloc, (edition, text), &mut ids, refused)?;
                 Ok(state(alloc, &document)?)
@@ -364,6 +369,10 @@ impl Ask for DocumentCall {
             DocumentCall::CommitWithoutMessages(text, changes) => {
                 let mut document = open(alloc, (edition, text), &mut ids, refused)?;
                 commit(alloc, &mut document, (false, changes), &mut ids, refused)
+            }
+            DocumentCall::Difference(text, changes) => {
+                let document = open(alloc, (edition, text), &mut ids, refused)?;
+                difference(alloc, &document, changes, &mut ids)
             }
             _ => asked(
                 alloc,
@@ -466,7 +475,22 @@ pub(crate) const ROWS: &[Row<DocumentCall>] = &[
         DocumentCall::CommitWithoutMessages("struct S; }", Changes::Name),
         "messages",
     ),
+    (
+        "rust_document::Document::difference",
+        DocumentCall::Difference("struct S;", Changes::Name),
+        "none",
+    ),
+    (
+        "rust_document::Document::difference",
+        DocumentCall::Difference("struct S;", Changes::Keyword),
+        "7..13 NAME -",
+    ),
     ("rust_document::payload", DocumentCall::Payload, "1 1 + 2"),
     ("rust_document::Document::find", DocumentCall::Find, "S"),
     ("rust_document::Document::editor", DocumentCall::Editor, "1"),
+    (
+        "rust_source::Source::line_indent",
+        DocumentCall::LineIndent,
+        " \t",
+    ),
 ];

@@ -7,6 +7,7 @@
 //! with one request for memory refused, each in turn.
 #![tactic(auto)]
 
+mod differences;
 mod documents;
 mod requests;
 

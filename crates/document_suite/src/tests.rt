@@ -5,6 +5,7 @@
 mod annotated;
 mod comments;
 mod commits;
+mod differences;
 mod edits;
 mod guide;
 mod kept;

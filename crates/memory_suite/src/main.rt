@@ -8,6 +8,7 @@
 //! with one request for memory refused, each in turn.
 #![tactic(auto)]
 
+mod around;
 mod cursors;
 mod editors;
 mod finding;
@@ -31,6 +32,7 @@ fn main(rt: HostRuntime) -> anyhow::Result<()> {
     try_all(alloc, finding::ROWS, &mut tally)?;
     try_all(alloc, walks::ROWS, &mut tally)?;
     try_all(alloc, trees::ROWS, &mut tally)?;
+    try_all(alloc, around::ROWS, &mut tally)?;
     try_all(alloc, mappings::ROWS, &mut tally)?;
     try_all(alloc, editors::ROWS, &mut tally)?;
     try_all(alloc, typed::ROWS, &mut tally)?;

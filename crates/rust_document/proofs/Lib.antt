@@ -41,3 +41,5 @@ pub mod NameTexts
 pub mod FirstNames
 pub mod FoundElements
 pub mod NameEdits
+pub mod Differences
+pub mod DifferenceVerdicts

@@ -20,10 +20,10 @@ use Rattle.rust_document.specs.declared.read.NextReading.{NextReading}
 use Rattle.rust_document.specs.declared.error.CommitError.{CommitError}
 use Rattle.rust_document.specs.declared.error.CommitError.TheVariants as refusals
 
-rewritten-is : (e : Editing) (t : Tree) → IsNode (rewriting e) t → rewritten e ≡ t
+pub rewritten-is : (e : Editing) (t : Tree) → IsNode (rewriting e) t → rewritten e ≡ t
 rewritten-is e t is = ap root_of is
 
-within : (e : Editing) (b : Bool) → nat_lt MAX_TEXT (length (tree_text (rewritten e))) ≡ b → new_fits (rewriting e) ≡ true → is_too_long e ≡ b
+pub within : (e : Editing) (b : Bool) → nat_lt MAX_TEXT (length (tree_text (rewritten e))) ≡ b → new_fits (rewriting e) ≡ true → is_too_long e ≡ b
 within e b long fits = either-or _ _ b long fits
   where
     either-or : (a c b : Bool) → a ≡ b → c ≡ true → (a || not c) ≡ b

@@ -48,7 +48,7 @@ foreign d e b is other = verdict-is d e true _ _ _ _ (flipped (is_foreign d e) (
     flipped true h = refl
     flipped false h = cc
 
-present-own : (a b : Bool) → b ≡ not a → b ≡ true → a ≡ false
+pub present-own : (a b : Bool) → b ≡ not a → b ≡ true → a ≡ false
 present-own true b is own = cc
 present-own false b is own = refl
 

@@ -63,7 +63,7 @@ rewritten-renamed d e (Err x) u = tt
 pub own-renaming : (d : State) (e : Editing) (b : Bool) → b ≡ not (is_foreign d e) → b ≡ false → IsPlainRenaming d e → ⊥
 own-renaming d e b is foreign renaming = let z : true ≡ false = sym (ap not (own-tree d e renaming.own)) ∙ sym is ∙ foreign in cc
 
--- a list of messages in code that was told to be empty, or not
+-- a list of messages in code that is empty, or not
 pub none-told : (es items : List SyntaxError) (ms : List Message) (b : Bool) → es ≡ items → map message_of_error items ≡ ms → b ≡ nat_lt 0 (length es) → b ≡ false → ms ≡ []
 none-told es [] ms b same is told none = sym is
 none-told es (x ∷ xs) ms b same is told none = absurd (let z : true ≡ false = sym (lt-ltb 0 (length (x ∷ xs)) (omega arith)) ∙ ap (λ (ys : List SyntaxError). nat_lt 0 (length ys)) (sym same) ∙ sym told ∙ none in cc)

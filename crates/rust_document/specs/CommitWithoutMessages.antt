@@ -15,7 +15,7 @@ pub record HaveNoMessages (d : State) (e : Editing) : Type 0 where
   pub present : messages d.edition (chars d.text) ≡ []
   pub new : messages d.edition (chars (tree_text (rewritten e))) ≡ []
 
--- The first case that fits: what the verdict says, then a message of one of the texts, then want of a tree number. Out of memory
+-- The first case that fits: what the verdict says, then a message of one of the texts, then that no tree number is left. Out of memory
 -- comes at any point.
 abbrev pub RefusesWithoutMessages : State → Editing → ℕ → WithoutMessagesError → Type 0
 RefusesWithoutMessages d e number Messages = (verdict d e ≡ Accepted) × (HaveNoMessages d e → ⊥)

@@ -31,3 +31,4 @@ pub mod Histories
 pub mod WellSpaced
 pub mod NameEdits
 pub mod MessageSinks
+pub mod Difference

@@ -9,7 +9,8 @@ ghost use Rattle.rust_document.specs.Step.{bare_tree};
 use parser_input::syntax_kind::SyntaxKind;
 use rowan_green::{Children, GreenElement, GreenNode, NodeOrToken};
 
-fn is_left_out(element: &GreenElement) -> bool
+/// Returns `true` if an element is whitespace or a comment.
+pub fn is_left_out(element: &GreenElement) -> bool
     ensures { result ≡ is_left_out element.now }
 {
     let NodeOrToken::Token(token) = element else {

@@ -201,7 +201,7 @@ impl From<RewriteError> for CommitError {
     }
 }
 
-/// A refusal of `Document::commit_without_messages`. The document is as before.
+/// The error type of `Document::commit_without_messages`. On error, the document is unchanged.
 #[derive(Clone, Copy, Debug, PartialEq, Eq)]
 pub enum WithoutMessagesError {
     /// The present or the new text has messages.

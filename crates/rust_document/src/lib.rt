@@ -6,6 +6,7 @@
 
 mod bare;
 mod content_edit;
+pub mod difference;
 pub mod document;
 mod edit;
 pub mod error;
@@ -24,6 +25,7 @@ pub mod syntax_error;
 pub mod tokens;
 mod tree_sink;
 
+pub use difference::Difference;
 pub use document::{Committed, Document, Edited, MAX_TEXT};
 pub use error::{CommitError, EditError, OpenError, PayloadError, WithoutMessagesError};
 pub use payload_entry::{PayloadEntry, payload};

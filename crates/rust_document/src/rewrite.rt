@@ -1,20 +1,25 @@
 //! Reads the text of a rewritten tree, and compares.
-ghost use Rattle.std.specs.Prelude.{◌≡◌, length, map, string_bytes, IfOk, IfErr};
+ghost use Rattle.std.specs.Prelude.{◌≡◌, ◌≤◌, length, map, option_map, string_bytes, IfOk, IfErr, OnOk};
+ghost use Rattle.rowan_green.specs.Forest.{tree_text};
 ghost use Rattle.tree_rewrite.specs.Fits.{IsNode};
 ghost use Rattle.tree_rewrite.specs.Pieces.{Say};
 ghost use Rattle.syntax_editor.specs.Rewriting.{rewriting};
 ghost use Rattle.rust_document.specs.Committed.{annotated_ends, bounds_of};
+ghost use Rattle.rust_document.specs.Difference.{difference, told_of, IsDifference, LacksDifference, LacksReading};
 ghost use Rattle.rust_document.specs.NextReading.{IsOwnParse};
 ghost use Rattle.rust_document.specs.Rewrite.{annotated};
+ghost use Rattle.rust_document.specs.Step.{MAX_TEXT};
 ghost use Rattle.rust_document.specs.Rewritten.{IsReadBack, RefusesReadBack, IsRewritten, RefusesRewritten};
 
 use crate::bare::same_bare;
+use crate::difference::{Difference, difference_of};
 use crate::document::MAX_TEXT;
 use crate::error::CommitError;
 use crate::lexing::lexed_content;
 use crate::parse::Parse;
-use crate::read::{NextReading, NextText, read_next};
+use crate::read::{NextReading, NextText, read, read_next};
 use parser_input::edition::Edition;
+use ra_parser::TopEntryPoint;
 use rowan_green::{GreenNode, TextRange};
 use std::alloc::{AllocError, Global};
 use syntax_editor::{SyntaxAnnotation, SyntaxEditor};
@@ -133,4 +138,45 @@ pub fn rewrite(
         changed: rewritten.changed,
         annotated,
     })
+}
+
+/// Returns the first difference between a tree and the reading of its text.
+///
+/// # Errors
+///
+/// - [`CommitError::TooLong`] if the text has more than [`MAX_TEXT`] bytes.
+/// - [`CommitError::NoMemory`] if an allocation fails.
+fn difference_from_reading(
+    alloc: Global,
+    edition: Edition,
+    tree: &GreenNode,
+) -> Result<Option<Difference>, CommitError>
+    ensures fits { OnOk result (length (tree_text tree.now) ≤ MAX_TEXT) }
+    ensures told { IfOk result (λ r. option_map told_of r ≡ difference edition tree.now) }
+    ensures refused { IfErr result (LacksReading tree.now) }
+{
+    let len = usize::from(tree.text_len());
+    if len > MAX_TEXT {
+        return Err(CommitError::TooLong);
+    }
+    let text = format!(in alloc; "{tree}")?;
+    let reading = read(alloc, TopEntryPoint::SourceFile, edition, text.as_str())?;
+    Ok(difference_of(tree, &reading.root))
+}
+
+/// Returns the first difference between the rewritten tree of `editor` and the reading of its text.
+///
+/// # Errors
+///
+/// As of [`rewrite`], but never [`CommitError::Unfaithful`].
+pub fn rewritten_difference(
+    alloc: Global,
+    edition: Edition,
+    editor: &SyntaxEditor,
+) -> Result<Option<Difference>, CommitError>
+    ensures told { IfOk result (IsDifference edition editor.now) }
+    ensures refused { IfErr result (LacksDifference editor.now) }
+{
+    let made = editor.rewritten(alloc)?;
+    difference_from_reading(alloc, edition, &made.green)
 }

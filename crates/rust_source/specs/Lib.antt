@@ -1,1 +1,5 @@
 pub mod Held
+pub mod Lending
+pub mod Lines
+pub mod Nodes
+pub mod Changes

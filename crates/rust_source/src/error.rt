@@ -1,177 +1,149 @@
-//! The error of a tool.
+//! The errors of a tool.
 use rust_document::{
     CommitError, EditError, MakeError, MergeError, OpenError, PayloadError, RecordError,
     WhitespaceError, WithoutMessagesError,
 };
 use std::alloc::AllocError;
-use std::error::Error;
-use std::fmt;
 use syntax_tree::PositionError;
+use thiserror::Error;
 
-/// Any refusal of a call that a tool makes.
-#[derive(Clone, Copy, Debug, PartialEq, Eq)]
+/// The error of the calls of [`Source`](crate::Source) that read a text as one node.
+#[derive(Clone, Copy, Debug, PartialEq, Eq, Error)]
+pub enum NodeError {
+    /// The text is no payload.
+    #[error(transparent)]
+    Payload(PayloadError),
+    /// The text has no such node, or more than one.
+    #[error("not one node")]
+    NotOneNode,
+}
+
+/// Any error of a call that a tool makes.
+#[derive(Clone, Copy, Debug, PartialEq, Eq, Error)]
 pub enum SourceError {
     /// A text is not opened.
-    Open(OpenError),
+    #[error(transparent)]
+    Open(#[from] OpenError),
     /// A text is not edited.
-    Edit(EditError),
+    #[error(transparent)]
+    Edit(#[from] EditError),
     /// A text is no payload.
-    Payload(PayloadError),
+    #[error(transparent)]
+    Payload(#[from] PayloadError),
+    /// A text is not one node.
+    #[error(transparent)]
+    Node(#[from] NodeError),
     /// There is no position beside an element.
-    Position(PositionError),
+    #[error(transparent)]
+    Position(#[from] PositionError),
     /// An element is not made.
-    Make(MakeError),
+    #[error(transparent)]
+    Make(#[from] MakeError),
     /// A change is not recorded.
-    Record(RecordError),
+    #[error(transparent)]
+    Record(#[from] RecordError),
     /// A change is not recorded with its whitespace.
-    Whitespace(WhitespaceError),
+    #[error(transparent)]
+    Whitespace(#[from] WhitespaceError),
     /// Two editors are not merged.
-    Merge(MergeError),
-    /// A commit is refused.
-    Commit(CommitError),
-    /// A commit of texts without messages is refused.
-    WithoutMessages(WithoutMessagesError),
+    #[error(transparent)]
+    Merge(#[from] MergeError),
+    /// A commit fails.
+    #[error(transparent)]
+    Commit(#[from] CommitError),
+    /// A commit of texts without messages fails.
+    #[error(transparent)]
+    WithoutMessages(#[from] WithoutMessagesError),
     /// An allocation fails.
-    Memory(AllocError),
+    #[error("out of memory")]
+    Memory(#[from(alloc)] AllocError),
 }
 
-impl fmt::Display for SourceError {
-    fn fmt<W: fmt::Write>(&self, f: &mut fmt::Formatter<W>) -> fmt::Result {
-        match self {
-            SourceError::Open(error) => write!(f, "{error}"),
-            SourceError::Edit(error) => write!(f, "{error}"),
-            SourceError::Payload(error) => write!(f, "{error}"),
-            SourceError::Position(error) => write!(f, "{error}"),
-            SourceError::Make(error) => write!(f, "{error}"),
-            SourceError::Record(error) => write!(f, "{error}"),
-            SourceError::Whitespace(error) => write!(f, "{error}"),
-            SourceError::Merge(error) => write!(f, "{error}"),
-            SourceError::Commit(error) => write!(f, "{error}"),
-            SourceError::WithoutMessages(error) => write!(f, "{error}"),
-            SourceError::Memory(_) => write!(f, "out of memory"),
+#[cfg(test)]
+mod tests {
+    use super::{NodeError, SourceError};
+    use rust_document::{
+        CommitError, EditError, MakeError, MergeError, OpenError, PayloadError, RecordError,
+        WhitespaceError, WithoutMessagesError,
+    };
+    use std::alloc::AllocError;
+    use std::test::Fail;
+    use syntax_tree::PositionError;
+
+    /// An error of each kind, its variant, and its text.
+    fn texts() -> [(SourceError, SourceError, &'static str); 12] {
+        [
+            (
+                OpenError::TooLong.into(),
+                SourceError::Open(OpenError::TooLong),
+                "too long",
+            ),
+            (
+                EditError::NoTreeNumber.into(),
+                SourceError::Edit(EditError::NoTreeNumber),
+                "no tree number is left",
+            ),
+            (
+                PayloadError::NotOneToken.into(),
+                SourceError::Payload(PayloadError::NotOneToken),
+                "not one token",
+            ),
+            (
+                NodeError::NotOneNode.into(),
+                SourceError::Node(NodeError::NotOneNode),
+                "not one node",
+            ),
+            (
+                PositionError::NoParent.into(),
+                SourceError::Position(PositionError::NoParent),
+                "the element has no parent",
+            ),
+            (
+                MakeError::TooLong.into(),
+                SourceError::Make(MakeError::TooLong),
+                "too long",
+            ),
+            (
+                RecordError::Foreign.into(),
+                SourceError::Record(RecordError::Foreign),
+                "of another tree",
+            ),
+            (
+                WhitespaceError::Foreign.into(),
+                SourceError::Whitespace(WhitespaceError::Foreign),
+                "of another tree",
+            ),
+            (
+                MergeError::Foreign.into(),
+                SourceError::Merge(MergeError::Foreign),
+                "of another tree",
+            ),
+            (
+                CommitError::Unfaithful.into(),
+                SourceError::Commit(CommitError::Unfaithful),
+                "the new text does not read as the rewritten tree",
+            ),
+            (
+                WithoutMessagesError::Messages.into(),
+                SourceError::WithoutMessages(WithoutMessagesError::Messages),
+                "has messages",
+            ),
+            (
+                AllocError.into(),
+                SourceError::Memory(AllocError),
+                "out of memory",
+            ),
+        ]
+    }
+
+    #[test]
+    fn errors_keep_their_texts(rt: HostRuntime) -> Result<(), Fail> {
+        for (error, variant, text) in texts() {
+            let shown = format!(in rt.alloc(); "{error}")?;
+            let is_right = (error == variant) & (shown.as_str() == text);
+            drop(shown);
+            assert!(rt; is_right);
         }
-    }
-}
-
-impl Error for SourceError {}
-
-impl From<OpenError> for SourceError {
-    ghost use Rattle.rust_source.specs.declared.error.SourceError.TheVariants.{Open};
-    ghost use Rattle.std.specs.Prelude.{◌≡◌};
-
-    ghost from_gives = { λ x e. e ≡ Open x };
-
-    fn from(error: OpenError) -> SourceError {
-        SourceError::Open(error)
-    }
-}
-
-impl From<EditError> for SourceError {
-    ghost use Rattle.rust_source.specs.declared.error.SourceError.TheVariants.{Edit};
-    ghost use Rattle.std.specs.Prelude.{◌≡◌};
-
-    ghost from_gives = { λ x e. e ≡ Edit x };
-
-    fn from(error: EditError) -> SourceError {
-        SourceError::Edit(error)
-    }
-}
-
-impl From<PayloadError> for SourceError {
-    ghost use Rattle.rust_source.specs.declared.error.SourceError.TheVariants.{Payload};
-    ghost use Rattle.std.specs.Prelude.{◌≡◌};
-
-    ghost from_gives = { λ x e. e ≡ Payload x };
-
-    fn from(error: PayloadError) -> SourceError {
-        SourceError::Payload(error)
-    }
-}
-
-impl From<PositionError> for SourceError {
-    ghost use Rattle.rust_source.specs.declared.error.SourceError.TheVariants.{Position};
-    ghost use Rattle.std.specs.Prelude.{◌≡◌};
-
-    ghost from_gives = { λ x e. e ≡ Position x };
-
-    fn from(error: PositionError) -> SourceError {
-        SourceError::Position(error)
-    }
-}
-
-impl From<MakeError> for SourceError {
-    ghost use Rattle.rust_source.specs.declared.error.SourceError.TheVariants.{Make};
-    ghost use Rattle.std.specs.Prelude.{◌≡◌};
-
-    ghost from_gives = { λ x e. e ≡ Make x };
-
-    fn from(error: MakeError) -> SourceError {
-        SourceError::Make(error)
-    }
-}
-
-impl From<RecordError> for SourceError {
-    ghost use Rattle.rust_source.specs.declared.error.SourceError.TheVariants.{Record};
-    ghost use Rattle.std.specs.Prelude.{◌≡◌};
-
-    ghost from_gives = { λ x e. e ≡ Record x };
-
-    fn from(error: RecordError) -> SourceError {
-        SourceError::Record(error)
-    }
-}
-
-impl From<WhitespaceError> for SourceError {
-    ghost use Rattle.rust_source.specs.declared.error.SourceError.TheVariants.{Whitespace};
-    ghost use Rattle.std.specs.Prelude.{◌≡◌};
-
-    ghost from_gives = { λ x e. e ≡ Whitespace x };
-
-    fn from(error: WhitespaceError) -> SourceError {
-        SourceError::Whitespace(error)
-    }
-}
-
-impl From<MergeError> for SourceError {
-    ghost use Rattle.rust_source.specs.declared.error.SourceError.TheVariants.{Merge};
-    ghost use Rattle.std.specs.Prelude.{◌≡◌};
-
-    ghost from_gives = { λ x e. e ≡ Merge x };
-
-    fn from(error: MergeError) -> SourceError {
-        SourceError::Merge(error)
-    }
-}
-
-impl From<CommitError> for SourceError {
-    ghost use Rattle.rust_source.specs.declared.error.SourceError.TheVariants.{Commit};
-    ghost use Rattle.std.specs.Prelude.{◌≡◌};
-
-    ghost from_gives = { λ x e. e ≡ Commit x };
-
-    fn from(error: CommitError) -> SourceError {
-        SourceError::Commit(error)
-    }
-}
-
-impl From<WithoutMessagesError> for SourceError {
-    ghost use Rattle.rust_source.specs.declared.error.SourceError.TheVariants.{WithoutMessages};
-    ghost use Rattle.std.specs.Prelude.{◌≡◌};
-
-    ghost from_gives = { λ x e. e ≡ WithoutMessages x };
-
-    fn from(error: WithoutMessagesError) -> SourceError {
-        SourceError::WithoutMessages(error)
-    }
-}
-
-impl From<AllocError> for SourceError {
-    ghost use Rattle.rust_source.specs.declared.error.SourceError.TheVariants.{Memory};
-    ghost use Rattle.std.specs.Prelude.{◌≡◌};
-
-    ghost from_gives = { λ x e. e ≡ Memory x };
-
-    fn from(error: AllocError) -> SourceError {
-        SourceError::Memory(error)
+        Ok(())
     }
 }

@@ -6,9 +6,11 @@
 #![tactic(auto)]
 
 pub mod error;
+pub mod lines;
+pub mod making;
 pub mod source;
 
-pub use error::SourceError;
+pub use error::{NodeError, SourceError};
 pub use parser_input::{Edition, SyntaxKind};
 pub use ra_parser::TopEntryPoint;
 pub use rowan_green::{TextRange, TextSize};
@@ -19,4 +21,6 @@ pub use rust_document::{
     is_plain_name,
 };
 pub use source::Source;
-pub use syntax_tree::{Element, Position, PositionError, SyntaxElement, SyntaxNode, SyntaxToken};
+pub use syntax_tree::{
+    Element, Position, PositionError, SyntaxElement, SyntaxNode, SyntaxToken, TreeIds,
+};

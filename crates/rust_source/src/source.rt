@@ -33,11 +33,11 @@ use std::alloc::{AllocError, Global};
 use std::marker::Model;
 use syntax_tree::{SyntaxElement, SyntaxNode, TreeIds};
 
-/// A text with its reading, its tree numbers and its allocator. A contract sees the document and the
-/// tree number that is next.
+/// A text with its reading, its tree numbers and its allocator. A contract sees the allocator, the
+/// document and the tree number that is next.
 pub struct Source {
-    alloc: Global,
-    ids: TreeIds,
+    pub(crate) alloc: Global,
+    pub(crate) ids: TreeIds,
     document: Document,
 }
 
@@ -57,7 +57,7 @@ impl Model for Source {
 
     ghost Value = { Held };
 
-    ghost view = { λ s. record { document = s.document; next = s.ids } };
+    ghost view = { λ s. record { alloc = s.alloc; document = s.document; next = s.ids } };
 }
 
 impl Source {
@@ -70,6 +70,7 @@ impl Source {
     pub fn open(alloc: Global, edition: Edition, text: &str) -> Result<Source, OpenError>
         ensures opened { IfOk result (λ s. s ≡
             record {
+              alloc = alloc;
               document = record { edition = edition; text = text.now; number = 1 };
               next = 2;
             }) }
@@ -88,8 +89,10 @@ impl Source {
         })
     }
 
-    /// The allocator, for calls of elements and editors.
-    pub fn alloc(&self) -> Global {
+    /// Returns the allocator, for calls of elements and editors.
+    pub fn alloc(&self) -> Global
+        ensures { result ≡ self.now.alloc }
+    {
         self.alloc
     }
 
@@ -154,6 +157,7 @@ impl Source {
             (edited self.old.document.text range.start.0 range.end.0 text.now)) }
         ensures state { OnOk result (self.new ≡
             record {
+              alloc = self.old.alloc;
               document = record {
                 edition = self.old.document.edition;
                 text = edited self.old.document.text range.start.0 range.end.0 text.now;
@@ -193,8 +197,8 @@ impl Source {
         self.document.find(self.alloc, kind, range)
     }
 
-    /// Returns what a text is in the source's edition, for the place of an element: the tree of an
-    /// entry, or a token in a tree of its own. The tree gets the next number.
+    /// Reads a text in the source's edition, to put it into a tree: returns the root of the tree of an
+    /// entry, or a token in a new tree. The tree gets the next number.
     ///
     /// # Errors
     ///
@@ -213,18 +217,14 @@ impl Source {
         ensures given { IfOk result (λ e. IsDetached self.old.next
             (payload_of entry self.old.document.edition text.now) (element_of e)) }
         ensures document { self.new.document ≡ self.old.document }
+        ensures alloc { self.new.alloc ≡ self.old.alloc }
         ensures number { OnOk result (self.new.next ≡ self.old.next + 1) }
         ensures refused { IfErr result (RefusesPayload self.old.next
             (payload_of entry self.old.document.edition text.now)) }
         ensures kept { IfErr result (λ _. self.new ≡ self.old) }
     {
-        payload(
-            self.alloc,
-            entry,
-            self.document.edition(),
-            text,
-            &mut self.ids,
-        )
+        let edition = self.edition();
+        payload(self.alloc, entry, edition, text, &mut self.ids)
     }
 
     /// Returns an editor of the present tree, with nothing recorded.
@@ -244,6 +244,7 @@ impl Source {
         ensures accepted { OnOk result (verdict self.old.document editor ≡ Accepted) }
         ensures state { OnOk result (self.new ≡
             record {
+              alloc = self.old.alloc;
               document = record {
                 edition = self.old.document.edition;
                 text = tree_text (rewritten editor);
@@ -286,6 +287,7 @@ impl Source {
         ensures no_messages { OnOk result (HaveNoMessages self.old.document editor) }
         ensures state { OnOk result (self.new ≡
             record {
+              alloc = self.old.alloc;
               document = record {
                 edition = self.old.document.edition;
                 text = tree_text (rewritten editor);

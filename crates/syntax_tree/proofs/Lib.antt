@@ -4,3 +4,4 @@ pub mod Memory
 pub mod WayLevels
 pub mod NestedWalks
 pub mod Descents
+pub mod ChildTokens

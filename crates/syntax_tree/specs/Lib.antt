@@ -7,3 +7,4 @@ pub mod Refusal
 pub mod Referred
 pub mod Search
 pub mod Same
+pub mod Nodes

@@ -4,6 +4,7 @@
 //! the way up to the root. A cursor is lent for all other reading.
 #![tactic(auto)]
 
+pub mod around;
 pub mod ast;
 pub mod element;
 pub mod elements;
@@ -11,6 +12,7 @@ pub mod error;
 pub mod find;
 pub mod handle;
 pub mod iter;
+pub mod kinds;
 pub mod language;
 pub mod mapping;
 pub mod position;
@@ -23,6 +25,7 @@ pub use element::{Element, SyntaxElement};
 pub use error::{MappingError, PositionError, Spent, TreeError};
 pub use handle::{SyntaxNode, SyntaxToken};
 pub use iter::{Ancestors, DescendantsWithTokens, SyntaxElementChildren, SyntaxNodeChildren};
+pub use kinds::{ChildrenOfKind, Descendants};
 pub use language::RustLanguage;
 pub use mapping::{SyntaxMapping, SyntaxMappingBuilder};
 pub use position::Position;

@@ -7,8 +7,8 @@ use crate::handle::SyntaxNode;
 use std::alloc::{AllocError, Global};
 
 impl SyntaxNode {
-    /// The child of this number, counted from 0, nodes and tokens alike.
-    fn child(&self, alloc: Global, number: usize) -> Result<Option<SyntaxElement>, AllocError>
+    /// Returns the child of this number, counted from 0, nodes and tokens alike.
+    fn child_at(&self, alloc: Global, number: usize) -> Result<Option<SyntaxElement>, AllocError>
         ensures { IfOk result (λ r. option_map element_of r
             ≡ standing_at self.now (number ∷ self.now.place.up)) }
     {
@@ -23,7 +23,7 @@ impl SyntaxElement {
             standing_at (element_of self.now) (number ∷ (element_of self.now).place.up)) }
     {
         match self {
-            SyntaxElement::Node(node) => node.child(alloc, number),
+            SyntaxElement::Node(node) => node.child_at(alloc, number),
             SyntaxElement::Token(token) => {
                 let _leaf = token.cursor().green();
                 Ok(None)

@@ -1,5 +1,5 @@
 //! Commits: the changes of an editor are made in a document's text, or refused.
-ghost use Rattle.std.specs.Prelude.{◌≡◌, ◌≤◌, ◌+◌, ℕ, not, nat_lt, chars, length, map, string_bytes, IfOk, IfErr, OnOk};
+ghost use Rattle.std.specs.Prelude.{◌≡◌, ◌≤◌, ◌+◌, ℕ, not, nat_lt, chars, length, map, option_map, string_bytes, IfOk, IfErr, MatchOption, OnOk};
 ghost use Rattle.rowan_green.specs.Forest.{tree_text};
 ghost use Rattle.syntax_tree.specs.Refusal.{RefusesTree};
 ghost use Rattle.rust_document.specs.Commit.{RefusesCommit};
@@ -7,18 +7,20 @@ ghost use Rattle.rust_document.specs.CommitWithoutMessages.{HaveNoMessages, Refu
 ghost use Rattle.rust_document.specs.Committed.{annotated_ends, ends_of};
 ghost use Rattle.rust_document.specs.Core.{IsReadAsCore};
 ghost use Rattle.rust_document.specs.Costs.{most_steps};
+ghost use Rattle.rust_document.specs.Difference.{difference, told_of, RefusesDifference};
 ghost use Rattle.rust_document.specs.KeptTokens.{KeepsOutput};
 ghost use Rattle.rust_document.specs.NextReading.{tokens_in, IsNextReading};
 ghost use Rattle.rust_document.specs.Renames.{IsPlainRenaming, IsReadExactly};
 ghost use Rattle.rust_document.specs.Rewrite.{annotated, rewritten, changed};
 ghost use Rattle.rust_document.specs.Rewritten.{IsRewritten};
-ghost use Rattle.rust_document.specs.Step.{MAX_TEXT, is_foreign, verdict, Accepted};
+ghost use Rattle.rust_document.specs.Step.{MAX_TEXT, is_foreign, verdict, Accepted, Unfaithful};
 ghost use Rattle.rust_document.specs.WellSpaced.{IsWellSpacedRewrite};
 ghost use Rattle.rust_document.specs.WithoutMessages.{HasNoMessages, HasPairedBrackets, HasPlacedOperators};
 
 use super::{Committed, Document};
+use crate::difference::Difference;
 use crate::error::{CommitError, WithoutMessagesError};
-use crate::rewrite::{Rewritten, rewrite};
+use crate::rewrite::{Rewritten, rewrite, rewritten_difference};
 use crate::syntax_error::SyntaxError;
 use std::alloc::Global;
 use syntax_editor::SyntaxEditor;
@@ -155,6 +157,32 @@ impl Document {
         Ok(self.accept(alloc, clean, ids)?)
     }
 
+    /// Returns the first difference between the rewritten tree of `editor` and the reading of its
+    /// text, whitespace and comments aside; `None` exactly if `commit` would find the new text to
+    /// read as the rewritten tree. Nodes are compared by kind, then their children; tokens by kind and
+    /// text.
+    ///
+    /// # Errors
+    ///
+    /// As of [`Document::commit`], but never [`CommitError::Unfaithful`] or
+    /// [`CommitError::NoTreeNumber`].
+    pub fn difference(
+        &self,
+        alloc: Global,
+        editor: &SyntaxEditor,
+    ) -> Result<Option<Difference>, CommitError>
+        ensures told { IfOk result (λ r. option_map told_of r
+            ≡ difference self.now.edition (rewritten editor.now)) }
+        ensures faithful { IfOk result (λ r. MatchOption r (verdict self.now editor.now ≡ Accepted)
+            (λ _. verdict self.now editor.now ≡ Unfaithful)) }
+        ensures refused { IfErr result (RefusesDifference (verdict self.now editor.now)) }
+    {
+        if self.is_of(editor) {
+            return rewritten_difference(alloc, self.edition, editor);
+        }
+        Err(CommitError::Foreign)
+    }
+
     /// Returns the rewritten text of `editor` with its reading.
     ///
     /// # Errors
@@ -181,8 +209,7 @@ impl Document {
         rewrite(alloc, self.edition, editor, &self.parse)
     }
 
-    /// Takes a rewritten text in the place of the present one, and gives its tree the next number of
-    /// `ids`.
+    /// Replaces the present text with a rewritten one, and gives its tree the next number of `ids`.
     ///
     /// # Errors
     ///

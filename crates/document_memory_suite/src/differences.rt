@@ -1,0 +1,42 @@
+//! Differences of rewritten trees from their readings; indents of lines.
+use crate::documents::{Changes, range, recorded};
+use anyhow::bail;
+use parser_input::{Edition, SyntaxKind};
+use rust_document::Document;
+use rust_source::Source;
+use std::alloc::Global;
+use syntax_tree::TreeIds;
+
+/// Returns the name of a kind, or `-`.
+fn kind_name(kind: Option<SyntaxKind>) -> &'static str {
+    match kind {
+        Some(kind) => kind.name(),
+        None => "-",
+    }
+}
+
+/// Returns the first difference that changes make: its range and both kinds.
+pub(crate) fn difference(
+    alloc: Global,
+    document: &Document,
+    changes: Changes,
+    ids: &mut TreeIds,
+) -> anyhow::Result<String> {
+    let editor = recorded(alloc, changes, document, ids)?;
+    let Some(told) = document.difference(alloc, &editor)? else {
+        return Ok(String::from_str(alloc, "none")?);
+    };
+    let (start, end) = (told.range.start().0, told.range.end().0);
+    let (wanted, read) = (kind_name(told.wanted), kind_name(told.read));
+    Ok(format!(in alloc; "{start}..{end} {wanted} {read}")?)
+}
+
+/// Returns the indent of a function's line.
+pub(crate) fn line_indent(alloc: Global) -> anyhow::Result<String> {
+    let text = "mod m {\n \tfn f() {}\n}";
+    let source = Source::open(alloc, Edition::Edition2021, text)?;
+    match source.find(SyntaxKind::FN, range(10, 19))? {
+        Some(function) => Ok(source.line_indent(&function)?),
+        None => bail!("not found"),
+    }
+}

@@ -1,0 +1,171 @@
+//! Takes an argument that is a binary expression out of a call, into a variable.
+#![tactic(auto)]
+
+ghost use Rattle.std.specs.Prelude.{◌≡◌, IfErr, IfOk};
+ghost use Rattle.extract_tool.specs.Extracts.{Answers};
+
+use rust_source::{Source, SourceError, SyntaxElement, SyntaxKind, SyntaxNode, TopEntryPoint};
+use std::alloc::{AllocError, Global};
+
+/// What became of an extraction.
+#[derive(Clone, Copy, Debug, PartialEq, Eq)]
+pub enum Extraction {
+    Done,
+    /// There is no such argument in a statement.
+    NoArgument,
+    /// The name is in the text already.
+    NameIsUsed,
+}
+
+/// Returns `true` if a node is a binary expression, and an argument.
+fn is_argument(node: &SyntaxNode) -> Result<bool, AllocError> {
+    if node.kind() != SyntaxKind::BIN_EXPR {
+        return Ok(false);
+    }
+    match node.parent()? {
+        Some(parent) => Ok(parent.kind() == SyntaxKind::ARG_LIST),
+        None => Ok(false),
+    }
+}
+
+/// Returns the binary expression of this number, counted from 0, among the arguments of calls.
+fn argument(
+    alloc: Global,
+    root: &SyntaxNode,
+    number: usize,
+) -> Result<Option<SyntaxNode>, AllocError> {
+    let mut before = 0usize;
+    for element in root.descendants_with_tokens(alloc)? {
+        if let SyntaxElement::Node(node) = element? {
+            if is_argument(&node)? {
+                if before == number {
+                    return Ok(Some(node));
+                }
+                before = before.saturating_add(1);
+            }
+        }
+    }
+    Ok(None)
+}
+
+/// Returns the child of a block's list that an expression is in.
+fn statement(expression: &SyntaxNode) -> Result<Option<SyntaxNode>, AllocError> {
+    let mut below = expression.clone()?;
+    for node in expression.ancestors()? {
+        let node = node?;
+        if node.kind() == SyntaxKind::STMT_LIST {
+            return Ok(Some(below));
+        }
+        below = node;
+    }
+    Ok(None)
+}
+
+/// Returns `true` if an identifier with this name is in a tree.
+fn is_used(alloc: Global, root: &SyntaxNode, name: &str) -> Result<bool, AllocError> {
+    for element in root.descendants_with_tokens(alloc)? {
+        if let SyntaxElement::Token(token) = element? {
+            if token.kind() == SyntaxKind::IDENT && token.text() == name {
+                return Ok(true);
+            }
+        }
+    }
+    Ok(false)
+}
+
+/// Replaces the argument of this number with `name`, and puts `let name = argument;` before its
+/// statement.
+///
+/// # Errors
+///
+/// As of the calls of [`Source`]. On error, the document is unchanged.
+pub fn extract(source: &mut Source, number: usize, name: &str) -> Result<Extraction, SourceError>
+    ensures answers { IfOk result (Answers source.old.document source.new.document) }
+    ensures kept { IfErr result (λ _. source.new.document ≡ source.old.document) }
+{
+    let alloc = source.alloc();
+    if is_used(alloc, source.root(), name)? {
+        return Ok(Extraction::NameIsUsed);
+    }
+    let Some(argument) = argument(alloc, source.root(), number)? else {
+        return Ok(Extraction::NoArgument);
+    };
+    let Some(statement) = statement(&argument)? else {
+        return Ok(Extraction::NoArgument);
+    };
+    let text = format!(in alloc; "let {name} = {};", argument.cursor().text()?)?;
+    let binding = SyntaxElement::Node(source.payload_statement(text.as_str())?);
+    let path = source.payload_node(TopEntryPoint::Expr, SyntaxKind::PATH_EXPR, name)?;
+    let path = SyntaxElement::Node(path);
+    let mut editor = source.editor()?;
+    source.insert_on_line_before(&mut editor, &SyntaxElement::Node(statement), &binding)?;
+    let argument = SyntaxElement::Node(argument);
+    editor.replace(alloc, &argument, &path)?;
+    source.commit_without_messages(editor)?;
+    Ok(Extraction::Done)
+}
+
+#[cfg(test)]
+mod tests {
+    use super::{Extraction, extract};
+    use rust_source::{Edition, Source};
+    use std::test::Fail;
+
+    /// A text, the number of the argument, the name, what is answered, and the text then.
+    type Row = (
+        &'static str,
+        usize,
+        &'static str,
+        Option<Extraction>,
+        &'static str,
+    );
+
+    const CALLS: &str = "fn f(a: u32) {\n\tg(a, a * 2);\n\th.i(a + 1, (a, a << 3))\n}\n";
+
+    const ROWS: &[Row] = &[
+        (
+            CALLS,
+            0,
+            "twice",
+            Some(Extraction::Done),
+            "fn f(a: u32) {\n\tlet twice = a * 2;\n\tg(a, twice);\n\th.i(a + 1, (a, a << 3))\n}\n",
+        ),
+        (
+            CALLS,
+            1,
+            "next",
+            Some(Extraction::Done),
+            "fn f(a: u32) {\n\tg(a, a * 2);\n\tlet next = a + 1;\n\th.i(next, (a, a << 3))\n}\n",
+        ),
+        (CALLS, 2, "b", Some(Extraction::NoArgument), CALLS),
+        (CALLS, 0, "a", Some(Extraction::NameIsUsed), CALLS),
+        (CALLS, 0, "struct", None, CALLS),
+        (
+            "const A: u8 = g(1 + 2);",
+            0,
+            "v",
+            Some(Extraction::NoArgument),
+            "const A: u8 = g(1 + 2);",
+        ),
+        // A label is not read: the text has messages.
+        (
+            "fn f() {\n    'a: while g(1 + 2) {}\n}",
+            0,
+            "v",
+            None,
+            "fn f() {\n    'a: while g(1 + 2) {}\n}",
+        ),
+    ];
+
+    #[test]
+    fn arguments_are_extracted(rt: HostRuntime) -> Result<(), Fail> {
+        for (text, number, name, answer, wanted) in ROWS {
+            let mut source = Source::open(rt.alloc(), Edition::Edition2021, *text)?;
+            let done = extract(&mut source, *number, *name).ok();
+            let is_right = (done == *answer) & (source.text() == *wanted);
+            drop(source);
+            assert!(rt; is_right);
+        }
+        Ok(())
+    }
+}
