@@ -1,5 +1,5 @@
 -- Requests that stand on a line each.
-use Rattle.std.proofs.Common.{◌≡◌, ◌≢◌, ℕ, ◌<◌, ◌≤◌, Bool, true, false, List, [], ◌∷◌, ◌++◌, length, Option, Some, None, refl, ap, sym, subst, ◌∙◌, append-nil, append_assoc}
+use Rattle.std.proofs.Common.{◌≡◌, ◌≢◌, ℕ, ◌+◌, ◌<◌, ◌≤◌, Bool, true, false, List, [], ◌∷◌, ◌++◌, length, Option, Some, None, refl, ap, sym, subst, ◌∙◌, append-nil, append_assoc}
 use Rattle.std.specs.Prelude.{IfSome}
 use Rattle.std.specs.Io.KnownBytes.{Appends}
 use Rattle.std.proofs.KnownBytes.{Appends-nil}
@@ -10,12 +10,15 @@ use Rattle.line_reader.specs.Reading.{IsHanded, TakesLine}
 use Rattle.line_reader.specs.declared.reader.LineRead.{LineRead}
 use Rattle.line_reader.specs.declared.reader.LineRead.TheVariants.{End, Whole, TooLong}
 use Rattle.line_reader.proofs.LineLemmas.{lines-nil}
-use Rattle.document_requests.specs.Device.{AppendsFront}
+use Rattle.document_requests.specs.Device.{AppendsFront, NoneFailed}
 use Rattle.document_requests.specs.LineAnswers.{answer_line, answers, answers_to, max_line, ran_line}
 use Rattle.document_requests.specs.Output.{Ran, Rejected, ran}
-use Rattle.document_requests.specs.Serving.{ServesLine}
+use Rattle.document_requests.specs.Serving.{ServesLine, StopsServing}
+use Rattle.document_requests.specs.declared.fault.Fault.{Fault}
+use Rattle.document_requests.specs.declared.fault.Fault.TheVariants.{Reading, Writing, Memory}
+use Rattle.document_requests.specs.declared.watched.Watched.{Watched}
 use Rattle.document_requests.specs.declared.reply.Refusal.TheVariants as refusals
-use Rattle.document_requests.proofs.KnownBytes.{both_appended, front_more, front_then}
+use Rattle.document_requests.proofs.KnownBytes.{both_appended, front_more, front_none, front_then}
 
 -- ---- one line
 
@@ -57,6 +60,11 @@ line-end None left old read bytes t end = tt
 line-end (Some all) left old End bytes t end = (t, refl)
 line-end (Some all) left old Whole bytes t end = absurd (cc)
 line-end (Some all) left old TooLong bytes t end = absurd (cc)
+
+-- nothing was written
+pub line-none : (input old : Option (List ℕ)) → IfSome input (λ all. AppendsFront old old (answers_to all))
+line-none None old = tt
+line-none (Some all) old = front_none old (answers_to all)
 
 -- ---- all lines
 
@@ -108,3 +116,15 @@ served-front (Some bytes) (Some ys) old mid new s l =
     let whole : answers_to bytes ≡ answers s.done ++ answers_to ys =
     ap answers (s.all ∙ ap (λ r. s.done ++ lines r) (sym same)) ∙ flat_map-append (λ line. answer_line (ran_line line)) s.done (lines ys) in
     subst (AppendsFront old new) (sym whole) (front_then old mid new (answers s.done) (answers_to ys) s.written l)
+
+-- what was written so far
+pub served-part : (input left old new : Option (List ℕ)) → IfServed input left old new → IfSome input (λ bytes. AppendsFront old new (answers_to bytes))
+served-part None left old new s = tt
+served-part (Some bytes) left old new s =
+    (answers s.done, answers (lines s.rest), ap answers s.all ∙ flat_map-append (λ line. answer_line (ran_line line)) s.done (lines s.rest), s.written)
+
+-- calls that did not fail, and then a stop
+pub stops-after : {D : Type 0} (old mid new : Watched D) (fault : Fault) → NoneFailed old mid → StopsServing mid new fault → StopsServing old new fault
+stops-after old mid new Reading before stop = (stop.0 ∙ before.0, stop.1 ∙ before.1)
+stops-after old mid new Writing before stop = (stop.0 ∙ ap (λ n. n + 1) before.0, λ none. stop.1 (before.1 ∙ none))
+stops-after old mid new Memory before stop = (stop.0 ∙ before.0, stop.1 ∙ before.1)

@@ -1,2 +1,3 @@
 pub mod RewriteLemmas
 pub mod CommandLemmas
+pub mod MemberLemmas

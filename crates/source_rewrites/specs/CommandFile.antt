@@ -11,7 +11,7 @@ pub record Asked : Type 0 where
   pub path : List ℕ
   pub commands : List Command
 
--- the commands of each path, in order, where all are lists of commands
+-- The commands of each path, in order, where all are lists of commands. An object has its members in order of name.
 abbrev pub asked_in : Members → Option (List Asked)
 asked_in no_members = Some []
 asked_in (member path value rest) =

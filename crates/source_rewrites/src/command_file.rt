@@ -15,8 +15,8 @@ pub struct FileCommands<'a> {
     pub commands: Vec<Command<'a>>,
 }
 
-/// Returns the commands of each file that an object lists by path, in order; `None` if `value` is no
-/// object of lists of commands.
+/// Returns the commands of each file that an object lists by path, in order of path; `None` if `value`
+/// is no object of lists of commands.
 ///
 /// # Errors
 ///

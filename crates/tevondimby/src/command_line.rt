@@ -22,7 +22,8 @@ Rewrites files by the commands in COMMANDS, a file in JSON or `-` for standard i
     {\"PATH\": [{\"do\": \"edit\", \"start\": 3, \"end\": 4, \"text\": \"new\"}, ..], ..}
 
 The commands of a file are those of a request: they are done one after another, each on the text that \
-those before it left.
+those before it left. The files are done in order of path, whatever their order in COMMANDS; of a \
+path that is named twice the last list counts.
 
 Without `--write` nothing is written, and a diff is printed that `patch -p1` and `git apply` read. \
 No file is written unless all commands of all files are accepted; the first one that is refused is \
@@ -34,9 +35,12 @@ Answers requests on standard input, one a line, each with a line of JSON, in ord
 
     {\"status\":0,\"replies\":[..],\"text\":\"..\"}
 
-A line that is no request, or that has more than 67,108,864 bytes, is answered with status 1, its \
-refusal and no text, and the next line is read. The exit status is 0 at the end of the input, or 2 if \
-reading, writing or memory fails.";
+A line of at most 67,108,864 bytes, its line feed not counted, is answered as the request program \
+answers these bytes: one that is no request with status 1, its refusal and no text. A longer line is \
+answered so too, with the refusal `TooLong`, whatever is in it. Then the next line is read. A text \
+that is longer than this in JSON, by its escapes, can be sent to the request program alone.
+
+The exit status is 0 at the end of the input, or 2 if reading, writing or memory fails.";
 
 const RENAME: &str = "\
 Renames each identifier OLD to NEW, in macro calls too. These are tokens: scopes, names in format \

@@ -2,7 +2,7 @@ use Rattle.document_requests.specs.Device.{NoneFailed}
 use Rattle.document_requests.specs.Watched.{device_of}
 use Rattle.line_reader.specs.Reading.{input_of}
 use Rattle.document_requests.proofs.ServeLemmas.{IfServed}
-use Rattle.document_requests.proofs.serve_lines.serve_lines.Given as goal
+use Rattle.document_requests.proofs.request_lines.serve_lines.Given as goal
 
 abbrev pub invariant-loop-turn : goal.invariant-loop-turn
 invariant-loop-turn g l =
