@@ -1,5 +1,5 @@
 -- Lemmas on commands that run one after another.
-use Rattle.std.proofs.Common.{◌≡◌, ℕ, suc, ◌+◌, ◌<◌, ◌≤◌, Option, None, Some, List, [], ◌∷◌, length, map, drop, get_or, refl, ap, sym, ◌∙◌, add-one, arith, drop-cons, subst}
+use Rattle.std.proofs.Common.{◌≡◌, ℕ, suc, ◌+◌, ◌<◌, ◌≤◌, None, Some, List, [], ◌∷◌, length, map, drop, get_or, refl, ap, sym, ◌∙◌, add-one, arith, drop-cons}
 use Rattle.std.proofs.lemmas.List.{drop_all}
 use Rattle.line_index.specs.declared.encoding.Encoding.TheVariants.{Utf32}
 use Rattle.line_index.specs.declared.line_col.LineCol.{LineCol}
@@ -12,13 +12,7 @@ use Rattle.document_requests.specs.Session.{Answer, Session}
 use Rattle.document_requests.specs.declared.reply.Refusal.{Refusal}
 use Rattle.document_requests.specs.declared.request.Command.{Command as CommandCode}
 use Rattle.document_requests.specs.declared.rule.CommitRule.{CommitRule}
-use Rattle.source_tools.specs.Decoded.{decoded, encoded}
-use Rattle.source_tools.specs.declared.source.FileError.TheVariants as errors
 use Rattle.source_rewrites.specs.Rewriting.{Rewriting, Rewritten, Stopped, refusal_of, rewriting, start_of}
-use Rattle.source_rewrites.specs.Rewrites.{RefusesIfAny, StopsCommands, outcome, rewritten_bytes, text_of}
-use Rattle.source_rewrites.specs.declared.rewrite.Rewrite.{Rewrite}
-use Rattle.source_rewrites.specs.declared.rewrite.RewriteFault.{RewriteFault}
-use Rattle.source_rewrites.specs.declared.rewrite.RewriteFault.TheVariants.{File, Refused}
 
 rewriting-none : (rule : CommitRule) (i : ℕ) (s : Session) → rewriting rule i [] s ≡ Rewritten s.document.text
 unfolding rewriting
@@ -69,24 +63,3 @@ module _ (rule : CommitRule) (cs : List CommandCode) (i : ℕ) (c : CommandCode)
 pub commands-done : (rule : CommitRule) (cs : List CommandCode) (i : ℕ) (s : Session) (w : Rewriting) → length cs ≤ i → rewriting rule i (map command_in (drop i cs)) s ≡ w → w ≡ Rewritten s.document.text
 commands-done rule cs i s w past so_far =
     sym so_far ∙ ap (λ (x : List CommandCode). rewriting rule i (map command_in x) s) (drop_all i cs past) ∙ rewriting-none rule i s
-
--- ---- the bytes of a file
-
-stops-if-any : (rule : CommitRule) (r : Rewrite) (text : List ℕ) (e : RewriteFault) → StopsCommands (outcome rule r text) e → RefusesIfAny rule r (Some text) e
-stops-if-any rule r text (File errors.NotFound) h = h
-stops-if-any rule r text (File errors.Changed) h = h
-stops-if-any rule r text (File errors.NotUtf8) h = h
-stops-if-any rule r text (File errors.TooLong) h = absurd h
-stops-if-any rule r text (File errors.NoMemory) h = h
-stops-if-any rule r text (File (errors.Io error)) h = h
-stops-if-any rule r text (Refused f) h = h
-
--- the commands of a text stopped
-pub text-stops : (rule : CommitRule) (r : Rewrite) (text : List ℕ) (o : Option (List ℕ)) (w : Rewriting) (e : RewriteFault) → Some text ≡ o → outcome rule r text ≡ w → StopsCommands w e → RefusesIfAny rule r o e
-text-stops rule r text o w e is told stops =
-    subst (λ (o : Option (List ℕ)). RefusesIfAny rule r o e) is
-    (stops-if-any rule r text e (subst (λ (w : Rewriting). StopsCommands w e) (sym told) stops))
-
--- the commands of a text were accepted
-pub text-done : (rule : CommitRule) (r : Rewrite) (bytes text after new : List ℕ) → Some text ≡ decoded bytes → outcome rule r text ≡ Rewritten after → new ≡ encoded bytes after → rewritten_bytes rule r bytes ≡ Some new
-text-done rule r bytes text after new is told coded = rw (← is) (rw told (ap Some (sym coded)))

@@ -2,9 +2,9 @@
 use Rattle.std.proofs.Common.{◌≡◌, ℕ, List, [], ◌∷◌, ◌++◌, map, Option, Some, None, option_map, refl, sym, ap, ◌∙◌, append-nil, append_assoc}
 use Rattle.std.specs.Prelude.{option_and_then}
 use Rattle.serde_json.specs.Data.{Data, Members, no_members, member}
-use Rattle.serde_json.specs.Find.{as_array}
+use Rattle.serde_json.specs.Find.{as_array, as_object}
 use Rattle.document_requests.specs.Request.{Command, all_in, command_of}
-use Rattle.source_rewrites.specs.CommandFile.{Asked, asked, asked_in}
+use Rattle.source_rewrites.specs.CommandFile.{Asked, asked, asked_in, asked_of}
 use Rattle.source_rewrites.specs.declared.command_file.FileCommands.{FileCommands}
 
 -- the commands that a value lists
@@ -26,6 +26,16 @@ mapped_next done x (Some xs) = ap Some (sym (append_assoc done (x ∷ []) xs))
 map_last : {X C : Type 0} (seen : C → X) (old : List C) (c : C) → map seen (old ++ c ∷ []) ≡ map seen old ++ seen c ∷ []
 map_last seen [] c = refl
 map_last seen (x ∷ old) c = ap (λ cs. seen x ∷ cs) (map_last seen old c)
+
+same-option : {X : Type 0} (o : Option X) → option_map (λ x. x) o ≡ o
+same-option None = refl
+same-option (Some x) = refl
+
+-- all members are left
+pub file_first : (left : Members) (d : Data) (done : List FileCommands) → Some left ≡ as_object d → done ≡ [] → option_map (λ files. map asked done ++ files) (asked_in left) ≡ asked_of d
+file_first left d done is none =
+    ap (λ (fs : List FileCommands). option_map (λ files. map asked fs ++ files) (asked_in left)) none
+    ∙ same-option (asked_in left) ∙ ap (λ (o : Option Members). option_and_then asked_in o) is
 
 -- one more file
 pub file_next :

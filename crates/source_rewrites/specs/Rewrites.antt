@@ -1,8 +1,7 @@
 -- Files that are rewritten by commands.
-use Rattle.std.specs.Prelude.{◌≡◌, ◌⊎◌, ◌≤◌, ◌<◌, ℕ, List, [], ◌∷◌, All, IfSome, map, take, length, slice_index_or, Option, Some, None, option_map, option_and_then, Result, MatchResult, Vec, string_bytes}
+use Rattle.std.specs.Prelude.{◌≡◌, ◌⊎◌, ◌<◌, ℕ, List, [], All, IfSome, map, take, length, slice_index_or, Option, Some, None, option_map, option_and_then, Result, MatchResult, Vec, string_bytes}
 use Rattle.std.specs.List.{flat_map}
 use Rattle.std.specs.Global.{Global}
-use Rattle.parser_input.specs.declared.edition.Edition.{Edition}
 use Rattle.file_target.specs.Files.{Files, FileState}
 use Rattle.rust_document.specs.Step.{MAX_TEXT}
 use Rattle.document_requests.specs.Asked.{command}

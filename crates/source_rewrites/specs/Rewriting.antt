@@ -7,7 +7,7 @@ use Rattle.document_requests.specs.Reply.{Reply, Edited, Changed, Tree, Errors, 
 use Rattle.document_requests.specs.Request as asked
 use Rattle.document_requests.specs.Request.{Change, Command, Put, Delete}
 use Rattle.document_requests.specs.Rules.{answer_by}
-use Rattle.document_requests.specs.Session.{Answer, Session}
+use Rattle.document_requests.specs.Session.{Session}
 use Rattle.document_requests.specs.declared.reply.Refusal.{Refusal}
 use Rattle.document_requests.specs.declared.rule.CommitRule.{CommitRule}
 

@@ -3,9 +3,9 @@
 ghost use Rattle.std.specs.Prelude.{◌≡◌, ◌+◌, ◌<◌, ◌^◌, ℕ, MatchResult, OnOk, IfErr, Some, map, length};
 ghost use Rattle.document_requests.specs.Answered.{reply as answered};
 ghost use Rattle.document_requests.specs.Applied.{session};
-ghost use Rattle.document_requests.specs.Asked.{command as command_in};
+ghost use Rattle.document_requests.specs.Asked.{change as change_in, command as command_in};
 ghost use Rattle.document_requests.specs.declared.reply.Reply.{Reply};
-ghost use Rattle.source_rewrites.specs.Rewriting.{refusal_of, rewriting, start_of, Rewritten};
+ghost use Rattle.source_rewrites.specs.Rewriting.{refusal_of, rewriting, start_of, start_of_change, start_of_first, Rewritten};
 ghost use Rattle.source_rewrites.specs.Rewrites.{IsRewritable, RefusesBytes, StopsCommands, rewritten_bytes};
 
 use document_requests::{Change, Command, CommitRule, Refusal, Reply, answer_by};
@@ -83,7 +83,9 @@ fn refusal_of(reply: &Reply) -> Option<Refusal>
 }
 
 /// Returns the byte that a change starts at.
-fn change_start(change: Change<'_>) -> u64 {
+fn change_start(change: Change<'_>) -> u64
+    ensures { result ≡ start_of_change (change_in change.entry) }
+{
     match change {
         Change::Put {
             op: _,
@@ -92,6 +94,16 @@ fn change_start(change: Change<'_>) -> u64 {
             text: _,
         } => target.start,
         Change::Delete { target } => target.start,
+    }
+}
+
+/// Returns the byte that the first change starts at, or 0 if there is none.
+fn first_start(changes: &[Change<'_>]) -> u64
+    ensures { result ≡ start_of_first (map change_in changes.now) }
+{
+    match changes {
+        [] => 0,
+        [first, ..] => change_start(*first),
     }
 }
 
@@ -105,10 +117,7 @@ fn command_start(command: &Command<'_>) -> u64
             stop: _,
             text: _,
         } => *start,
-        Command::Commit { changes } => match changes.as_slice() {
-            [] => 0,
-            [first, ..] => change_start(*first),
-        },
+        Command::Commit { changes } => first_start(changes),
         Command::Tree => 0,
         Command::Errors => 0,
     }
