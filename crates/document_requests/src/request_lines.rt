@@ -22,11 +22,7 @@ use std::io::{ErrorKind, Read, Write};
 const MAX_LINE: usize = 67_108_864;
 
 /// Returns the answer to a line; none at the end of the input.
-fn line_answer(
-    alloc: Global,
-    read: LineRead,
-    line: &[u8],
-) -> Result<Option<String>, AllocError>
+fn line_answer(alloc: Global, read: LineRead, line: &[u8]) -> Result<Option<String>, AllocError>
     ensures end { IfOk result (λ answer. IfNone answer (read ≡ End)) }
     ensures some { IfOk result (λ answer. IfSome answer (λ _. read ≢ End)) }
     ensures answer { IfOk result (λ answer. IfSome answer (λ text. (request : List ℕ)

@@ -22,6 +22,6 @@ asked_in (member path value rest) =
 abbrev pub asked_of : Data → Option (List Asked)
 asked_of d = option_and_then asked_in (as_object d)
 
--- the same in code
+-- a path and its commands, in code
 abbrev pub asked : FileCommands → Asked
 asked f = record { path = f.path.now; commands = map command f.commands.items }

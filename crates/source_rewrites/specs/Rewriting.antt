@@ -44,6 +44,6 @@ unfoldable pub rewriting : CommitRule → ℕ → List Command → Session → R
 rewriting rule i [] s = Rewritten s.document.text
 rewriting rule i (c ∷ cs) s =
     elim (refusal_of (answer_by rule c s).reply) [
-      None ↦ rewriting rule (suc i) cs (answer_by rule c s).after
+      | None ↦ rewriting rule (suc i) cs (answer_by rule c s).after
       | Some refusal ↦ Stopped i refusal (line_col Utf32 (answer_by rule c s).after.document.text (start_of c))
     ]

@@ -72,7 +72,10 @@ fn rewrite_file<T: Target>(
 }
 
 /// Appends a change, if there is one.
-fn push_change(change: Option<FileChange>, changes: &mut Vec<FileChange>) -> Result<(), RewriteFault>
+fn push_change(
+    change: Option<FileChange>,
+    changes: &mut Vec<FileChange>,
+) -> Result<(), RewriteFault>
     ensures pushed { OnOk result (changes.new.items ≡ changes.old.items ++ option_to_list change) }
     ensures memory { IfErr result (λ fault. fault ≡ File NoMemory) }
 {

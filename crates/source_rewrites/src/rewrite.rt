@@ -178,7 +178,13 @@ pub fn rewrite_bytes(
         Err(OpenError::NoTreeNumber) => unreachable!(),
         Err(OpenError::NoMemory) => return Err(RewriteFault::File(FileError::NoMemory)),
     };
-    run_commands(alloc, rule, &mut document, rewrite.commands.as_slice(), &mut ids)?;
+    run_commands(
+        alloc,
+        rule,
+        &mut document,
+        rewrite.commands.as_slice(),
+        &mut ids,
+    )?;
     let new = encode(alloc, bytes, document.text())?;
     Ok(new)
 }

@@ -1,8 +1,6 @@
 //! Files in memory, rewritten by commands.
 
-use crate::{
-    RefusedCommand, Rewrite, RewriteFault, RewriteStop, commands_of_files, rewrite_files,
-};
+use crate::{RefusedCommand, Rewrite, RewriteFault, RewriteStop, commands_of_files, rewrite_files};
 use document_requests::{CommitRule, Refusal};
 use file_target::{Memory, Target};
 use line_index::LineCol;
@@ -90,6 +88,13 @@ fn a_refused_command_writes_nothing(rt: HostRuntime) -> Result<(), Fail> {
         _ => false,
     };
     assert!(rt; is_right);
-    assert!(rt; have(alloc, &memory, b"\xef\xbb\xbffn a() {}", b"struct B;\n struct C;")?);
+    assert!(rt;
+        have(
+            alloc,
+            &memory,
+            b"\xef\xbb\xbffn a() {}",
+            b"struct B;\n struct C;"
+        )?
+    );
     Ok(())
 }

@@ -175,5 +175,7 @@ pub(crate) fn command<'a>(alloc: Global) -> Result<Command<'a>, AllocError> {
     )?;
     let command = bare_command(alloc).subcommand(check)?.subcommand(tokens)?;
     let command = command.subcommand(tree)?.subcommand(renaming(alloc)?)?;
-    command.subcommand(rewriting(alloc)?)?.subcommand(serving(alloc))
+    command
+        .subcommand(rewriting(alloc)?)?
+        .subcommand(serving(alloc))
 }

@@ -49,7 +49,8 @@ fn report_stop(rt: &HostRuntime, rewrites: &[Rewrite<'_>], stop: &RewriteStop) {
         }
         RewriteStop::Unwritten(path, error) => {
             let _ = eprintln!(rt;
-                "tevondimby: {path}: {error}; files before it, if any, are written");
+                "tevondimby: {path}: {error}; files before it, if any, are written"
+            );
         }
     }
 }

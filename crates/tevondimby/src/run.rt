@@ -20,7 +20,10 @@ use std::env;
 pub(crate) const FAULT: u8 = 2;
 
 /// Returns the files of a command.
-pub(crate) fn files_of(rt: &HostRuntime, matches: &ArgMatches<'_>) -> Result<SourceList, AllocError> {
+pub(crate) fn files_of(
+    rt: &HostRuntime,
+    matches: &ArgMatches<'_>,
+) -> Result<SourceList, AllocError> {
     let edition = match matches.get_str("edition") {
         Some(name) => edition_named(name),
         None => None,
@@ -47,7 +50,9 @@ fn report_stop(rt: &HostRuntime, sources: &[Source], stop: &RenameStop) {
             let _ = eprintln!(rt; "tevondimby: {path}: {fault}; no file is written");
         }
         RenameStop::Unwritten(path, error) => {
-            let _ = eprintln!(rt; "tevondimby: {path}: {error}; files before it, if any, are written");
+            let _ = eprintln!(rt;
+                "tevondimby: {path}: {error}; files before it, if any, are written"
+            );
         }
     }
 }
