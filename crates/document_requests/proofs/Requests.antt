@@ -1,11 +1,13 @@
 -- The request in some bytes.
-use Rattle.std.proofs.Common.{◌≡◌, ℕ, List, Bool, true, false, refl, sym, ap, ◌∙◌, Some}
+use Rattle.std.proofs.Common.{◌≡◌, ℕ, List, Bool, true, false, refl, sym, ap, ◌∙◌, Some, Result, Ok, Err, IfOk}
 use Rattle.std.specs.Prelude.{if◌then◌else◌}
 use Rattle.std.specs.Str.{IsUtf8, is_utf8}
 use Rattle.std.proofs.lemmas.Str.{IsUtf8-from_is_utf8, is_utf8-from_IsUtf8}
 use Rattle.serde_json.specs.Data.{Data}
 use Rattle.serde_json.specs.Read.{read}
-use Rattle.document_requests.specs.Output.{Rejected, of_value, of_value_if_any, ran}
+use Rattle.document_requests.specs.Outcome.{output, ran_of}
+use Rattle.document_requests.specs.Output.{Rejected, of_value, of_value_if_any, output_of, ran, replies}
+use Rattle.document_requests.specs.declared.serve.Outcome.{Outcome}
 use Rattle.document_requests.specs.declared.reply.Refusal.TheVariants.{Request}
 
 -- where the bytes are UTF-8 or not
@@ -26,3 +28,8 @@ value_read text bytes d same utf8 is =
     ap (λ t. of_value t d) same ∙ sym
     (ap (λ b. if b then of_value_if_any bytes (read bytes) else Rejected Request) (is_utf8-from_IsUtf8 bytes utf8)
     ∙ ap (of_value_if_any bytes) (ap read (sym same) ∙ is))
+
+-- what ran tells what is written
+pub outputs : {E : Type 0} (r : Result Outcome E) (bytes : List ℕ) → IfOk r (λ o. ran_of o ≡ ran bytes) → IfOk r (λ o. output o ≡ replies bytes)
+outputs (Ok o) bytes is = ap output_of is
+outputs (Err e) bytes is = tt
