@@ -1,2 +1,4 @@
 pub mod Roots
 pub mod Inserted
+pub mod Recorded
+pub mod Above
