@@ -1,4 +1,3 @@
 pub mod Roots
 pub mod Inserted
 pub mod Recorded
-pub mod Above
