@@ -140,7 +140,10 @@ impl Source {
         ensures editor { IfErr result (λ _. editor.new ≡ editor.old) }
         ensures kept { IfErr result (λ _. self.new ≡ self.old) }
     {
-        let place = gap_beside(side, element).map_err(SourceError::Position)?;
+        let place = match gap_beside(side, element) {
+            Ok(place) => place,
+            Err(error) => return Err(SourceError::Position(error)),
+        };
         let space = self.line_break(element)?;
         let number = space.tree();
         let all = match in_order(self.alloc, side, new, space) {
