@@ -38,6 +38,8 @@ MADE_BY = {
     "rust_source::Source::payload_item": "rust_document::payload",
     "rust_source::Source::payload_node": "rust_document::payload",
     "rust_source::Source::payload_statement": "rust_document::payload",
+    "rust_source::Source::rename": "rust_document::Document::commit",
+    "rust_source::ancestor_below": "syntax_tree::SyntaxNode::parent",
     "syntax_tree::Element::syntax_element": "syntax_tree::SyntaxNode::syntax_element",
     "syntax_tree::elements::node": "syntax_tree::SyntaxToken::detached",
     "tree_rewrite::Change::into_tree_change": "syntax_editor::SyntaxEditor::rewritten",
