@@ -1,5 +1,5 @@
 -- What an extraction makes of a document.
-use Rattle.std.specs.Prelude.{◌≡◌, ◌+◌, ◌⊎◌, ℕ, Bool, false, true, ◌&&◌, List, [], ◌∷◌, ◌++◌, Option, None, Some, codes, slice_get}
+use Rattle.std.specs.Prelude.{◌≡◌, ◌+◌, ℕ, Bool, false, true, ◌&&◌, List, [], ◌∷◌, ◌++◌, Option, None, Some, codes, slice_get}
 use Rattle.std.specs.List.{filter}
 use Rattle.rust_source.specs.Changes.{ChangesBy, Editing, insert, replace, untouched, with_changes}
 use Rattle.rust_source.specs.Elements.{ARG_LIST, BIN_EXPR, PATH_EXPR, STMT_LIST, Element, State, ancestor_below, index_of, is_of_kind, nodes_at, parent_of, root_element, text_at}
