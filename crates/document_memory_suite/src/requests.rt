@@ -4,8 +4,8 @@ use document_requests::apply::apply;
 use document_requests::run::run;
 use document_requests::serve::{Outcome, serve_bytes};
 use document_requests::{
-    Change, Command, CommitRule, Entry, Op, Refusal, Reply, Target, Watched, answer_by, commands_of,
-    serve_lines,
+    Change, Command, CommitRule, Entry, Op, Refusal, Reply, Target, Watched, answer_by,
+    commands_of, serve_lines,
 };
 use memory_table::row::{Ask, Row};
 use parser_input::{Edition, SyntaxKind};
