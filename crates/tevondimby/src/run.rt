@@ -6,7 +6,7 @@ use crate::inputs::Inputs;
 use crate::rewrite::rewrite;
 use crate::source_list::{SourceList, source_list};
 use crate::view::view;
-use anyhow::Result;
+use anyhow::{Context, Result};
 use clap::ArgMatches;
 use document_requests::{Watched, serve_lines};
 use source_tools::{
@@ -117,7 +117,8 @@ fn serve(rt: &HostRuntime) -> Result<u8> {
 /// Runs the command of the command line. Returns its exit status.
 pub(crate) fn run(rt: &HostRuntime) -> Result<u8> {
     let alloc = rt.alloc();
-    let words: Vec<String> = env::args(rt)?.collect(alloc)?;
+    let words = env::args(rt).context("the arguments cannot be read; each has to be UTF-8")?;
+    let words: Vec<String> = words.collect(alloc)?;
     let matches = match command(alloc)?.try_get_matches_from(words.as_slice()) {
         Ok(matches) => matches,
         Err(error) => {
