@@ -1,8 +1,8 @@
 -- What is recorded, as a list of changes.
-use Rattle.std.proofs.Common.{◌≡◌, ℕ, Bool, true, false, List, [], ◌∷◌, ◌++◌, not, ◌&&◌, if◌then◌else◌, refl, sym, ap, ◌∙◌}
+use Rattle.std.proofs.Common.{◌≡◌, ℕ, Bool, true, false, List, [], ◌∷◌, not, ◌&&◌, if◌then◌else◌, ap, ◌∙◌}
 use Rattle.tree_rewrite.specs.Change.{Change, insert, replace}
 use Rattle.syntax_tree.specs.Element.{Element}
-use Rattle.syntax_editor.specs.Editing.{Editing, untouched, with_changes}
+use Rattle.syntax_editor.specs.Editing.{untouched, with_changes}
 use Rattle.syntax_editor.specs.Recording.{BadTarget, Foreign, Recorded, inserting, is_gap, is_one_node, is_root, is_target, replacing, with_single}
 
 inserted-by : (b : Bool) (all cs : List Change) → (if b then Recorded all else Foreign) ≡ Recorded cs → cs ≡ all

@@ -1,5 +1,5 @@
 -- What a tool may say of its changes.
-use Rattle.std.specs.Prelude.{◌≡◌, [], ◌∷◌, List, All}
+use Rattle.std.specs.Prelude.{◌≡◌, [], ◌∷◌, All}
 pub use Rattle.rowan_green.specs.Forest.{tree_text}
 pub use Rattle.tree_rewrite.specs.Change.{Change, insert, replace}
 pub use Rattle.syntax_tree.specs.Element.{Element}

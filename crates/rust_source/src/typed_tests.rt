@@ -5,7 +5,7 @@ use crate::{
     LetParts, MethodCall, MethodCallParts, Source, SourceFile, Struct, StructParts, SyntaxNode,
     Use, UseParts,
 };
-use std::alloc::AllocError;
+use std::alloc::{AllocError, Global};
 use std::test::Fail;
 
 const TEXT: &str =
@@ -45,6 +45,16 @@ fn source(rt: &HostRuntime) -> Result<Source, Fail> {
     Ok(Source::open(rt.alloc(), Edition::Edition2021, TEXT)?)
 }
 
+/// Returns the number of attributes of an enum.
+fn attributes(alloc: Global, node: &Enum) -> Result<u8, AllocError> {
+    let mut count = 0u8;
+    for attribute in node.attributes(alloc)? {
+        let _attribute = attribute?;
+        count = count.saturating_add(1);
+    }
+    Ok(count)
+}
+
 /// Returns `true` if the parts of the enum are right.
 fn has_enum(source: &Source) -> Result<bool, AllocError> {
     let alloc = source.alloc();
@@ -57,7 +67,7 @@ fn has_enum(source: &Source) -> Result<bool, AllocError> {
             & is(node.generic_param_list(alloc)?, "<T>")?
             & is(node.where_clause(alloc)?, "where T: C")?
             & is(node.variant_list(alloc)?, "{ V }")?
-            & (node.attributes(alloc)?.count() == 2),
+            & (attributes(alloc, &node)? == 2),
     )
 }
 
@@ -85,7 +95,12 @@ fn has_file(source: &Source) -> Result<bool, AllocError> {
     let Some(node) = first::<SourceFile>(source)? else {
         return Ok(false);
     };
-    Ok(node.elements(alloc)?.count() == 6)
+    let mut count = 0u8;
+    for child in node.elements(alloc)? {
+        let _child = child?;
+        count = count.saturating_add(1);
+    }
+    Ok(count == 6)
 }
 
 /// Returns `true` if the parts of the use are right.

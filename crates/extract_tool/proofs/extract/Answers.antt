@@ -1,5 +1,5 @@
 -- The two changes, and what they put.
-use Rattle.std.proofs.Common.{◌≡◌, ℕ, ◌+◌, List, [], ◌∷◌, Some, ap, sym, ◌∙◌, subst, arith, append_assoc}
+use Rattle.std.proofs.Common.{◌≡◌, ℕ, ◌+◌, List, [], ◌∷◌, ap, sym, ◌∙◌, subst, arith, append_assoc}
 use Rattle.std.proofs.lemmas.Grind.{common_steps}
 use Rattle.rust_source.specs.Changes.{Accepted, ChangesBy, Editing, HaveNoMessages, Recorded, inserting, replacing, rewritten, tree_text, untouched, verdict, with_changes}
 use Rattle.rust_source.specs.Elements.{PATH_EXPR, State, index_of, root_element}
