@@ -182,6 +182,9 @@ expr_args = ⁅ When ('::' before '<') GenericArgs ⁆
 abbrev pub type_qualified : Rule
 type_qualified = qualified_with type_args
 
+abbrev pub expr_qualified : Rule
+expr_qualified = qualified_with expr_args
+
 -- what a path in a type is: a macro, or the type; and bounds behind it
 abbrev pub macro_call_begins : Look
 macro_call_begins = Both (next '!') (Not (next '!='))
