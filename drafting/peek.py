@@ -1,7 +1,7 @@
 """Writes the answers of looking functions of rust_productions / grammar_reader: `at_x(p, ..) -> bool`."""
 import re,sys,os
 U="unfolding look_of begins_below whole rule items statements expressions patterns types paths there_at shift passes is_silent begins in_mode anew row one_of any_of no_longer longest is_longer"
-STAY={'at_whole','at_contextual'}
+STAY={'at_whole','at_contextual','at_second_contextual','at_joint'}
 PATH_LIKE={'at_path'}
 PROD={'at_type':'any_type','at_name_ref':'name_ref','at_literal':'literal','at_path':'path','at_pattern':'pattern','at_single_pattern':'single_pattern','at_token_tree':'token_tree','at_bound':'bound','at_block_like':'block_like'}
 tok=re.compile(r"\s*(//[^\n]*|[A-Za-z_][A-Za-z_0-9:]*|=>|[(){};,|!&]|\d+|'[a-z]+:|.)")
@@ -148,6 +148,7 @@ class Gen:
                 t='begun rules.name_ref (%s) (saw-ref (%s) and %s)'%(term,term,t)
             elif name in PROD:
                 if name=='at_type' and g.sees_kind=='type_no_bounds': t='%s and %s'%(term,t)
+                elif name=='at_literal': t='begun rules.literal (%s) (%s and %s)'%(term,term,t)
                 else: t='begun rules.%s (%s) (%s)'%(PROD[name],term,t)
             else:
                 t='%s and %s'%(term,t)
@@ -184,7 +185,7 @@ class Gen:
             def pk(i):
                 s=ps[i]
                 if i==len(ps)-1:
-                    return None if s[1] in STAY else 'c.%s.ensures.peeks'%s[0]
+                    return 'stays-peeks c.%s.ensures.same c.%s.ensures.stays'%(s[0],s[0]) if s[1] in STAY else 'c.%s.ensures.peeks'%s[0]
                 r=pk(i+1)
                 if s[1] in STAY: return None if r is None else 'stays-then c.%s.ensures.same c.%s.ensures.stays (%s)'%(s[0],s[0],r)
                 if r is None: return None
@@ -235,6 +236,12 @@ def gen(path,fn,left=False,extra=()):
     if l: imp.append('use Rattle.rust_productions.proofs.Seen.{%s}'%', '.join(l))
     l=[w for w in ('peeks-then','peeks-within','stays-then') if has(w)]
     if l: imp.append('use Rattle.rust_productions.proofs.Peeking.{%s}'%', '.join(l))
+    if g.sees_kind and g.sees_kind.startswith('('):
+        import glob
+        for spec in sorted(glob.glob(path.split('/crates/')[0]+'/crates/rust_grammar/specs/*.antt')):
+            if re.search(r'(?m)^abbrev pub %s :'%re.escape(g.sees_kind[1:]),open(spec).read()):
+                imp.append('use Rattle.rust_grammar.specs.%s.{%s}'%(os.path.basename(spec)[:-5],g.sees_kind[1:])); break
+    if has('stays-peeks'): imp.append('use Rattle.rust_productions.proofs.Staying.{stays-peeks}')
     imp.append('use Rattle.%s.proofs.%s.%s.Goals as goal'%(crate,modpath,fn))
     out=HEAD+'\n'.join(imp)+'\n\n'+t.rstrip('\n')+'\n'
     d=path.split('/src/')[0]+'/proofs/'+path.split('/src/')[1][:-3]+'/'+fn

@@ -178,6 +178,12 @@ variant = VARIANT ⟨ Attribute * ▸ ⁅ Visibility ⁆ ▸ Name ! ▸ ⁅ vari
 abbrev pub unsafe_field : Rule
 unsafe_field = ⁅ When (wide (next 'unsafe')) (One 'unsafe') ⁆
 
+abbrev pub unsafe_and_name : Rule
+unsafe_and_name = unsafe_field ▸ Name !
+
+abbrev pub field_front : Rule
+field_front = Attribute * ▸ ⁅ Visibility ⁆ ▸ unsafe_and_name
+
 abbrev pub record_field : Rule
 record_field = RECORD_FIELD ⟨ Attribute * ▸ ⁅ Visibility ⁆ ▸ unsafe_field ▸ Name ! ▸ One ':' ! ▸ AnyType ! ▸ discriminant ⟩
 
@@ -203,12 +209,15 @@ self_name = NAME ⟨ One 'self' ! ⟩
 abbrev pub self_rest : Rule
 self_rest = ⁅ One '&' ▸ ⁅ Lifetime ⁆ ⁆ ▸ ⁅ One 'mut' ⁆ ▸ self_name ▸ ⁅ type_annotation ⁆
 
+abbrev pub dots_or_param : Rule
+dots_or_param = three_dots or Pattern ! ▸ param_type
+
 -- parameters that only the whole language has: `...`, and those with attributes
 abbrev pub new_param_begins : Look
 new_param_begins = Either dots_dot (next '#')
 
 abbrev pub attributed_param : Rule
-attributed_param = When self_begins (SELF_PARAM <⟨ self_rest ⟩) or PARAM <⟨ three_dots or Pattern ! ▸ param_type ⟩
+attributed_param = When self_begins (SELF_PARAM <⟨ self_rest ⟩) or PARAM <⟨ dots_or_param ⟩
 
 abbrev pub new_param : Rule
 new_param = PARAM ⟨ three_dots ⟩ or attributed attributed_param
@@ -216,6 +225,9 @@ new_param = PARAM ⟨ three_dots ⟩ or attributed attributed_param
 -- the input of an attribute, and a meta in `unsafe(..)`
 abbrev pub attr_input : Rule
 attr_input = One '=' ▸ Expression ! or TokenTree
+
+abbrev pub path_meta : Rule
+path_meta = META ⟨ Path ▸ ⁅ attr_input ⁆ ⟩
 
 abbrev pub unsafe_meta : Rule
 unsafe_meta = META ⟨ One 'unsafe' ▸ One 'l_paren' ! ▸ Path ! ▸ ⁅ attr_input ⁆ ▸ One 'r_paren' ! ⟩
@@ -253,8 +265,11 @@ in_use_tree = ⁅ When colons_before_more (One '::') ⁆ ▸ after_colons
 
 -- Items that only the whole language has, from their first word on. Words that are no keywords are known by what stands behind
 -- them.
+abbrev pub crate_name : Rule
+crate_name = NAME_REF ⟨ One 'ident' or One 'self' ⟩
+
 abbrev pub extern_crate : Rule
-extern_crate = EXTERN_CRATE <⟨ One 'extern' ▸ One 'crate' ▸ (NAME_REF ⟨ One 'ident' or One 'self' ⟩) ! ▸ ⁅ rename ⁆ ▸ One 'semi' ! ⟩
+extern_crate = EXTERN_CRATE <⟨ One 'extern' ▸ One 'crate' ▸ crate_name ! ▸ ⁅ rename ⁆ ▸ One 'semi' ! ⟩
 
 abbrev pub union_begins : Look
 union_begins = Both (Contextual 0 UNION_KW) (row 1 ('ident' ∷ []))
@@ -305,15 +320,30 @@ words_begin = any_of (const_word ∷ async_word ∷ gen_word ∷ unsafe_word ∷
 abbrev pub unsafe_after_default : Rule
 unsafe_after_default = ⁅ When ('unsafe' before_any ('fn' ∷ 'impl' ∷ [])) (One 'unsafe') ⁆
 
+abbrev pub after_default : Rule
+after_default = One 'contextual_default' ▸ ⁅ One 'async' ⁆ ▸ unsafe_after_default
+
 abbrev pub default_words : Rule
-default_words = ⁅ When default_word (One 'contextual_default' ▸ ⁅ One 'async' ⁆ ▸ unsafe_after_default) ⁆
+default_words = ⁅ When default_word after_default ⁆
+
+abbrev pub contextual_words_begin : Look
+contextual_words_begin = any_of (safe_word ∷ extern_word ∷ auto_word ∷ default_word ∷ [])
 
 -- what stands behind the words
+abbrev pub plain_fn : Rule
+plain_fn = FN <⟨ fn_rest ⟩
+
+abbrev pub plain_trait : Rule
+plain_trait = TRAIT <⟨ One 'trait' ▸ after_trait ⟩
+
+abbrev pub plain_impl : Rule
+plain_impl = IMPL <⟨ One 'impl' ▸ after_impl ⟩
+
 abbrev pub item_word : Rule
 item_word =
-    When (next 'fn') (FN <⟨ fn_rest ⟩)
-    or TRAIT <⟨ One 'trait' ▸ after_trait ⟩
-    or IMPL <⟨ One 'impl' ▸ after_impl ⟩
+    When (next 'fn') plain_fn
+    or plain_trait
+    or plain_impl
     or static_item
     or const_item
     or type_alias
@@ -325,14 +355,20 @@ after_abi = EXTERN_BLOCK <⟨ ITEM_LIST ⟨ items_in_braces ⟩ ⟩ or item_word
 abbrev pub abi_or_words : Rule
 abi_or_words = abi ▸ after_abi or ⁅ When auto_word (One 'contextual_auto') ⁆ ▸ default_words ▸ item_word
 
+abbrev pub safe_or_abi : Rule
+safe_or_abi = ⁅ When safe_word (One 'contextual_safe') ⁆ ▸ abi_or_words
+
+abbrev pub words_from_unsafe : Rule
+words_from_unsafe = ⁅ When unsafe_word (One 'unsafe') ⁆ ▸ safe_or_abi
+
+abbrev pub words_from_gen : Rule
+words_from_gen = ⁅ When gen_word (One 'gen') ⁆ ▸ words_from_unsafe
+
+abbrev pub words_from_async : Rule
+words_from_async = ⁅ When async_word (One 'async') ⁆ ▸ words_from_gen
+
 abbrev pub item_words : Rule
-item_words =
-    ⁅ When const_word (One 'const') ⁆
-    ▸ ⁅ When async_word (One 'async') ⁆
-    ▸ ⁅ When gen_word (One 'gen') ⁆
-    ▸ ⁅ When unsafe_word (One 'unsafe') ⁆
-    ▸ ⁅ When safe_word (One 'contextual_safe') ⁆
-    ▸ abi_or_words
+item_words = ⁅ When const_word (One 'const') ⁆ ▸ words_from_async
 
 abbrev pub new_item_begins : Look
 new_item_begins = any_of ('extern' before 'crate' ∷ union_begins ∷ macro_rules_begins ∷ next 'macro' ∷ words_begin ∷ [])
@@ -370,7 +406,7 @@ items others param =
     or pattern_param
 items others visibility = VISIBILITY ⟨ One 'pub' ▸ ⁅ When visibility_goes_on visibility_scope ⁆ ⟩
 items others attribute = ATTR ⟨ One '#' ▸ ⁅ One '!' ⁆ ▸ One '[' ! ▸ off (Meta !) ▸ One ']' ! ⟩
-items others meta = When (wide (next 'unsafe')) unsafe_meta or META ⟨ Path ▸ ⁅ attr_input ⁆ ⟩
+items others meta = When (wide (next 'unsafe')) unsafe_meta or path_meta
 items others token_tree =
     TOKEN_TREE ⟨ One 'l_paren' ▸ tokens ▸ One 'r_paren' ! ⟩
     or TOKEN_TREE ⟨ One '[' ▸ tokens ▸ One ']' ! ⟩

@@ -23,8 +23,11 @@ abbrev pub range_end : Rule
 range_end = ⁅ When range_end_begins PatternAtom ⁆
 
 -- `..=`, or `..` before an end, begins a range without a start; else `..` is a rest pattern
+abbrev pub dots_before_end : Look
+dots_before_end = 'dots' before_any ('<' ∷ range_words)
+
 abbrev pub open_range_begins : Look
-open_range_begins = Either (next 'dots_eq') ('dots' before_any ('<' ∷ range_words))
+open_range_begins = Either (next 'dots_eq') dots_before_end
 
 abbrev pub two_dots : Rule
 two_dots = One 'dots_eq' or One 'dots'

@@ -65,6 +65,9 @@ fn_ptr_param = PARAM ⟨ outer_attributes ▸ dots_name_or_type ⟩
 abbrev pub fn_ptr_params : Rule
 fn_ptr_params = PARAM_LIST ⟨ listed PARAM_LIST 'l_paren' fn_ptr_param 'r_paren' ⟩
 
+abbrev pub fn_ptr_words : Rule
+fn_ptr_words = ⁅ One 'unsafe' ⁆ ▸ ⁅ abi ⁆ ▸ One 'fn' !
+
 abbrev pub fn_ptr_type : Rule
 fn_ptr_type = FN_PTR_TYPE ⟨ ⁅ One 'unsafe' ⁆ ▸ ⁅ abi ⁆ ▸ One 'fn' ! ▸ fn_ptr_params ! ▸ ⁅ RetType ⁆ ⟩
 

@@ -133,3 +133,16 @@ fn opt_binder(p: &mut Parser<'_>)
         for_binder(p);
     }
 }
+
+/// Parses a lifetime as a bound.
+// 'a
+pub(crate) fn lifetime_bound(p: &mut Parser<'_>)
+    requires { 1 ≤ tokens p.old }
+    ensures reads { (c : Bool) → Reads c (kinds.TYPE_BOUND ⟨ Lifetime ⟩) p.old p.new }
+    ensures left { tokens p.new + 1 ≡ tokens p.old }
+    ensures looks { spent p.new + 4096 ≡ spent p.old }
+{
+    let node = start(p);
+    lifetime(p);
+    complete(p, node, SyntaxKind::TYPE_BOUND);
+}
