@@ -327,7 +327,7 @@ abbrev pub default_words : Rule
 default_words = ⁅ When default_word after_default ⁆
 
 abbrev pub contextual_words_begin : Look
-contextual_words_begin = any_of (safe_word ∷ extern_word ∷ auto_word ∷ default_word ∷ [])
+contextual_words_begin = any_of (extern_word ∷ auto_word ∷ default_word ∷ safe_word ∷ [])
 
 -- what stands behind the words
 abbrev pub plain_fn : Rule
@@ -376,14 +376,10 @@ new_item_begins = any_of ('extern' before 'crate' ∷ union_begins ∷ macro_rul
 abbrev pub new_item : Rule
 new_item = When ('extern' before 'crate') extern_crate or When union_begins union_item or When macro_rules_begins macro_rules or macro_def or item_words
 
--- A body stands around the attributes and the visibility before it. A word that begins no item is read as the path of a macro.
-unfoldable pub items : (others : Production → Rule) → Production → Rule
-items others source_file = SOURCE_FILE ⟨ ⁅ One 'shebang' ⁆ ▸ ⁅ One 'frontmatter' ⁆ ▸ items_until at_end ⟩
-items others macro_items = MACRO_ITEMS ⟨ items_until at_end ⟩
-items others item = Attribute * ▸ ⁅ Visibility ⁆ ▸ more body
-items others body =
-    When (wide new_item_begins) new_item
-    or module_item
+-- any other item
+abbrev pub plain_body : Rule
+plain_body =
+    module_item
     or use_item
     or struct_item
     or enum_item
@@ -395,6 +391,13 @@ items others body =
     or When trait_begins trait_item
     or path_item
     or no_item
+
+-- A body stands around the attributes and the visibility before it. A word that begins no item is read as the path of a macro.
+unfoldable pub items : (others : Production → Rule) → Production → Rule
+items others source_file = SOURCE_FILE ⟨ ⁅ One 'shebang' ⁆ ▸ ⁅ One 'frontmatter' ⁆ ▸ items_until at_end ⟩
+items others macro_items = MACRO_ITEMS ⟨ items_until at_end ⟩
+items others item = Attribute * ▸ ⁅ Visibility ⁆ ▸ more body
+items others body = When (wide new_item_begins) new_item or plain_body
 items others assoc_items = ASSOC_ITEM_LIST ⟨ items_in_braces ⟩
 items others variants = VARIANT_LIST ⟨ listed VARIANT_LIST 'l_curly' variant 'r_curly' ⟩
 items others record_fields = RECORD_FIELD_LIST ⟨ listed RECORD_FIELD_LIST 'l_curly' record_field 'r_curly' ⟩

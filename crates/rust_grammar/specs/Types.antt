@@ -59,8 +59,11 @@ named_param = SinglePattern ▸ One ':' ! ▸ dots_or_type
 abbrev pub dots_name_or_type : Rule
 dots_name_or_type = three_dots or When named_param_begins named_param or AnyType
 
+abbrev pub in_fn_ptr_param : Rule
+in_fn_ptr_param = outer_attributes ▸ dots_name_or_type
+
 abbrev pub fn_ptr_param : Rule
-fn_ptr_param = PARAM ⟨ outer_attributes ▸ dots_name_or_type ⟩
+fn_ptr_param = PARAM ⟨ in_fn_ptr_param ⟩
 
 abbrev pub fn_ptr_params : Rule
 fn_ptr_params = PARAM_LIST ⟨ listed PARAM_LIST 'l_paren' fn_ptr_param 'r_paren' ⟩

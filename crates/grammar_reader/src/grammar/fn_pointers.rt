@@ -3,14 +3,14 @@
 ghost use Rattle.std.specs.Prelude.{◌≤◌, Bool, false, true};
 ghost use Rattle.rust_grammar.specs.Notation.{◌! };
 ghost use Rattle.rust_grammar.specs.Rule as rules;
+ghost use Rattle.rust_grammar.specs.Rule.{begins};
 ghost use Rattle.rust_grammar.specs.Paths.{first_segment, type_args};
-ghost use Rattle.rust_grammar.specs.Shared.{path_type};
 ghost use Rattle.rust_grammar.specs.Types as rows;
 ghost use Rattle.rust_productions.specs.Looks.{tokens, Takes, Asks};
 ghost use Rattle.rust_productions.specs.Reads.{looks, Gives, Reads, Saw};
 ghost use Rattle.rust_productions.specs.Starts.{Starts};
 
-use crate::grammar::attributes::outer_attributes;
+use crate::grammar::attributes::{attribute, outer_attributes};
 use crate::grammar::lists::{Element, rest_of_list};
 use crate::grammar::patterns::single_pattern;
 use crate::grammar::paths::{Mode, next_segments, opt_type_args};
@@ -22,7 +22,7 @@ use rust_productions::grammar::item_words::{opt_abi, read_abi};
 use rust_productions::grammar::pattern_ranges::take_three_dots;
 use rust_productions::grammar::types::{at_named_param, at_type};
 use rust_productions::grammar::{
-    abandon, at, at_dots_dot, complete, current, error, expect, start, take,
+    abandon, at, at_dots_dot, at_new, complete, current, error, expect, start, take,
 };
 
 /// Parses a function pointer type.
@@ -98,13 +98,49 @@ fn params(p: &mut Parser<'_>)
 // #[a] b: u8
 #[cycle(grammar)]
 pub(crate) fn fn_ptr_param(p: &mut Parser<'_>)
+    requires begins { Starts (begins looks rows.fn_ptr_param) p.old }
     ensures reads { (c : Bool) → Reads c rows.fn_ptr_param p.old p.new }
-    ensures asks { Asks 60 p.old p.new }
+    ensures takes { Takes 2700 p.old p.new }
 {
     let node = start(p);
-    outer_attributes(p);
-    dots_name_or_type(p);
+    attributed_or_bare(p);
     complete(p, node, SyntaxKind::PARAM);
+}
+
+/// Parses a parameter with its optional attributes, within its node.
+// #[a] b: u8
+#[cycle(grammar)]
+fn attributed_or_bare(p: &mut Parser<'_>)
+    requires begins { Starts (begins looks rows.fn_ptr_param) p.old }
+    ensures reads { (c : Bool) → Reads c rows.in_fn_ptr_param p.old p.new }
+    ensures takes { Takes 2700 p.old p.new }
+{
+    if at_new(p, SyntaxKind::POUND) {
+        attribute(p);
+        outer_attributes(p);
+        dots_name_or_type(p);
+        return;
+    }
+    bare_param(p);
+}
+
+/// Parses a parameter without attributes, within its node.
+// b: u8
+#[cycle(grammar)]
+fn bare_param(p: &mut Parser<'_>)
+    requires begins { Starts (begins looks rows.dots_name_or_type) p.old }
+    ensures reads { (c : Bool) → Reads c rows.dots_name_or_type p.old p.new }
+    ensures takes { Takes 2710 p.old p.new }
+{
+    if at_dots_dot(p) {
+        take_three_dots(p);
+        return;
+    }
+    if at_named_param(p) {
+        named_param(p);
+        return;
+    }
+    any_type(p);
 }
 
 /// Parses a parameter after its attributes.
@@ -133,7 +169,7 @@ fn dots_name_or_type(p: &mut Parser<'_>)
 #[cycle(grammar)]
 fn missing_type(p: &mut Parser<'_>)
     requires none { (c : Bool) → Saw c (looks rules.any_type) p.old false }
-    ensures reads { (c : Bool) → Reads c path_type p.old p.new }
+    ensures gives { (c : Bool) → Gives rules.any_type c p.old p.new }
     ensures asks { Asks 14 p.old p.new }
 {
     let node = start(p);
@@ -174,7 +210,7 @@ fn missing_segment(p: &mut Parser<'_>)
 // b: u8
 #[cycle(grammar)]
 fn named_param(p: &mut Parser<'_>)
-    requires begins { Starts rows.named_param_begins p.old }
+    requires begins { Starts (looks rules.single_pattern) p.old }
     ensures reads { (c : Bool) → Reads c rows.named_param p.old p.new }
     ensures takes { Takes 2800 p.old p.new }
 {

@@ -139,6 +139,19 @@ fn body(p: &mut Parser<'_>, item: Marker, given: bool, condition: bool)
         new_item(p, item, condition);
         return;
     }
+    plain_body(p, item, given, condition);
+}
+
+/// Parses an item that both grammars have after its attributes and its visibility, and completes
+/// its node. `given` is `true` if it has some.
+// fn f() {}
+#[cycle(grammar)]
+fn plain_body(p: &mut Parser<'_>, item: Marker, given: bool, condition: bool)
+    requires some { given ≡ false → 1 ≤ tokens p.old }
+    requires innermost { IsInnermost item p.old.nodes }
+    ensures completes { CompletesWhere given condition rows.plain_body p.old p.new }
+    ensures takes { TakesUnless given 2930 16 p.old p.new }
+{
     match current(p) {
         SyntaxKind::MOD_KW => module(p, item),
         SyntaxKind::USE_KW => use_item(p, item),

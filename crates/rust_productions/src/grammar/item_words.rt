@@ -203,7 +203,7 @@ fn at_words(p: &mut Parser<'_>) -> bool
 /// Returns `true` if `extern crate` is next.
 pub fn at_extern_crate(p: &mut Parser<'_>) -> bool
     ensures sees { (c : Bool) → Saw c ('extern' before 'crate') p.old result }
-    ensures some { IsTrue result → 1 ≤ tokens p.old }
+    ensures some { IsTrue result → 2 ≤ tokens p.old }
     ensures peeks { Peeks 2 p.old p.new }
 {
     if !at(p, SyntaxKind::EXTERN_KW) {
@@ -218,7 +218,7 @@ pub fn at_extern_crate(p: &mut Parser<'_>) -> bool
 /// Returns `true` if a union starts here: at `union` before a name.
 pub fn at_union(p: &mut Parser<'_>) -> bool
     ensures sees { (c : Bool) → Saw c rows.union_begins p.old result }
-    ensures some { IsTrue result → 1 ≤ tokens p.old }
+    ensures some { IsTrue result → 2 ≤ tokens p.old }
     ensures peeks { Peeks 1 p.old p.new }
 {
     if !at_contextual(p, SyntaxKind::UNION_KW) {
@@ -233,7 +233,7 @@ pub fn at_union(p: &mut Parser<'_>) -> bool
 /// Returns `true` if a definition of a macro starts here: at `macro_rules!` before a name.
 pub fn at_macro_rules(p: &mut Parser<'_>) -> bool
     ensures sees { (c : Bool) → Saw c rows.macro_rules_begins p.old result }
-    ensures some { IsTrue result → 1 ≤ tokens p.old }
+    ensures some { IsTrue result → 3 ≤ tokens p.old }
     ensures peeks { Peeks 2 p.old p.new }
 {
     if !at_contextual(p, SyntaxKind::MACRO_RULES_KW) {

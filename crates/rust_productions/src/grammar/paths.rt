@@ -78,7 +78,10 @@ pub fn at_dots_args(p: &mut Parser<'_>) -> bool
     if !at(p, SyntaxKind::L_PAREN) {
         return false;
     }
-    at_pair_after(p, SyntaxKind::DOT, SyntaxKind::DOT)
+    if !at_pair_after(p, SyntaxKind::DOT, SyntaxKind::DOT) {
+        return false;
+    }
+    true
 }
 
 /// Returns `true` if `::(..` is next.
@@ -93,7 +96,10 @@ pub fn at_colons_dots_args(p: &mut Parser<'_>) -> bool
     if !at_third(p, SyntaxKind::L_PAREN) {
         return false;
     }
-    at_fourth_pair(p, SyntaxKind::DOT, SyntaxKind::DOT)
+    if !at_fourth_pair(p, SyntaxKind::DOT, SyntaxKind::DOT) {
+        return false;
+    }
+    true
 }
 
 /// Returns `true` if `!` is next, and no `!=`.

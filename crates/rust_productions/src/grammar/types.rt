@@ -199,6 +199,7 @@ pub fn at_type_no_bounds(p: &mut Parser<'_>) -> bool
 /// Returns `true` if an identifier or a `_` is next.
 fn at_ident_or_underscore(p: &mut Parser<'_>) -> bool
     ensures sees { (c : Bool) → Saw c (one_of 0 ('ident' ∷ '_' ∷ [])) p.old result }
+    ensures pattern { IsTrue result → (c : Bool) → Saw c (looks rules.single_pattern) p.old true }
     ensures some { IsTrue result → 1 ≤ tokens p.old }
     ensures peeks { Peeks 1 p.old p.new }
 {
@@ -211,6 +212,7 @@ fn at_ident_or_underscore(p: &mut Parser<'_>) -> bool
 /// Returns `true` if a parameter of a function pointer type starts here with a name.
 pub fn at_named_param(p: &mut Parser<'_>) -> bool
     ensures sees { (c : Bool) → Saw c rows.named_param_begins p.old result }
+    ensures pattern { IsTrue result → (c : Bool) → Saw c (looks rules.single_pattern) p.old true }
     ensures some { IsTrue result → 1 ≤ tokens p.old }
     ensures peeks { Peeks 4 p.old p.new }
 {

@@ -145,20 +145,10 @@ fn contextual_words(p: &mut Parser<'_>, item: Marker, condition: bool)
         item_word(p, item, condition);
         return;
     }
-    default_words(p);
-    item_word(p, item, condition);
-}
-
-/// Parses `default`, and the words after it.
-// default async unsafe
-fn default_words(p: &mut Parser<'_>)
-    requires some { 1 ≤ tokens p.old }
-    ensures reads { (c : Bool) → Reads c rows.after_default p.old p.new }
-    ensures takes { Takes 4090 p.old p.new }
-{
     take_contextual(p, SyntaxKind::DEFAULT_KW);
     eat(p, SyntaxKind::ASYNC_KW);
     opt_unsafe_after_default(p);
+    item_word(p, item, condition);
 }
 
 /// Parses an item from its optional `async` on, and completes its node.

@@ -6,13 +6,13 @@ use Rattle.rust_grammar.specs.Rule as rules
 use Rattle.rust_grammar.specs.Rule.{Call}
 use Rattle.rust_grammar.specs.Expressions.{expressions}
 use Rattle.rust_grammar.specs.Items.{items, record_field, tuple_field, variant}
-use Rattle.rust_grammar.specs.Meaning.{begins_below, look_of}
+use Rattle.rust_grammar.specs.Meaning.{begins_below, look_of, turns}
 use Rattle.rust_grammar.specs.Notation.{any_of, is_longer, no_longer, longest, one_of, row}
 use Rattle.rust_grammar.specs.Paths.{captured, paths}
 use Rattle.rust_grammar.specs.Patterns.{patterns}
 use Rattle.rust_grammar.specs.Rule.{begins, in_mode, anew, is_silent, passes, shift, there_at}
 use Rattle.rust_grammar.specs.Statements.{statements}
-use Rattle.rust_grammar.specs.Types.{types}
+use Rattle.rust_grammar.specs.Types.{types, fn_ptr_param}
 use Rattle.rust_grammar.specs.Whole.{rule, whole}
 use Rattle.grammar_reader.specs.Told.{element_of, list_turn, looks_in}
 use Rattle.grammar_reader.specs.declared.grammar.lists.Element.{Element}
@@ -21,11 +21,14 @@ use Rattle.grammar_reader.proofs.AnyMode.{param-anywhere, pattern-anywhere, patt
 use Rattle.grammar_reader.proofs.Seeing.{begun-left, param-left, pattern-begins, word-left}
 use Rattle.rust_productions.specs.Looks.{tokens}
 use Rattle.rust_productions.specs.Reads.{looks, Reads, Saw}
-use Rattle.rust_productions.proofs.ByHand.{after-look, does-then, reads-call, reads-mode, reads-node, reads-then, reads-wrap}
+use Rattle.rust_productions.proofs.ByHand.{after-look, does-then, reads-call, reads-mode, reads-node, reads-then, reads-wrap, goes}
 use Rattle.rust_productions.proofs.Choices.{anew-after, gives-anew, reads-here}
 use Rattle.rust_productions.proofs.Facts.{nothing, saw-so, ◌and◌}
 use Rattle.rust_productions.proofs.Seen.{saw-after, saw-before}
 use Rattle.rust_productions.proofs.Turns.{first-turn, idle-turn, last-turn, next-turn}
+use Rattle.parser_events.specs.Nodes.{innermost}
+use Rattle.parser_input.specs.Input.{input}
+use Rattle.rust_document.specs.Seen.{seen}
 use Rattle.grammar_reader.proofs.grammar.+grammar.Goals as goal
 
 pub lists::turn-returns-then-at_list_end-clause-ends : goal.lists::turn-returns-then-at_list_end-clause-ends
@@ -283,3 +286,12 @@ lists::tuple_fields-complete-requires t c = (c.rest_of_list.ensures.reads true).
 pub lists::tuple_fields-returns-clause-gives : goal.lists::tuple_fields-returns-clause-gives
 unfolding look_of begins_below whole rule items statements expressions patterns types paths there_at shift passes is_silent begins in_mode anew row one_of any_of no_longer longest is_longer
 lists::tuple_fields-returns-clause-gives t c = λ cond. gives-anew (anew-after refl (reads-node cond c.start-list.ensures.opens (reads-then cond (c.take.ensures.reads cond) (c.rest_of_list.ensures.reads cond)) c.complete.ensures.closes))
+
+pub lists::read_element-fn_ptr_param-requires : goal.lists::read_element-fn_ptr_param-requires
+unfolding look_of begins_below whole rule items statements expressions patterns types paths there_at shift passes is_silent begins in_mode anew row one_of any_of no_longer longest is_longer
+lists::read_element-fn_ptr_param-requires t c = 
+    let seen = subst (λ (e : Element). Saw false (begins looks (element_of e)) c.args.p.now true) c.in-FnPtrParam.is c.requires.begins in
+    (omega arith, record { sees = λ d. fn-ptr-param-anywhere seen; some = word-left fn_ptr_param refl seen })
+
+pub lists::read_element-returns-in-FnPtrParam-clause-reads : goal.lists::read_element-returns-in-FnPtrParam-clause-reads
+lists::read_element-returns-in-FnPtrParam-clause-reads t c = subst (λ (e : Element). Reads false (element_of e) c.args.p.now c.fn_ptr_param.new.p) (sym c.in-FnPtrParam.is) (c.fn_ptr_param.ensures.reads false)

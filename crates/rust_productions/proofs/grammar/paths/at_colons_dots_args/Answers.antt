@@ -30,9 +30,16 @@ returns-then-not-at_third-clause-sees c cond = saw-told (saw-so (c.at_colons.ens
 pub returns-then-not-at_third-clause-peeks : goal.returns-then-not-at_third-clause-peeks
 returns-then-not-at_third-clause-peeks c = peeks-within (peeks-then c.at_colons.ensures.peeks (c.at_third.ensures.peeks)) (omega arith)
 
+pub returns-then-not-at_fourth_pair-clause-sees : goal.returns-then-not-at_fourth_pair-clause-sees
+unfolding look_of begins_below whole rule items statements expressions patterns types paths there_at shift passes is_silent begins in_mode anew row one_of any_of no_longer longest is_longer
+returns-then-not-at_fourth_pair-clause-sees c cond = saw-told (saw-so (c.at_colons.ensures.sees cond) c.if-not-at_colons.false and saw-before c.at_colons.ensures.peeks.same (saw-so (c.at_third.ensures.sees cond) c.if-not-at_third.false) and saw-before c.at_colons.ensures.peeks.same (saw-before c.at_third.ensures.peeks.same (saw-so (c.at_fourth_pair.ensures.sees cond) c.if-not-at_fourth_pair.true)) and nothing) refl
+
+pub returns-then-not-at_fourth_pair-clause-peeks : goal.returns-then-not-at_fourth_pair-clause-peeks
+returns-then-not-at_fourth_pair-clause-peeks c = peeks-within (peeks-then c.at_colons.ensures.peeks (peeks-then c.at_third.ensures.peeks (c.at_fourth_pair.ensures.peeks))) (omega arith)
+
 pub returns-clause-sees : goal.returns-clause-sees
 unfolding look_of begins_below whole rule items statements expressions patterns types paths there_at shift passes is_silent begins in_mode anew row one_of any_of no_longer longest is_longer
-returns-clause-sees c cond = saw-told (saw-so (c.at_colons.ensures.sees cond) c.if-not-at_colons.false and saw-before c.at_colons.ensures.peeks.same (saw-so (c.at_third.ensures.sees cond) c.if-not-at_third.false) and saw-before c.at_colons.ensures.peeks.same (saw-before c.at_third.ensures.peeks.same (c.at_fourth_pair.ensures.sees cond)) and nothing) refl
+returns-clause-sees c cond = saw-told (saw-so (c.at_colons.ensures.sees cond) c.if-not-at_colons.false and saw-before c.at_colons.ensures.peeks.same (saw-so (c.at_third.ensures.sees cond) c.if-not-at_third.false) and saw-before c.at_colons.ensures.peeks.same (saw-before c.at_third.ensures.peeks.same (saw-so (c.at_fourth_pair.ensures.sees cond) c.if-not-at_fourth_pair.false)) and nothing) refl
 
 pub returns-clause-peeks : goal.returns-clause-peeks
 returns-clause-peeks c = peeks-within (peeks-then c.at_colons.ensures.peeks (peeks-then c.at_third.ensures.peeks (c.at_fourth_pair.ensures.peeks))) (omega arith)

@@ -23,9 +23,16 @@ returns-then-not-at-clause-sees c cond = saw-told (saw-so (c.at.ensures.sees con
 pub returns-then-not-at-clause-peeks : goal.returns-then-not-at-clause-peeks
 returns-then-not-at-clause-peeks c = peeks-within (c.at.ensures.peeks) (omega arith)
 
+pub returns-then-not-at_pair_after-clause-sees : goal.returns-then-not-at_pair_after-clause-sees
+unfolding look_of begins_below whole rule items statements expressions patterns types paths there_at shift passes is_silent begins in_mode anew row one_of any_of no_longer longest is_longer
+returns-then-not-at_pair_after-clause-sees c cond = saw-told (saw-so (c.at.ensures.sees cond) c.if-not-at.false and saw-before c.at.ensures.peeks.same (saw-so (c.at_pair_after.ensures.sees cond) c.if-not-at_pair_after.true) and nothing) refl
+
+pub returns-then-not-at_pair_after-clause-peeks : goal.returns-then-not-at_pair_after-clause-peeks
+returns-then-not-at_pair_after-clause-peeks c = peeks-within (peeks-then c.at.ensures.peeks (c.at_pair_after.ensures.peeks)) (omega arith)
+
 pub returns-clause-sees : goal.returns-clause-sees
 unfolding look_of begins_below whole rule items statements expressions patterns types paths there_at shift passes is_silent begins in_mode anew row one_of any_of no_longer longest is_longer
-returns-clause-sees c cond = saw-told (saw-so (c.at.ensures.sees cond) c.if-not-at.false and saw-before c.at.ensures.peeks.same (c.at_pair_after.ensures.sees cond) and nothing) refl
+returns-clause-sees c cond = saw-told (saw-so (c.at.ensures.sees cond) c.if-not-at.false and saw-before c.at.ensures.peeks.same (saw-so (c.at_pair_after.ensures.sees cond) c.if-not-at_pair_after.false) and nothing) refl
 
 pub returns-clause-peeks : goal.returns-clause-peeks
 returns-clause-peeks c = peeks-within (peeks-then c.at.ensures.peeks (c.at_pair_after.ensures.peeks)) (omega arith)

@@ -21,6 +21,10 @@ pub returns-in-IDENT-clause-sees : goal.returns-in-IDENT-clause-sees
 unfolding look_of begins_below whole rule items statements expressions patterns types paths there_at shift passes is_silent begins in_mode anew row one_of any_of no_longer longest is_longer
 returns-in-IDENT-clause-sees c cond = elim c.in-IDENT.is [ inl a0 ↦ saw-told (saw-arm a0 (c.current.ensures.sees cond) and nothing) refl | inr b0 ↦ saw-told (saw-arm b0 (c.current.ensures.sees cond) and nothing) refl ]
 
+pub returns-in-IDENT-clause-pattern : goal.returns-in-IDENT-clause-pattern
+unfolding look_of begins_below whole rule items statements expressions patterns types paths there_at shift passes is_silent begins in_mode anew row one_of any_of no_longer longest is_longer
+returns-in-IDENT-clause-pattern c _ cond = elim c.in-IDENT.is [ inl a0 ↦ saw-told (saw-arm a0 (c.current.ensures.sees cond) and nothing) refl | inr b0 ↦ saw-told (saw-arm b0 (c.current.ensures.sees cond) and nothing) refl ]
+
 pub returns-in-IDENT-clause-peeks : goal.returns-in-IDENT-clause-peeks
 returns-in-IDENT-clause-peeks c = peeks-within (c.current.ensures.peeks) (omega arith)
 

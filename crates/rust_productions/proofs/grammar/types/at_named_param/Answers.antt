@@ -43,3 +43,6 @@ returns-clause-sees c cond = saw-told (saw-so (c.at_ident_or_underscore.ensures.
 
 pub returns-clause-peeks : goal.returns-clause-peeks
 returns-clause-peeks c = peeks-within (peeks-then c.at_ident_or_underscore.ensures.peeks (peeks-then c.at_second.ensures.peeks (c.at_pair_after.ensures.peeks))) (omega arith)
+
+pub returns-clause-pattern : goal.returns-clause-pattern
+returns-clause-pattern c _ cond = c.at_ident_or_underscore.ensures.pattern c.if-not-at_ident_or_underscore.false cond

@@ -1,7 +1,7 @@
 -- What is read in a node.
 use Rattle.std.proofs.Common.{true}
 use Rattle.rust_productions.proofs.ByHand.{reads-call, reads-node}
-use Rattle.grammar_reader.proofs.grammar.types.lifetime_bound.Goals as goal
+use Rattle.grammar_reader.proofs.grammar.new_bounds.lifetime_bound.Goals as goal
 
 pub complete-requires : goal.complete-requires
 complete-requires c = (c.lifetime.ensures.gives true).does.innermost _ c.start-node.ensures.marker
