@@ -253,8 +253,8 @@ def answers(path,fn,only_row=True):
     w=Walk(path,fn); out={}
     clause='completes' if 'completes' in w.sig.ens else 'anew' if 'anew' in w.sig.ens else 'gives' if 'gives' in w.sig.ens else 'reads'
     fixed=not re.match(r'\s*\(c : Bool\)',w.sig.ens.get(clause,''))
-    m=re.search(r'(?:Reads|Completes|Anew|Gives [\w.]+|CompletesWhere \w+) (false|true|condition)\b',w.sig.ens.get(clause,''))
-    cond='cond' if not fixed else ('c.args.condition' if m and m.group(1)=='condition' else (m.group(1) if m else '_'))
+    m=re.search(r'(?:Reads|Completes|Anew|Gives [\w.]+|CompletesWhere \w+) (false|true|condition|in_condition)\b',w.sig.ens.get(clause,''))
+    cond='cond' if not fixed else ('c.args.'+m.group(1) if m and m.group(1).endswith('condition') else (m.group(1) if m else '_'))
     for n,steps in w.rets.items():
         i=split(steps)
         t,how=term(w,steps[i:],cond,None)

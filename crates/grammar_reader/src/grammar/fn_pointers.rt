@@ -12,8 +12,8 @@ ghost use Rattle.rust_productions.specs.Starts.{Starts};
 
 use crate::grammar::attributes::{attribute, outer_attributes};
 use crate::grammar::lists::{Element, rest_of_list};
-use crate::grammar::patterns::single_pattern;
 use crate::grammar::paths::{Mode, next_segments, opt_type_args};
+use crate::grammar::patterns::single_pattern;
 use crate::grammar::types::{any_type, expect_type, opt_ret_type};
 use parser_events::message::Message;
 use parser_events::parser::Parser;

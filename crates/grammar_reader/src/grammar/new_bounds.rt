@@ -142,7 +142,7 @@ pub(crate) fn lifetime_bound(p: &mut Parser<'_>)
     ensures left { tokens p.new + 1 ≡ tokens p.old }
     ensures looks { spent p.new + 4096 ≡ spent p.old }
 {
-    let node = start(p);
+    let bound = start(p);
     lifetime(p);
-    complete(p, node, SyntaxKind::TYPE_BOUND);
+    complete(p, bound, SyntaxKind::TYPE_BOUND);
 }

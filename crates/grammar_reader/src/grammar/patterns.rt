@@ -26,8 +26,8 @@ use rust_productions::grammar::names::{at_literal, expect_literal, expect_name, 
 use rust_productions::grammar::patterns::at_single_pattern;
 use rust_productions::grammar::token_trees::expect_token_tree;
 use rust_productions::grammar::{
-    abandon, at, at_new, at_pair, at_pair_after, complete, current, eat, error, expect, nth, start, take,
-    take_pair, wrap,
+    abandon, at, at_new, at_pair, at_pair_after, complete, current, eat, error, expect, nth, start,
+    take, take_pair, wrap,
 };
 
 /// Returns `true` if an identifier is next that is a pattern: before none of `::`, `(`, `{` and

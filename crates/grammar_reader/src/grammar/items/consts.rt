@@ -39,13 +39,13 @@ pub(crate) fn const_item(p: &mut Parser<'_>, item: Marker, condition: bool)
 /// Parses the type and the optional value of a constant, its where clause and its `;`.
 // : u8 = 1;
 #[cycle(grammar)]
-fn const_typed(p: &mut Parser<'_>, condition: bool)
-    ensures reads { Reads condition rows.const_typed p.old p.new }
+fn const_typed(p: &mut Parser<'_>, in_condition: bool)
+    ensures reads { Reads in_condition rows.const_typed p.old p.new }
     ensures asks { Asks 20 p.old p.new }
 {
     expect(p, SyntaxKind::COLON);
     expect_type(p);
-    opt_value(p, condition);
+    opt_value(p, in_condition);
     opt_new_where(p);
     expect(p, SyntaxKind::SEMICOLON);
 }

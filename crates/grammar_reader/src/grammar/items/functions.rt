@@ -41,15 +41,15 @@ pub(crate) fn fn_item(p: &mut Parser<'_>, item: Marker, condition: bool)
 /// Parses a function without words before its `fn`, and completes its node.
 // fn f<T>(a: T) -> T { a }
 #[cycle(grammar)]
-pub(crate) fn plain_fn(p: &mut Parser<'_>, item: Marker)
+pub(crate) fn plain_fn(p: &mut Parser<'_>, node: Marker)
     requires some { 1 ≤ tokens p.old }
-    requires innermost { IsInnermost item p.old.nodes }
+    requires innermost { IsInnermost node p.old.nodes }
     ensures completes { (c : Bool) → Completes c (FN <⟨ One 'fn' ▸ rows.after_fn ⟩) p.old p.new }
     ensures takes { Takes 4080 p.old p.new }
 {
     take(p, SyntaxKind::FN_KW);
     after_fn(p);
-    complete(p, item, SyntaxKind::FN);
+    complete(p, node, SyntaxKind::FN);
 }
 
 /// Parses a function after its `fn`.

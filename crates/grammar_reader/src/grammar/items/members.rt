@@ -40,7 +40,7 @@ pub(crate) fn at_record_field(p: &mut Parser<'_>) -> bool
     ensures peeks { Peeks 1 p.old p.new }
 {
     match current(p) {
-        SyntaxKind::POUND | SyntaxKind::PUB_KW | SyntaxKind::IDENT => true,
+        SyntaxKind::PUB_KW | SyntaxKind::POUND | SyntaxKind::IDENT => true,
         SyntaxKind::UNSAFE_KW => {
             if at_whole(p) {
                 return true;
@@ -131,7 +131,9 @@ fn field_front(p: &mut Parser<'_>)
             take(p, SyntaxKind::UNSAFE_KW);
             expect_name(p);
         }
-        _ => name(p),
+        _ => {
+            name(p);
+        }
     }
 }
 

@@ -24,9 +24,7 @@ use rust_productions::grammar::item_words::{
 };
 use rust_productions::grammar::macros::{extern_crate, macro_def, macro_rules};
 use rust_productions::grammar::names::name;
-use rust_productions::grammar::{
-    at, complete, current, eat, error, take, take_contextual,
-};
+use rust_productions::grammar::{at, complete, current, eat, error, take, take_contextual};
 
 /// Parses an item that only the whole language has, or that has words before its own there, and
 /// completes its node.

@@ -39,7 +39,7 @@ pub items::consts::const_item-complete-requires : goal.items::consts::const_item
 items::consts::const_item-complete-requires t c = c.const_typed.ensures.reads.does.innermost _ ((c.opt_new_generics.ensures.reads true).does.innermost _ ((c.underscore_or_name.ensures.reads true).does.innermost _ ((c.take.ensures.reads true).does.innermost _ (c.requires.innermost))))
 
 pub items::consts::const_typed-returns-clause-reads : goal.items::consts::const_typed-returns-clause-reads
-items::consts::const_typed-returns-clause-reads t c = reads-then c.args.condition (c.expect.ensures.reads c.args.condition) (reads-then c.args.condition (c.expect_type.ensures.reads c.args.condition) (reads-then c.args.condition c.opt_value.ensures.reads (reads-then c.args.condition (c.opt_new_where.ensures.reads c.args.condition) (c.expect-2.ensures.reads c.args.condition))))
+items::consts::const_typed-returns-clause-reads t c = reads-then c.args.in_condition (c.expect.ensures.reads c.args.in_condition) (reads-then c.args.in_condition (c.expect_type.ensures.reads c.args.in_condition) (reads-then c.args.in_condition c.opt_value.ensures.reads (reads-then c.args.in_condition (c.opt_new_where.ensures.reads c.args.in_condition) (c.expect-2.ensures.reads c.args.in_condition))))
 
 pub items::consts::type_alias-returns-clause-completes : goal.items::consts::type_alias-returns-clause-completes
 items::consts::type_alias-returns-clause-completes t c = completes-wrap (reads-then c.args.condition (c.take.ensures.reads c.args.condition) (reads-then c.args.condition (c.expect_name.ensures.reads c.args.condition) (reads-then c.args.condition (c.opt_generic_params.ensures.reads c.args.condition) (reads-then c.args.condition (c.bounds_after_colon.ensures.reads c.args.condition) (reads-then c.args.condition (c.opt_where_clause.ensures.reads c.args.condition) (c.alias_value.ensures.reads c.args.condition)))))) c.complete.ensures.closes

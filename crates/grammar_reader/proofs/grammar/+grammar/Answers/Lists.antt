@@ -289,7 +289,7 @@ lists::tuple_fields-returns-clause-gives t c = λ cond. gives-anew (anew-after r
 
 pub lists::read_element-fn_ptr_param-requires : goal.lists::read_element-fn_ptr_param-requires
 unfolding look_of begins_below whole rule items statements expressions patterns types paths there_at shift passes is_silent begins in_mode anew row one_of any_of no_longer longest is_longer
-lists::read_element-fn_ptr_param-requires t c = 
+lists::read_element-fn_ptr_param-requires t c =
     let seen = subst (λ (e : Element). Saw false (begins looks (element_of e)) c.args.p.now true) c.in-FnPtrParam.is c.requires.begins in
     (omega arith, record { sees = λ d. fn-ptr-param-anywhere seen; some = word-left fn_ptr_param refl seen })
 

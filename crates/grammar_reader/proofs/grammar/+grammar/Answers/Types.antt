@@ -314,9 +314,9 @@ types::inside-returns-then-at_new_type t c = record {
 pub types::inside-path_type-requires : goal.types::inside-path_type-requires
 unfolding look_of begins_below whole rule items statements expressions patterns types paths there_at shift passes is_silent begins in_mode anew row one_of any_of no_longer longest is_longer
 types::inside-path_type-requires t c = (
-      omega arith,
-      (λ d. saw-after c.at_new_type.ensures.peeks.same (saw-after c.at_dyn_word.ensures.peeks.same (saw-after c.current.ensures.peeks.same (subst (λ (l : Look). Saw d l c.args.p.now true) (paths-begin modes.Type) (begins-else rules.type_path rules.any_type refl (saw-not c.in_default.not-L_PAREN (c.current.ensures.sees d) and saw-not c.in_default.not-L_BRACK (c.current.ensures.sees d) and saw-not c.in_default.not-BANG (c.current.ensures.sees d) and saw-not c.in_default.not-UNDERSCORE (c.current.ensures.sees d) and saw-not c.in_default.not-STAR (c.current.ensures.sees d) and saw-not c.in_default.not-AMP (c.current.ensures.sees d) and saw-not c.in_default.not-IMPL_KW (c.current.ensures.sees d) and saw-not c.in_default.not-DYN_KW (c.current.ensures.sees d) and saw-before c.current.ensures.peeks.same (saw-so (c.at_dyn_word.ensures.sees d) c.if-at_dyn_word.false) and saw-before c.current.ensures.peeks.same (saw-before c.at_dyn_word.ensures.peeks.same (saw-so (c.at_new_type.ensures.sees d) c.if-at_new_type.false)) and nothing) (c.requires.begins.sees d) refl)))), omega (arith, c.requires.begins.some, c.at_new_type.ensures.peeks.left, c.at_dyn_word.ensures.peeks.left, c.current.ensures.peeks.left)),
-    )
+  omega arith,
+  (λ d. saw-after c.at_new_type.ensures.peeks.same (saw-after c.at_dyn_word.ensures.peeks.same (saw-after c.current.ensures.peeks.same (subst (λ (l : Look). Saw d l c.args.p.now true) (paths-begin modes.Type) (begins-else rules.type_path rules.any_type refl (saw-not c.in_default.not-L_PAREN (c.current.ensures.sees d) and saw-not c.in_default.not-L_BRACK (c.current.ensures.sees d) and saw-not c.in_default.not-BANG (c.current.ensures.sees d) and saw-not c.in_default.not-UNDERSCORE (c.current.ensures.sees d) and saw-not c.in_default.not-STAR (c.current.ensures.sees d) and saw-not c.in_default.not-AMP (c.current.ensures.sees d) and saw-not c.in_default.not-IMPL_KW (c.current.ensures.sees d) and saw-not c.in_default.not-DYN_KW (c.current.ensures.sees d) and saw-before c.current.ensures.peeks.same (saw-so (c.at_dyn_word.ensures.sees d) c.if-at_dyn_word.false) and saw-before c.current.ensures.peeks.same (saw-before c.at_dyn_word.ensures.peeks.same (saw-so (c.at_new_type.ensures.sees d) c.if-at_new_type.false)) and nothing) (c.requires.begins.sees d) refl)))), omega (arith, c.requires.begins.some, c.at_new_type.ensures.peeks.left, c.at_dyn_word.ensures.peeks.left, c.current.ensures.peeks.left)),
+)
 
 pub types::inside-returns-else-at_new_type : goal.types::inside-returns-else-at_new_type
 unfolding look_of begins_below whole rule items statements expressions patterns types paths there_at shift passes is_silent begins in_mode anew row one_of any_of no_longer longest is_longer

@@ -19,12 +19,12 @@ use Rattle.rust_grammar.specs.Items.{field_front}
 use Rattle.rust_productions.proofs.Staying.{stays-peeks}
 use Rattle.grammar_reader.proofs.grammar.items.members.at_record_field.Goals as goal
 
-pub returns-in-POUND-clause-sees : goal.returns-in-POUND-clause-sees
+pub returns-in-PUB_KW-clause-sees : goal.returns-in-PUB_KW-clause-sees
 unfolding look_of begins_below whole rule items statements expressions patterns types paths there_at shift passes is_silent begins in_mode anew row one_of any_of no_longer longest is_longer
-returns-in-POUND-clause-sees c cond = elim c.in-POUND.is [ inl a0 ↦ starts-here field_front (saw-arm a0 (c.current.ensures.sees cond) and nothing) refl | inr b0 ↦ elim b0 [ inl a1 ↦ starts-here field_front (saw-arm a1 (c.current.ensures.sees cond) and nothing) refl | inr b1 ↦ starts-here field_front (saw-arm b1 (c.current.ensures.sees cond) and nothing) refl ] ]
+returns-in-PUB_KW-clause-sees c cond = elim c.in-PUB_KW.is [ inl a0 ↦ starts-here field_front (saw-arm a0 (c.current.ensures.sees cond) and nothing) refl | inr b0 ↦ elim b0 [ inl a1 ↦ starts-here field_front (saw-arm a1 (c.current.ensures.sees cond) and nothing) refl | inr b1 ↦ starts-here field_front (saw-arm b1 (c.current.ensures.sees cond) and nothing) refl ] ]
 
-pub returns-in-POUND-clause-peeks : goal.returns-in-POUND-clause-peeks
-returns-in-POUND-clause-peeks c = peeks-within (c.current.ensures.peeks) (omega arith)
+pub returns-in-PUB_KW-clause-peeks : goal.returns-in-PUB_KW-clause-peeks
+returns-in-PUB_KW-clause-peeks c = peeks-within (c.current.ensures.peeks) (omega arith)
 
 pub returns-then-at_whole-clause-sees : goal.returns-then-at_whole-clause-sees
 unfolding look_of begins_below whole rule items statements expressions patterns types paths there_at shift passes is_silent begins in_mode anew row one_of any_of no_longer longest is_longer
@@ -42,7 +42,7 @@ returns-else-at_whole-clause-peeks c = peeks-within (peeks-then c.current.ensure
 
 pub returns-in_default-clause-sees : goal.returns-in_default-clause-sees
 unfolding look_of begins_below whole rule items statements expressions patterns types paths there_at shift passes is_silent begins in_mode anew row one_of any_of no_longer longest is_longer
-returns-in_default-clause-sees c cond = starts-here field_front (saw-not c.in_default.not-POUND (c.current.ensures.sees cond) and saw-not c.in_default.not-PUB_KW (c.current.ensures.sees cond) and saw-not c.in_default.not-IDENT (c.current.ensures.sees cond) and saw-not c.in_default.not-UNSAFE_KW (c.current.ensures.sees cond) and nothing) refl
+returns-in_default-clause-sees c cond = starts-here field_front (saw-not c.in_default.not-PUB_KW (c.current.ensures.sees cond) and saw-not c.in_default.not-POUND (c.current.ensures.sees cond) and saw-not c.in_default.not-IDENT (c.current.ensures.sees cond) and saw-not c.in_default.not-UNSAFE_KW (c.current.ensures.sees cond) and nothing) refl
 
 pub returns-in_default-clause-peeks : goal.returns-in_default-clause-peeks
 returns-in_default-clause-peeks c = peeks-within (c.current.ensures.peeks) (omega arith)
