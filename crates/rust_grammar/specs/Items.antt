@@ -263,7 +263,7 @@ after_colons = One '*' or UseList or path_tree
 abbrev pub in_use_tree : Rule
 in_use_tree = ⁅ When colons_before_more (One '::') ⁆ ▸ after_colons
 
--- Items that only the whole language has, from their first word on. Words that are no keywords are known by what stands behind
+-- Items that only the whole language has, from their first word on. Words that are no keywords are known by the tokens after
 -- them.
 abbrev pub crate_name : Rule
 crate_name = NAME_REF ⟨ One 'ident' or One 'self' ⟩
@@ -289,7 +289,7 @@ macro_def_body = When (next 'l_curly') TokenTree or TokenTree ! ▸ TokenTree !
 abbrev pub macro_def : Rule
 macro_def = MACRO_DEF <⟨ One 'macro' ▸ Name ! ▸ macro_def_body ⟩
 
--- The words before an item, each with what can stand behind it. They stand in this order.
+-- The words before an item, each with the tokens that can follow it. They come in this order.
 abbrev pub const_word : Look
 const_word = 'const' before_any ('async' ∷ 'unsafe' ∷ 'extern' ∷ 'gen' ∷ 'fn' ∷ 'trait' ∷ 'impl' ∷ [])
 
@@ -329,7 +329,7 @@ default_words = ⁅ When default_word after_default ⁆
 abbrev pub contextual_words_begin : Look
 contextual_words_begin = any_of (extern_word ∷ auto_word ∷ default_word ∷ safe_word ∷ [])
 
--- what stands behind the words
+-- an item after its words
 abbrev pub plain_fn : Rule
 plain_fn = FN <⟨ fn_rest ⟩
 

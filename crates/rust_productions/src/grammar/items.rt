@@ -18,7 +18,8 @@ use crate::grammar::paths::path;
 use crate::grammar::token_trees::{expect_token_tree, token_tree};
 use crate::grammar::use_trees::expect_use_tree;
 use crate::grammar::{
-    abandon, at, at_new, at_second, at_whole, complete, current, eat, error, expect, nth, skip, take,
+    abandon, at, at_new, at_second, at_whole, complete, current, eat, error, expect, nth, skip,
+    take,
 };
 use parser_events::message::Message;
 use parser_events::parser::{Marker, Parser};

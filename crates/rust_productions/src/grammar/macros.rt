@@ -3,7 +3,7 @@
 ghost use Rattle.std.specs.Prelude.{◌≤◌, Bool, IsTrue};
 ghost use Rattle.parser_events.specs.Stack.{IsInnermost};
 ghost use Rattle.rust_grammar.specs.Items as rows;
-ghost use Rattle.rust_grammar.specs.Notation.{◌or◌, ◌!};
+ghost use Rattle.rust_grammar.specs.Notation.{◌or◌, ◌! };
 ghost use Rattle.rust_grammar.specs.Rule.{One, begins};
 ghost use Rattle.rust_grammar.specs.Words.{'ident', 'self'};
 ghost use Rattle.rust_productions.specs.Looks.{tokens, Takes, Asks, Peeks};

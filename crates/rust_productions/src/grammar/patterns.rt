@@ -11,8 +11,8 @@ ghost use Rattle.rust_grammar.specs.Rule.{begins, One};
 ghost use Rattle.rust_productions.specs.Reads.{looks, Saw};
 
 use crate::grammar::names::at_literal;
-use crate::grammar::paths::at_path;
 use crate::grammar::operators::at_joint;
+use crate::grammar::paths::at_path;
 use crate::grammar::{at, at_new, at_pair, at_second, at_whole, current};
 use parser_events::parser::Parser;
 use parser_input::syntax_kind::SyntaxKind;
