@@ -120,10 +120,18 @@ def names():
             if m.group(1).startswith('Rattle.std') or 'rust_' in m.group(1) or 'parser_' in m.group(1) or 'grammar_reader' in m.group(1):
                 for n in m.group(2).split(','):
                     n=n.strip()
-                    if n: NAMES.setdefault(n,m.group(1))
+                    if n and 'rust_document' not in m.group(1): NAMES.setdefault(n,m.group(1))
     for f in glob.glob(ROOT+'/crates/rust_grammar/specs/*.antt'):
         for n in re.findall(r'(?m)^(?:abbrev|unfoldable) pub ([\w\']+) :',open(f).read()): NAMES.setdefault(n,'Rattle.rust_grammar.specs.'+os.path.basename(f)[:-5])
-def ensure_imports(p):
+WANTED=set('''after-look completes-leave completes-look completes-then completes-wrap does-nothing does-then reads-call reads-node
+reads-none reads-nothing reads-opt reads-then reads-want reads-missing reads-wrap reads-more goes anew-after anew-completes anew-here
+anew-look gives-anew reads-here completes-here begun nothing saw-so reads-two reads-three reads-four where-any where-here where-look
+saw-arm saw-not saw-after saw-before saw-else saw-inside saw-none saw-left saw-right saw-told begins-else ends-at-end first-turn next-turn
+last-turn saw-expr-path saw-path-begins saw-type-path saw-ref word-left fn-ptr-param-anywhere true false arith refl sym subst ap raw_of
+looks begins Kind spelled_at wide next row When Attribute field_front words_begin new_item_begins contextual_words_begin default_word
+for_or_path_begins new_type_begins dyn_begins dots_name_or_type fn_ptr_param fn_ptr_begins FN_KW Saw Element element_of '::' '<' '#'
+'unsafe' 'ref' 'mut' '''.split())
+def ensure_imports(p,terms=None):
     s=open(p).read(); body='\n'.join(l for l in s.split('\n') if not l.startswith('use ') and not l.startswith('--') and not l.startswith('unfolding'))
     have=set(); mods={}
     for m in re.finditer(r'(?m)^use ([\w.+]+)\.\{([^}]*)\}',s):
@@ -131,7 +139,11 @@ def ensure_imports(p):
     toks=set(re.findall(r"(?<![\w.\-:'])([A-Za-z_][\w\-]*|'[\w<>=!.?&:|*/^%+#-]+')(?![\w\-:])",body))
     ops={' and ':'◌and◌',' ▸ ':'◌▸◌','⁅':'⁅◌⁆',' ∙ ':'◌∙◌',' ! ':'◌!','⟨':'◌⟨◌⟩'}
     extra={o for k,o in ops.items() if k in body}
+    if terms is not None:
+        body=terms; extra={o for k,o in ops.items() if k in body}
     for n in sorted((toks|extra)-have):
+        if n not in WANTED and n not in extra: continue
+        if n=='goes' and 'goes rules' not in body: continue
         if n in NAMES and n not in('cond','sees','some','left','marker','takes','reads','gives','begins' if False else '_','c','t','d','e','path','name','body','item','pattern','rules','goal','block','meta','param','bound','bounds','rest','first','left','looks' if False else '_'):
             if re.search(r'(?<![\w.\-:])%s(?![\w\-:])'%re.escape(n),body) or n in extra:
                 mods.setdefault(NAMES[n],[]).append(n)
@@ -169,7 +181,7 @@ def put(file,alias,new,drop=(),title=None):
     s=s.rstrip('\n')+'\n\n'+'\n'.join('pub %s : goal.%s\n%s%s t c = %s\n'%(g,g,U+'\n' if u else '',g,t) for g,(u,t) in new.items())
     b=b.rstrip('\n')+'\n\n'+'\n'.join('pub %s : goal.%s\n%s = %s.%s\n'%(g,g,g,alias,g) for g in new)
     open(p,'w').write(s.rstrip('\n')+'\n'); open(a,'w').write(b.rstrip('\n')+'\n')
-    ensure_imports(p)
+    ensure_imports(p,'\n'.join(t for u,t in new.values()))
 def goals_of(file,prefix):
     s=open(D+'Answers/%s.antt'%file).read()
     return [g for g in re.findall(r'(?m)^pub (\S+) :',s) if g.startswith(prefix)]

@@ -11,14 +11,12 @@ use Rattle.rust_grammar.specs.Rule.{begins, in_mode, anew, is_silent, passes, sh
 use Rattle.rust_grammar.specs.Statements.{statements}
 use Rattle.rust_grammar.specs.Types.{types}
 use Rattle.rust_grammar.specs.Whole.{rule, whole}
-use Rattle.rust_productions.proofs.Begins.{saw-meta}
-use Rattle.rust_productions.proofs.ByHand.{after-look, does-then, reads-call, reads-mode, reads-node, reads-nothing, reads-then, goes}
+use Rattle.rust_productions.proofs.ByHand.{after-look, does-then, reads-call, reads-mode, reads-node, reads-nothing, reads-then}
 use Rattle.rust_productions.proofs.Choices.{anew-after, gives-anew, reads-here}
 use Rattle.rust_productions.proofs.Facts.{begun, nothing, saw-so, ◌and◌}
 use Rattle.rust_productions.proofs.Seen.{saw-after, saw-before, saw-inside, ends-at-end, saw-else, saw-told}
 use Rattle.rust_grammar.specs.Words.{'#'}
 use Rattle.rust_grammar.specs.Calls.{Attribute}
-use Rattle.parser_events.specs.Nodes.{innermost}
 use Rattle.rust_productions.proofs.Turns.{last-turn, next-turn}
 use Rattle.rust_productions.specs.Reads.{looks}
 use Rattle.grammar_reader.proofs.grammar.+grammar.Goals as goal

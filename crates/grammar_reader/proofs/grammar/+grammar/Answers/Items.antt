@@ -1,15 +1,15 @@
 -- Items, path by path.
 use Rattle.std.proofs.Common.{true, false, List, length, refl, sym, ap, ◌∙◌, arith, true≢false}
-use Rattle.parser_input.specs.Input.{Token, input}
+use Rattle.parser_input.specs.Input.{Token}
 use Rattle.parser_input.specs.Kind.{raw_of}
 use Rattle.rust_grammar.specs.Laws.{reads}
-use Rattle.rust_grammar.specs.Meaning.{fresh, read, turns}
+use Rattle.rust_grammar.specs.Meaning.{fresh, read}
 use Rattle.rust_grammar.specs.Rule.{Call, Star}
 use Rattle.rust_grammar.specs.Rule as rules
 use Rattle.rust_grammar.specs.Expressions.{expressions}
 use Rattle.rust_grammar.specs.Items.{items}
 use Rattle.rust_grammar.specs.Meaning.{begins_below, look_of}
-use Rattle.rust_grammar.specs.Notation.{any_of, is_longer, no_longer, longest, one_of, row, more}
+use Rattle.rust_grammar.specs.Notation.{any_of, is_longer, no_longer, longest, one_of, row}
 use Rattle.rust_grammar.specs.Paths.{paths}
 use Rattle.rust_grammar.specs.Patterns.{patterns}
 use Rattle.rust_grammar.specs.Rule.{begins, in_mode, anew, is_silent, passes, shift, there_at}
@@ -20,16 +20,13 @@ use Rattle.grammar_reader.specs.Told.{item_or_attribute}
 use Rattle.grammar_reader.proofs.Ends.{left-within, over, over-at-end, some-within, within}
 use Rattle.rust_productions.specs.Looks.{tokens}
 use Rattle.rust_productions.specs.Reads.{looks, Saw}
-use Rattle.rust_productions.proofs.ByHand.{after-look, completes-wrap, reads-call, reads-mode, reads-node, reads-nothing, reads-then, reads-unless, goes}
+use Rattle.rust_productions.proofs.ByHand.{after-look, completes-wrap, reads-call, reads-mode, reads-node, reads-nothing, reads-then, reads-unless}
 use Rattle.rust_productions.proofs.Choices.{anew-after, anew-here, anew-look, gives-anew, reads-here}
 use Rattle.rust_productions.proofs.Facts.{begun, nothing, saw-so, ◌and◌}
 use Rattle.rust_productions.proofs.Given.{anew-apart, anew-given, anew-nothing, call-gives, option-keeps, turns-give, where-any, where-here, where-look, where-more}
 use Rattle.rust_productions.proofs.Looking.{saw-arm, saw-not}
 use Rattle.rust_productions.proofs.Seen.{ends-at-end, saw-after, saw-before, saw-inside, saw-told, starts-here}
 use Rattle.rust_productions.proofs.Turns.{first-turn, last-turn, next-turn}
-use Rattle.parser_events.specs.Nodes.{innermost}
-use Rattle.parser_input.specs.Recorded.{plain}
-use Rattle.rust_document.specs.Seen.{seen}
 use Rattle.grammar_reader.proofs.grammar.+grammar.Goals as goal
 
 pub items::item-attributed_item-requires : goal.items::item-attributed_item-requires

@@ -6,7 +6,7 @@ use Rattle.rust_grammar.specs.Rule as rules
 use Rattle.rust_grammar.specs.Rule.{Call}
 use Rattle.rust_grammar.specs.Expressions.{expressions}
 use Rattle.rust_grammar.specs.Items.{items, record_field, tuple_field, variant}
-use Rattle.rust_grammar.specs.Meaning.{begins_below, look_of, turns}
+use Rattle.rust_grammar.specs.Meaning.{begins_below, look_of}
 use Rattle.rust_grammar.specs.Notation.{any_of, is_longer, no_longer, longest, one_of, row}
 use Rattle.rust_grammar.specs.Paths.{captured, paths}
 use Rattle.rust_grammar.specs.Patterns.{patterns}
@@ -21,14 +21,11 @@ use Rattle.grammar_reader.proofs.AnyMode.{param-anywhere, pattern-anywhere, patt
 use Rattle.grammar_reader.proofs.Seeing.{begun-left, param-left, pattern-begins, word-left}
 use Rattle.rust_productions.specs.Looks.{tokens}
 use Rattle.rust_productions.specs.Reads.{looks, Reads, Saw}
-use Rattle.rust_productions.proofs.ByHand.{after-look, does-then, reads-call, reads-mode, reads-node, reads-then, reads-wrap, goes}
+use Rattle.rust_productions.proofs.ByHand.{after-look, does-then, reads-call, reads-mode, reads-node, reads-then, reads-wrap}
 use Rattle.rust_productions.proofs.Choices.{anew-after, gives-anew, reads-here}
 use Rattle.rust_productions.proofs.Facts.{nothing, saw-so, ◌and◌}
 use Rattle.rust_productions.proofs.Seen.{saw-after, saw-before}
 use Rattle.rust_productions.proofs.Turns.{first-turn, idle-turn, last-turn, next-turn}
-use Rattle.parser_events.specs.Nodes.{innermost}
-use Rattle.parser_input.specs.Input.{input}
-use Rattle.rust_document.specs.Seen.{seen}
 use Rattle.grammar_reader.proofs.grammar.+grammar.Goals as goal
 
 pub lists::turn-returns-then-at_list_end-clause-ends : goal.lists::turn-returns-then-at_list_end-clause-ends

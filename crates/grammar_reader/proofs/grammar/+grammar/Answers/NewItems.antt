@@ -12,7 +12,6 @@ use Rattle.rust_grammar.specs.Whole.{rule, whole}
 use Rattle.rust_productions.proofs.ByHand.{after-look, completes-look, completes-then, completes-wrap, reads-call, reads-then}
 use Rattle.std.proofs.Common.{ap, arith, refl, sym, true, ◌∙◌}
 use Rattle.rust_productions.proofs.Choices.{completes-here, reads-here}
-use Rattle.parser_events.specs.Nodes.{innermost}
 use Rattle.rust_productions.proofs.Facts.{nothing, saw-so, ◌and◌}
 use Rattle.parser_input.specs.Kind.{raw_of}
 use Rattle.rust_productions.proofs.Seen.{saw-after, saw-before, saw-else}

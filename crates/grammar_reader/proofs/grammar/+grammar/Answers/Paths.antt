@@ -21,8 +21,8 @@ use Rattle.grammar_reader.specs.Told.{args_of}
 use Rattle.grammar_reader.specs.declared.grammar.paths.Mode.TheVariants as modes
 use Rattle.grammar_reader.proofs.PathArgs.{args-begin, path-row, reads-in-place}
 use Rattle.rust_productions.specs.Looks.{tokens}
-use Rattle.rust_productions.specs.Reads.{Anew, looks}
-use Rattle.rust_productions.proofs.ByHand.{after-look, completes-leave, completes-then, does-then, reads-call, reads-node, reads-nothing, reads-none, reads-opt, reads-then, reads-unless, reads-when, reads-wrap, goes}
+use Rattle.rust_productions.specs.Reads.{Anew}
+use Rattle.rust_productions.proofs.ByHand.{after-look, completes-leave, completes-then, does-then, reads-call, reads-node, reads-nothing, reads-none, reads-opt, reads-then, reads-unless, reads-when, reads-wrap}
 use Rattle.rust_productions.proofs.Choices.{anew-after, anew-completes, gives-anew, reads-here}
 use Rattle.rust_productions.proofs.Facts.{begun, nothing, saw-so, ◌and◌}
 use Rattle.rust_productions.proofs.Seen.{ends-at-end, saw-after, saw-before, saw-inside, saw-left}

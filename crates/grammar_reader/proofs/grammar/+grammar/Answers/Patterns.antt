@@ -19,13 +19,12 @@ use Rattle.grammar_reader.specs.declared.grammar.paths.Mode.TheVariants as modes
 use Rattle.grammar_reader.proofs.PathArgs.{paths-begin, reads-flat}
 use Rattle.rust_productions.specs.Looks.{tokens}
 use Rattle.rust_productions.specs.Reads.{looks, Saw}
-use Rattle.rust_productions.proofs.ByHand.{after-look, completes-leave, does-then, reads-call, reads-node, reads-nothing, reads-then, reads-wrap, does-nothing, goes}
+use Rattle.rust_productions.proofs.ByHand.{after-look, completes-leave, does-then, reads-call, reads-node, reads-nothing, reads-then, reads-wrap, does-nothing}
 use Rattle.rust_productions.proofs.Choices.{anew-completes, gives-anew, reads-here}
 use Rattle.rust_productions.proofs.Facts.{begun, nothing, saw-so, ◌and◌}
 use Rattle.rust_productions.proofs.Looking.{saw-arm, saw-not}
 use Rattle.rust_productions.proofs.Seen.{begins-else, ends-at-end, saw-left, saw-after, saw-before, saw-inside, saw-else}
 use Rattle.rust_productions.proofs.Turns.{last-turn, next-turn}
-use Rattle.rust_document.specs.Seen.{seen}
 use Rattle.grammar_reader.proofs.grammar.+grammar.Goals as goal
 
 pub patterns::inside-returns-in-MINUS-clause-reads : goal.patterns::inside-returns-in-MINUS-clause-reads

@@ -14,7 +14,6 @@ use Rattle.rust_productions.proofs.ByHand.{after-look, completes-wrap, reads-cal
 use Rattle.rust_productions.proofs.Choices.{reads-here}
 use Rattle.rust_productions.proofs.Facts.{nothing, saw-so, ◌and◌}
 use Rattle.rust_productions.proofs.Given.{reads-two}
-use Rattle.rust_document.proofs.Shapes.{inside}
 use Rattle.grammar_reader.proofs.grammar.+grammar.Goals as goal
 
 pub items::traits::impl_item-unsafe_word-requires : goal.items::traits::impl_item-unsafe_word-requires
