@@ -181,6 +181,7 @@ def inner_of(w,st,cond='true'):
     if st[2]=='look': return peek_same(st)+'.innermost _'
     if name=='start': return 'c.%s.ensures.opens.innermost _'%f
     if name=='complete': return 'c.%s.ensures.closes.innermost _'%f
+    if name=='take_pair': return '(c.%s.ensures.reads true 0 0).does.innermost _'%f
     s=sig(name,w.path)
     if 'gives' in s.ens: return ('(c.%s.ensures.gives true).does.innermost _'%f if re.match(r'\s*\(c : Bool\) →',s.ens['gives']) else 'c.%s.ensures.gives.does.innermost _'%f)
     if 'reads' in s.ens: return ('(c.%s.ensures.reads true).does.innermost _'%f if re.match(r'\s*\(c : Bool\)',s.ens['reads']) else 'c.%s.ensures.reads.does.innermost _'%f)

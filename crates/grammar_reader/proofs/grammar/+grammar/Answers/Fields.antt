@@ -126,7 +126,7 @@ unfolding look_of begins_below whole rule items statements expressions patterns 
 fields::after_attributes-returns-clause-completes t c = λ cond. completes-here (saw-so (c.at_pair.ensures.sees cond) c.if-at_pair.false and saw-before c.at_pair.ensures.peeks.same (saw-so (c.at_attributed_named_field.ensures.sees cond) c.if-at_attributed_named_field.false) and nothing) (completes-look c.at_pair.ensures.peeks.same (completes-look c.at_attributed_named_field.ensures.peeks.same (completes-wrap (c.any_binding.ensures.reads cond) c.complete-2.ensures.closes)))
 
 pub fields::after_attributes-complete-requires : goal.fields::after_attributes-complete-requires
-fields::after_attributes-complete-requires t c = (c.take_pair.ensures.reads true).does.innermost _ (c.at_pair.ensures.peeks.same.innermost _ (c.requires.innermost))
+fields::after_attributes-complete-requires t c = (c.take_pair.ensures.reads true 0 0).does.innermost _ (c.at_pair.ensures.peeks.same.innermost _ (c.requires.innermost))
 
 pub fields::after_attributes-complete-requires-then-at_attributed_named_field : goal.fields::after_attributes-complete-requires-then-at_attributed_named_field
 fields::after_attributes-complete-requires-then-at_attributed_named_field t c = (c.expect_pattern.ensures.reads true).does.innermost _ ((c.take.ensures.reads true).does.innermost _ ((c.name_of_field.ensures.reads true).does.innermost _ (c.at_attributed_named_field.ensures.peeks.same.innermost _ (c.at_pair.ensures.peeks.same.innermost _ (c.requires.innermost)))))

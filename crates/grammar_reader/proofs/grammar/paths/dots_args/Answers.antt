@@ -19,4 +19,4 @@ pub returns-clause-reads : goal.returns-clause-reads
 returns-clause-reads c = λ cond. reads-node cond c.start-list.ensures.opens (reads-then cond (c.take.ensures.reads cond) (reads-then cond (c.take_pair.ensures.reads cond _ _) (c.expect.ensures.reads cond))) c.complete.ensures.closes
 
 pub complete-requires : goal.complete-requires
-complete-requires c = (c.expect.ensures.reads true).does.innermost _ ((c.take_pair.ensures.reads true).does.innermost _ ((c.take.ensures.reads true).does.innermost _ (c.start-list.ensures.marker)))
+complete-requires c = (c.expect.ensures.reads true).does.innermost _ ((c.take_pair.ensures.reads true 0 0).does.innermost _ ((c.take.ensures.reads true).does.innermost _ (c.start-list.ensures.marker)))
