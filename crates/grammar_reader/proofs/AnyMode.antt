@@ -10,7 +10,7 @@ use Rattle.rust_grammar.specs.Patterns.{patterns}
 use Rattle.rust_grammar.specs.Rule as rules
 use Rattle.rust_grammar.specs.Rule.{Call, begins, in_mode, anew, is_silent, passes, shift, there_at}
 use Rattle.rust_grammar.specs.Statements.{statements}
-use Rattle.rust_grammar.specs.Types.{types}
+use Rattle.rust_grammar.specs.Types.{fn_ptr_param, types}
 use Rattle.rust_grammar.specs.Whole.{rule, whole}
 use Rattle.rust_productions.specs.Reads.{looks, Saw}
 
@@ -45,3 +45,11 @@ type-arg-anywhere saw = record { at = λ s e. saw.at s e }
 pub generic-arg-anywhere : {c b : Bool} {v : View} → Saw false (begins looks (Call rules.generic_arg)) v b → Saw c (looks rules.generic_arg) v b
 unfolding look_of begins_below whole rule items statements expressions patterns types paths there_at shift passes is_silent begins in_mode anew row one_of any_of no_longer longest is_longer sees
 generic-arg-anywhere saw = record { at = λ s e. saw.at s e }
+
+pub meta-mode : {c d b : Bool} {v : View} → Saw c (looks rules.meta) v b → Saw d (looks rules.meta) v b
+unfolding look_of begins_below whole rule items statements expressions patterns types paths there_at shift passes is_silent begins in_mode anew row one_of any_of no_longer longest is_longer sees
+meta-mode saw = record { at = λ s e. saw.at s e }
+
+pub fn-ptr-param-anywhere : {c b : Bool} {v : View} → Saw false (begins looks fn_ptr_param) v b → Saw c (begins looks fn_ptr_param) v b
+unfolding look_of begins_below whole rule items statements expressions patterns types paths there_at shift passes is_silent begins in_mode anew row one_of any_of no_longer longest is_longer sees
+fn-ptr-param-anywhere saw = record { at = λ s e. saw.at s e }

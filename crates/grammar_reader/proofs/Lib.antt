@@ -4,3 +4,4 @@ pub mod Ends
 pub mod Operands
 pub mod PathArgs
 pub mod AnyMode
+pub mod Parts

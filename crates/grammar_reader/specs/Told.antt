@@ -8,6 +8,8 @@ use Rattle.rust_grammar.specs.Statements.{Listing, after_block, in_block, in_mac
 use Rattle.rust_grammar.specs.Words.{one, '::', '<', '=', '#', '!'}
 use Rattle.rust_grammar.specs.Paths.{captured, expr_args, type_arg, type_args}
 use Rattle.rust_grammar.specs.Expressions.{closure_param}
+use Rattle.rust_grammar.specs.Paths.{captured}
+use Rattle.rust_grammar.specs.Types.{fn_ptr_param}
 use Rattle.rust_grammar.specs.Items.{record_field, tuple_field, variant}
 use Rattle.grammar_reader.specs.declared.grammar.expressions.Level.{Level}
 use Rattle.grammar_reader.specs.declared.grammar.expressions.Level.TheVariants as levels
@@ -32,6 +34,7 @@ element_of elements.Captured = captured
 element_of elements.ClosureParam = closure_param
 element_of elements.Expression = Call rules.expression
 element_of elements.FieldValue = Call rules.field_value
+element_of elements.FnPtrParam = fn_ptr_param
 element_of elements.GenericArg = Call rules.generic_arg
 element_of elements.GenericParam = Call rules.generic_param
 element_of elements.Param = Call rules.param

@@ -71,9 +71,12 @@ fn takes_comments(kind: SyntaxKind) -> bool
         kind,
         SyntaxKind::CONST
             | SyntaxKind::ENUM
+            | SyntaxKind::EXTERN_CRATE
             | SyntaxKind::FN
             | SyntaxKind::IMPL
             | SyntaxKind::MACRO_CALL
+            | SyntaxKind::MACRO_DEF
+            | SyntaxKind::MACRO_RULES
             | SyntaxKind::MODULE
             | SyntaxKind::RECORD_FIELD
             | SyntaxKind::STATIC
@@ -81,6 +84,7 @@ fn takes_comments(kind: SyntaxKind) -> bool
             | SyntaxKind::TRAIT
             | SyntaxKind::TUPLE_FIELD
             | SyntaxKind::TYPE_ALIAS
+            | SyntaxKind::UNION
             | SyntaxKind::USE
             | SyntaxKind::VARIANT
     )

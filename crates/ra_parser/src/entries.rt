@@ -23,8 +23,8 @@ use grammar_reader::grammar::types::any_type;
 use parser_events::message::Message;
 use parser_events::parser::{Marker, Parser};
 use parser_input::syntax_kind::SyntaxKind;
+use rust_productions::grammar::attributes::at_meta;
 use rust_productions::grammar::expressions::at_expression;
-use rust_productions::grammar::paths::at_path;
 use rust_productions::grammar::patterns::at_pattern;
 use rust_productions::grammar::types::at_type;
 use rust_productions::grammar::{abandon, complete, current, error, start, take_any};
@@ -95,7 +95,7 @@ fn begins(p: &mut Parser<'_>, single: Single) -> bool
 {
     match single {
         Single::Expression => at_expression(p, false),
-        Single::Meta => at_path(p),
+        Single::Meta => at_meta(p),
         Single::Pattern => at_pattern(p),
         Single::Type => at_type(p),
     }

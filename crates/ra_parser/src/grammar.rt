@@ -15,7 +15,8 @@ pub enum Grammar {
     /// The profile, which leaves constructs out by name: they are parsed by error recovery, with
     /// messages.
     Profile,
-    /// The whole language. Its rows of types, paths and generics are there.
+    /// The whole language. Its rows of items, patterns, types, paths and generics are
+    /// there.
     Whole,
 }
 

@@ -3,7 +3,7 @@ use Rattle.std.specs.Prelude.{◌≡◌, Bool, true, false, not, ◌&&◌, List,
 use Rattle.parser_input.specs.Input.{Token, input}
 use Rattle.parser_input.specs.Leaf.{Leaf}
 use Rattle.parser_input.specs.declared.edition.Edition.{Edition}
-use Rattle.rust_grammar.specs.Rule.{Production, type_no_bounds}
+use Rattle.rust_grammar.specs.Rule.{Production, type_no_bounds, pattern_atom}
 use Rattle.rust_grammar.specs.Meaning.{Reading, sees, look_of, meaning}
 use Rattle.rust_grammar.specs.Entry.{entry}
 use Rattle.rust_grammar.specs.Profile.{profile}
@@ -18,6 +18,7 @@ say_nothing (t ∷ ts) = not t.whole && say_nothing ts
 -- the productions that the profile has
 unfoldable pub is_profile : Production → Bool
 is_profile type_no_bounds = false
+is_profile pattern_atom = false
 is_profile x = true
 
 -- Over such tokens each production of the profile begins where it does in the profile's table, and gives the same.

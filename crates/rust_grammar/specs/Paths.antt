@@ -152,7 +152,13 @@ lifetime_or_type = Lifetime or AnyType
 abbrev pub pred_bounds : Rule
 pred_bounds = One ':' ! ▸ Bounds
 
--- behind a name in a type of the whole language: `(A, B) -> C`
+-- behind a name in a type of the whole language: `(..)`, or `(A, B) -> C`
+abbrev pub any_args_begin : Look
+any_args_begin = Either ('l_paren' before 'dots') (row 0 ('::' ∷ 'l_paren' ∷ 'dots' ∷ []))
+
+abbrev pub any_args : Rule
+any_args = PARENTHESIZED_ARG_LIST ⟨ ⁅ One '::' ⁆ ▸ One 'l_paren' ▸ One 'dots' ▸ One 'r_paren' ! ⟩
+
 abbrev pub fn_args_begin : Look
 fn_args_begin = Either (next 'l_paren') ('::' before 'l_paren')
 
@@ -160,7 +166,7 @@ abbrev pub paren_args : Rule
 paren_args = PARENTHESIZED_ARG_LIST ⟨ ⁅ One '::' ⁆ ▸ listed PARENTHESIZED_ARG_LIST 'l_paren' type_arg 'r_paren' ⟩
 
 abbrev pub fn_args : Rule
-fn_args = paren_args ▸ ⁅ RetType ⁆
+fn_args = When any_args_begin any_args or paren_args ▸ ⁅ RetType ⁆
 
 -- The arguments of a path in a type begin at `::<`, or at a `<` that no `=` is next to, or are those of `Fn`; those in an
 -- expression or a pattern begin at `::<` alone, and other paths have none.
@@ -175,6 +181,9 @@ expr_args = ⁅ When ('::' before '<') GenericArgs ⁆
 
 abbrev pub type_qualified : Rule
 type_qualified = qualified_with type_args
+
+abbrev pub expr_qualified : Rule
+expr_qualified = qualified_with expr_args
 
 -- what a path in a type is: a macro, or the type; and bounds behind it
 abbrev pub macro_call_begins : Look

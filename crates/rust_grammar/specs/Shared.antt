@@ -53,8 +53,11 @@ for_binder = One 'for' ▸ GenericParams !
 abbrev pub dots_dot : Look
 dots_dot = Both (row 0 ('dots' ∷ 'dot' ∷ [])) (Joint 1)
 
+abbrev pub dots_and_dot : Rule
+dots_and_dot = One 'dots' ▸ One 'dot'
+
 abbrev pub three_dots : Rule
-three_dots = When dots_dot (One 'dots' ▸ One 'dot')
+three_dots = When dots_dot dots_and_dot
 
 -- `extern "C"`
 abbrev pub abi : Rule

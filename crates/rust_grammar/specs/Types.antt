@@ -43,6 +43,37 @@ new_after_dyn = Either (row 1 ('l_paren' ∷ [])) (row 1 ('for' ∷ '<' ∷ []))
 abbrev pub dyn_begins : Look
 dyn_begins = Both (Contextual 0 DYN_KW) (Either (one_of 1 ('?' ∷ 'lifetime' ∷ refs)) (wide new_after_dyn))
 
+-- A function pointer type: `unsafe extern "C" fn(A, b: B) -> C`. Its parameters may have names, and the last may be `...`.
+abbrev pub fn_ptr_begins : Look
+fn_ptr_begins = any_of (next 'fn' ∷ 'unsafe' before_any ('fn' ∷ 'extern' ∷ []) ∷ next 'extern' ∷ [])
+
+abbrev pub named_param_begins : Look
+named_param_begins = Both (one_of 0 ('ident' ∷ '_' ∷ [])) (Both (row 1 (':' ∷ [])) (Not (row 1 ('::' ∷ []))))
+
+abbrev pub dots_or_type : Rule
+dots_or_type = three_dots or AnyType !
+
+abbrev pub named_param : Rule
+named_param = SinglePattern ▸ One ':' ! ▸ dots_or_type
+
+abbrev pub dots_name_or_type : Rule
+dots_name_or_type = three_dots or When named_param_begins named_param or AnyType
+
+abbrev pub in_fn_ptr_param : Rule
+in_fn_ptr_param = outer_attributes ▸ dots_name_or_type
+
+abbrev pub fn_ptr_param : Rule
+fn_ptr_param = PARAM ⟨ in_fn_ptr_param ⟩
+
+abbrev pub fn_ptr_params : Rule
+fn_ptr_params = PARAM_LIST ⟨ listed PARAM_LIST 'l_paren' fn_ptr_param 'r_paren' ⟩
+
+abbrev pub fn_ptr_words : Rule
+fn_ptr_words = ⁅ One 'unsafe' ⁆ ▸ ⁅ abi ⁆ ▸ One 'fn' !
+
+abbrev pub fn_ptr_type : Rule
+fn_ptr_type = FN_PTR_TYPE ⟨ ⁅ One 'unsafe' ⁆ ▸ ⁅ abi ⁆ ▸ One 'fn' ! ▸ fn_ptr_params ! ▸ ⁅ RetType ⁆ ⟩
+
 abbrev pub for_type : Rule
 for_type = FOR_TYPE ⟨ for_binder ▸ TypeNoBounds ! ⟩
 
@@ -52,7 +83,7 @@ lifetime_bounds = DYN_TRAIT_TYPE ⟨ TYPE_BOUND_LIST ⟨ TYPE_BOUND ⟨ Lifetime
 
 -- A type that only the whole language has, or that can have bounds behind it there; and the same where no `+` belongs to it.
 abbrev pub new_type_begins : Look
-new_type_begins = any_of ('lifetime' before '+' ∷ binder_begins ∷ next '<' ∷ path_begins ∷ [])
+new_type_begins = any_of (fn_ptr_begins ∷ 'lifetime' before '+' ∷ binder_begins ∷ next '<' ∷ path_begins ∷ [])
 
 abbrev pub front_path : Rule
 front_path = type_qualified or TypePath
@@ -71,7 +102,7 @@ abbrev pub for_or_path : Rule
 for_or_path = for_type or path_or_macro
 
 abbrev pub new_type : Rule
-new_type = lifetime_bounds or for_or_path ▸ plus_bounds
+new_type = fn_ptr_type or lifetime_bounds or for_or_path ▸ plus_bounds
 
 abbrev pub bare_type_begins : Look
 bare_type_begins = any_of (binder_begins ∷ next '<' ∷ Both path_begins (Not dyn_begins) ∷ [])

@@ -1,6 +1,6 @@
 -- The spellings: a word, a mark of one character, and marks of several, whose input tokens touch each other.
 use Rattle.std.specs.Prelude.{ℕ, List, [], ◌∷◌, Some, None}
-use Rattle.parser_input.specs.Kinds.{SEMICOLON, COMMA, DOT, L_PAREN, R_PAREN, L_CURLY, R_CURLY, L_BRACK, R_BRACK, AT, POUND, QUESTION, COLON, EQ, BANG, L_ANGLE, R_ANGLE, MINUS, AMP, PIPE, PLUS, STAR, SLASH, CARET, PERCENT, DOT2, DOT2EQ, COLON2, EQ2, FAT_ARROW, NEQ, THIN_ARROW, LTEQ, GTEQ, AMP2, PIPE2, SHL, SHR, PLUSEQ, MINUSEQ, STAREQ, SLASHEQ, PERCENTEQ, AMPEQ, PIPEEQ, CARETEQ, SHLEQ, SHREQ, INT_NUMBER, FLOAT_NUMBER, CHAR, BYTE, STRING, BYTE_STRING, C_STRING, IDENT, UNDERSCORE, LIFETIME_IDENT, AS_KW, BREAK_KW, CONST_KW, CONTINUE_KW, CRATE_KW, ELSE_KW, ENUM_KW, FALSE_KW, FN_KW, FOR_KW, IF_KW, IMPL_KW, IN_KW, LET_KW, LOOP_KW, MATCH_KW, MOD_KW, MOVE_KW, MUT_KW, PUB_KW, REF_KW, RETURN_KW, SELF_KW, SELF_TYPE_KW, STATIC_KW, STRUCT_KW, SUPER_KW, TRAIT_KW, TRUE_KW, TYPE_KW, UNSAFE_KW, USE_KW, WHERE_KW, WHILE_KW, DYN_KW, SHEBANG, FRONTMATTER, DEFER_KW, PIPE_GT, TILDE, EXTERN_KW, ASYNC_KW}
+use Rattle.parser_input.specs.Kinds.{SEMICOLON, COMMA, DOT, L_PAREN, R_PAREN, L_CURLY, R_CURLY, L_BRACK, R_BRACK, AT, POUND, QUESTION, COLON, EQ, BANG, L_ANGLE, R_ANGLE, MINUS, AMP, PIPE, PLUS, STAR, SLASH, CARET, PERCENT, DOT2, DOT2EQ, COLON2, EQ2, FAT_ARROW, NEQ, THIN_ARROW, LTEQ, GTEQ, AMP2, PIPE2, SHL, SHR, PLUSEQ, MINUSEQ, STAREQ, SLASHEQ, PERCENTEQ, AMPEQ, PIPEEQ, CARETEQ, SHLEQ, SHREQ, INT_NUMBER, FLOAT_NUMBER, CHAR, BYTE, STRING, BYTE_STRING, C_STRING, IDENT, UNDERSCORE, LIFETIME_IDENT, AS_KW, BREAK_KW, CONST_KW, CONTINUE_KW, CRATE_KW, ELSE_KW, ENUM_KW, FALSE_KW, FN_KW, FOR_KW, IF_KW, IMPL_KW, IN_KW, LET_KW, LOOP_KW, MATCH_KW, MOD_KW, MOVE_KW, MUT_KW, PUB_KW, REF_KW, RETURN_KW, SELF_KW, SELF_TYPE_KW, STATIC_KW, STRUCT_KW, SUPER_KW, TRAIT_KW, TRUE_KW, TYPE_KW, UNSAFE_KW, USE_KW, WHERE_KW, WHILE_KW, DYN_KW, SHEBANG, FRONTMATTER, DEFER_KW, PIPE_GT, TILDE, EXTERN_KW, ASYNC_KW, GEN_KW, MACRO_KW, UNION_KW, MACRO_RULES_KW, AUTO_KW, DEFAULT_KW, SAFE_KW}
 use Rattle.rust_grammar.specs.Rule.{Spelling}
 
 -- a spelling of one token
@@ -319,3 +319,25 @@ abbrev pub 'extern' : Spelling
 
 abbrev pub 'async' : Spelling
 'async' = one ASYNC_KW
+
+abbrev pub 'gen' : Spelling
+'gen' = one GEN_KW
+
+abbrev pub 'macro' : Spelling
+'macro' = one MACRO_KW
+
+-- words that are keywords only where a row asks for them
+abbrev pub 'contextual_union' : Spelling
+'contextual_union' = joined UNION_KW (IDENT ∷ [])
+
+abbrev pub 'contextual_macro_rules' : Spelling
+'contextual_macro_rules' = joined MACRO_RULES_KW (IDENT ∷ [])
+
+abbrev pub 'contextual_auto' : Spelling
+'contextual_auto' = joined AUTO_KW (IDENT ∷ [])
+
+abbrev pub 'contextual_default' : Spelling
+'contextual_default' = joined DEFAULT_KW (IDENT ∷ [])
+
+abbrev pub 'contextual_safe' : Spelling
+'contextual_safe' = joined SAFE_KW (IDENT ∷ [])

@@ -33,14 +33,6 @@ saw-type-path = alike type_path-begins
 pub saw-expr-path : {c : Bool} {v : View} {b : Bool} → Saw c (looks rules.path) v b → Saw c (looks rules.expr_path) v b
 saw-expr-path = alike expr_path-begins
 
-pub meta-begins : looks rules.meta ≡ looks rules.path
-unfolding look_of begins_below whole rule items statements expressions patterns types paths there_at shift passes is_silent begins in_mode anew row one_of any_of no_longer longest is_longer
-meta-begins = refl
-
--- so does what an attribute says
-pub saw-meta : {c : Bool} {v : View} {b : Bool} → Saw c (looks rules.path) v b → Saw c (looks rules.meta) v b
-saw-meta = alike meta-begins
-
 path_begins-is : path_begins ≡ looks rules.path
 unfolding look_of begins_below whole rule items statements expressions patterns types paths there_at shift passes is_silent begins in_mode anew row one_of any_of no_longer longest is_longer
 path_begins-is = refl

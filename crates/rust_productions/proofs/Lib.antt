@@ -5,6 +5,7 @@ pub mod Turns
 pub mod Prefixes
 pub mod Looking
 pub mod Peeking
+pub mod Staying
 pub mod Facts
 pub mod Choices
 pub mod Seen

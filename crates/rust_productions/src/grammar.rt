@@ -13,6 +13,8 @@ ghost use Rattle.parser_events.specs.Forest.{Expected};
 ghost use Rattle.parser_events.specs.Seen.{message_of};
 ghost use Rattle.parser_events.specs.Stack.{IsInnermost};
 ghost use Rattle.rust_productions.specs.Looks.{tokens, spent, Asks, Peeks, Stays};
+ghost use Rattle.rust_grammar.specs.Notation.{next, wide};
+ghost use Rattle.rust_grammar.specs.Shared.{dots_dot};
 ghost use Rattle.rust_grammar.specs.Rule.{Kind, Contextual, Whole, Left, Say, Skip, Any, Want, Opt, there_at, One};
 ghost use Rattle.rust_grammar.specs.Meaning.{wrapped};
 ghost use Rattle.rust_grammar.specs.Words.{one, joined};
@@ -22,17 +24,21 @@ use parser_events::message::Message;
 use parser_events::parser::{Marker, Parser};
 use parser_input::syntax_kind::SyntaxKind;
 
+pub mod attributes;
 pub mod const_args;
 pub mod expressions;
 pub mod fields;
 pub mod generic_args;
 pub mod generic_params;
+pub mod item_words;
 pub mod items;
 pub mod lists;
+pub mod macros;
 pub mod names;
 pub mod operators;
 pub mod params;
 pub mod paths;
+pub mod pattern_ranges;
 pub mod patterns;
 pub mod token_trees;
 pub mod types;
@@ -92,13 +98,23 @@ pub fn at_third(p: &mut Parser<'_>, kind: SyntaxKind) -> bool
 }
 
 /// Returns `true` if the next token is an identifier that is of this kind as a contextual keyword.
-fn at_contextual(p: &mut Parser<'_>, kind: SyntaxKind) -> bool
+pub fn at_contextual(p: &mut Parser<'_>, kind: SyntaxKind) -> bool
     ensures sees { (c : Bool) → Saw c (Contextual 0 (raw_of kind)) p.old result }
     ensures some { IsTrue result → raw_of kind ≢ kinds.EOF → 1 ≤ tokens p.old }
     ensures same { Does (λ s. s) p.old p.new }
     ensures stays { Stays p.old p.new }
 {
     p.contextual_at(0).to_raw() == kind.to_raw()
+}
+
+/// Returns `true` if the second token is an identifier that is of this kind as a contextual
+/// keyword.
+pub(crate) fn at_second_contextual(p: &mut Parser<'_>, kind: SyntaxKind) -> bool
+    ensures sees { (c : Bool) → Saw c (Contextual 1 (raw_of kind)) p.old result }
+    ensures same { Does (λ s. s) p.old p.new }
+    ensures stays { Stays p.old p.new }
+{
+    p.contextual_at(1).to_raw() == kind.to_raw()
 }
 
 /// Returns `true` if the next token is read by the grammar of the whole language; `false` past the
@@ -110,6 +126,19 @@ pub fn at_whole(p: &mut Parser<'_>) -> bool
     ensures stays { Stays p.old p.new }
 {
     p.whole_at(0)
+}
+
+/// Returns `true` if the next token is of this kind and is read by the grammar of the whole
+/// language.
+pub fn at_new(p: &mut Parser<'_>, kind: SyntaxKind) -> bool
+    ensures sees { (c : Bool) → Saw c (wide (next (one (raw_of kind)))) p.old result }
+    ensures some { IsTrue result → 1 ≤ tokens p.old }
+    ensures peeks { Peeks 1 p.old p.new }
+{
+    if !at_whole(p) {
+        return false;
+    }
+    at(p, kind)
 }
 
 /// Returns `true` if the next two tokens are of these kinds and touch.
@@ -130,6 +159,7 @@ pub fn at_pair(p: &mut Parser<'_>, first: SyntaxKind, second: SyntaxKind) -> boo
 /// Returns `true` if the second and the third token are of these kinds and touch.
 pub fn at_pair_after(p: &mut Parser<'_>, first: SyntaxKind, second: SyntaxKind) -> bool
     ensures sees { (c : Bool) → Saw c (there_at 1 (raw_of first ∷ raw_of second ∷ [])) p.old result }
+    ensures some { IsTrue result → raw_of second ≢ kinds.EOF → 3 ≤ tokens p.old }
     ensures peeks { Peeks 2 p.old p.new }
 {
     if !at_second(p, first) {
@@ -139,6 +169,70 @@ pub fn at_pair_after(p: &mut Parser<'_>, first: SyntaxKind, second: SyntaxKind) 
         return false;
     }
     at_third(p, second)
+}
+
+/// Returns `true` if the fourth token is of this kind.
+fn at_fourth(p: &mut Parser<'_>, kind: SyntaxKind) -> bool
+    ensures sees { (c : Bool) → Saw c (Kind 3 (raw_of kind)) p.old result }
+    ensures peeks { Peeks 1 p.old p.new }
+{
+    p.kind_at(3).to_raw() == kind.to_raw()
+}
+
+/// Returns `true` if the fifth token is of this kind.
+fn at_fifth(p: &mut Parser<'_>, kind: SyntaxKind) -> bool
+    ensures sees { (c : Bool) → Saw c (Kind 4 (raw_of kind)) p.old result }
+    ensures some { IsTrue result → raw_of kind ≢ kinds.EOF → 5 ≤ tokens p.old }
+    ensures peeks { Peeks 1 p.old p.new }
+{
+    p.kind_at(4).to_raw() == kind.to_raw()
+}
+
+/// Returns `true` if the fourth and the fifth token are of these kinds and touch.
+pub(crate) fn at_fourth_pair(p: &mut Parser<'_>, first: SyntaxKind, second: SyntaxKind) -> bool
+    ensures sees { (c : Bool) → Saw c (there_at 3 (raw_of first ∷ raw_of second ∷ [])) p.old result }
+    ensures some { IsTrue result → raw_of second ≢ kinds.EOF → 5 ≤ tokens p.old }
+    ensures peeks { Peeks 2 p.old p.new }
+{
+    if !at_fourth(p, first) {
+        return false;
+    }
+    if !p.joint_at(3) {
+        return false;
+    }
+    at_fifth(p, second)
+}
+
+/// Returns `true` if the third and the fourth token are of these kinds and touch.
+pub(crate) fn at_third_pair(p: &mut Parser<'_>, first: SyntaxKind, second: SyntaxKind) -> bool
+    ensures sees { (c : Bool) → Saw c (there_at 2 (raw_of first ∷ raw_of second ∷ [])) p.old result }
+    ensures peeks { Peeks 2 p.old p.new }
+{
+    if !at_third(p, first) {
+        return false;
+    }
+    if !p.joint_at(2) {
+        return false;
+    }
+    at_fourth(p, second)
+}
+
+/// Returns `true` if three dots are next, of which the second and the third touch.
+pub fn at_dots_dot(p: &mut Parser<'_>) -> bool
+    ensures sees { (c : Bool) → Saw c dots_dot p.old result }
+    ensures some { IsTrue result → 3 ≤ tokens p.old }
+    ensures peeks { Peeks 3 p.old p.new }
+{
+    if !at_pair(p, SyntaxKind::DOT, SyntaxKind::DOT) {
+        return false;
+    }
+    if !at_third(p, SyntaxKind::DOT) {
+        return false;
+    }
+    if p.joint_at(1) {
+        return true;
+    }
+    false
 }
 
 /// Opens a node in the innermost one.
@@ -201,6 +295,17 @@ pub fn take_pair(p: &mut Parser<'_>, kind: SyntaxKind)
     ensures looks { spent p.new + 8192 ≡ spent p.old }
 {
     p.token(kind, 2);
+}
+
+/// Takes the identifier that is next, as a leaf of a contextual keyword's kind.
+#[inline(never)]
+pub fn take_contextual(p: &mut Parser<'_>, word: SyntaxKind)
+    requires { 1 ≤ tokens p.old }
+    ensures reads { (c : Bool) → Reads c (One (joined (raw_of word) (kinds.IDENT ∷ []))) p.old p.new }
+    ensures left { tokens p.new + 1 ≡ tokens p.old }
+    ensures looks { spent p.new + 4096 ≡ spent p.old }
+{
+    p.token(word, 1);
 }
 
 /// Takes the next token, of whatever kind.

@@ -5,6 +5,7 @@ ghost use Rattle.rust_grammar.specs.Calls.{Meta};
 ghost use Rattle.rust_grammar.specs.Notation.{⁅◌⁆, ◌! };
 ghost use Rattle.rust_grammar.specs.Rule as rules;
 ghost use Rattle.rust_grammar.specs.Items as rows;
+ghost use Rattle.rust_grammar.specs.Shared as shared;
 ghost use Rattle.rust_productions.specs.Looks.{tokens, Takes, Asks};
 ghost use Rattle.rust_productions.specs.Reads.{looks, Gives, Reads, Saw};
 
@@ -12,9 +13,10 @@ use crate::grammar::expressions::{Level, expect_expression};
 use parser_events::message::Message;
 use parser_events::parser::Parser;
 use parser_input::syntax_kind::SyntaxKind;
-use rust_productions::grammar::paths::{at_path, path};
+use rust_productions::grammar::attributes::at_meta;
+use rust_productions::grammar::paths::{expect_path, path};
 use rust_productions::grammar::token_trees::{at_token_tree, token_tree};
-use rust_productions::grammar::{at, complete, eat, error, expect, start, take};
+use rust_productions::grammar::{at, at_new, complete, eat, error, expect, start, take};
 
 /// Parses an attribute.
 // #[inline]
@@ -33,31 +35,77 @@ pub(crate) fn attribute(p: &mut Parser<'_>)
     complete(p, attribute, SyntaxKind::ATTR);
 }
 
+/// Parses attributes before what is no item, in the whole language.
+// #[a] #[b]
+#[cycle(grammar)]
+pub(crate) fn outer_attributes(p: &mut Parser<'_>)
+    ensures reads { (c : Bool) → Reads c shared.outer_attributes p.old p.new }
+    ensures asks { Asks 1 p.old p.new }
+{
+    'turns: while at_new(p, SyntaxKind::POUND) {
+        attribute(p);
+    }
+}
+
 /// Parses the meta item of an attribute; emits an error if there is none.
 #[cycle(grammar)]
 fn expect_meta(p: &mut Parser<'_>)
     ensures reads { Reads false (Meta !) p.old p.new }
-    ensures asks { Asks 3 p.old p.new }
+    ensures asks { Asks 4 p.old p.new }
 {
-    if at_path(p) {
+    if at_meta(p) {
         meta(p, false);
         return;
     }
     error(p, Message::Expected(SyntaxKind::META));
 }
 
-/// Parses a meta item: a path with an optional value or token tree.
+/// Parses a meta item: a path with an optional value or token tree, in the whole language also in
+/// `unsafe(..)`.
 // cfg(test)
 #[cycle(grammar)]
 pub fn meta(p: &mut Parser<'_>, condition: bool)
-    requires begins { (c : Bool) → Saw c (looks rules.path) p.old true }
+    requires begins { (c : Bool) → Saw c (looks rules.meta) p.old true }
     requires some { 1 ≤ tokens p.old }
     ensures gives { Gives rules.meta condition p.old p.new }
+    ensures takes { Takes 3980 p.old p.new }
+{
+    if at_new(p, SyntaxKind::UNSAFE_KW) {
+        unsafe_meta(p, condition);
+        return;
+    }
+    path_meta(p, condition);
+}
+
+/// Parses a meta item: a path with an optional value or token tree.
+// cfg(test)
+#[cycle(grammar)]
+fn path_meta(p: &mut Parser<'_>, condition: bool)
+    requires begins { (c : Bool) → Saw c (looks rules.path) p.old true }
+    requires some { 1 ≤ tokens p.old }
+    ensures reads { Reads condition rows.path_meta p.old p.new }
     ensures takes { Takes 3990 p.old p.new }
 {
     let meta = start(p);
     path(p);
     opt_value(p, condition);
+    complete(p, meta, SyntaxKind::META);
+}
+
+/// Parses a meta item in `unsafe(..)`.
+// unsafe(no_mangle)
+#[cycle(grammar)]
+fn unsafe_meta(p: &mut Parser<'_>, condition: bool)
+    requires some { 1 ≤ tokens p.old }
+    ensures reads { Reads condition rows.unsafe_meta p.old p.new }
+    ensures takes { Takes 4080 p.old p.new }
+{
+    let meta = start(p);
+    take(p, SyntaxKind::UNSAFE_KW);
+    expect(p, SyntaxKind::L_PAREN);
+    expect_path(p);
+    opt_value(p, condition);
+    expect(p, SyntaxKind::R_PAREN);
     complete(p, meta, SyntaxKind::META);
 }
 

@@ -1,28 +1,31 @@
 //! Fields of record expressions and of record patterns.
 
 ghost use Rattle.std.specs.Prelude.{◌≡◌, ◌≤◌, ◌+◌, Bool, true};
-ghost use Rattle.parser_input.specs.Kinds.{NAME_REF, RECORD_EXPR_FIELD, RECORD_PAT_FIELD};
+ghost use Rattle.parser_input.specs.Kinds.{IDENT_PAT, NAME_REF, RECORD_EXPR_FIELD, RECORD_PAT_FIELD};
+ghost use Rattle.parser_events.specs.Stack.{IsInnermost};
 ghost use Rattle.rust_grammar.specs.Calls.{Expression, Name, Pattern};
 ghost use Rattle.rust_grammar.specs.Notation.{◌▸◌, ⁅◌⁆, ◌!, ◌⟨◌⟩};
 ghost use Rattle.rust_grammar.specs.Rule as rules;
 ghost use Rattle.rust_grammar.specs.Rule.{One, begins};
-ghost use Rattle.rust_grammar.specs.Shared.{field_name, ident_or_int};
+ghost use Rattle.rust_grammar.specs.Shared.{attributed, field_name, ident_or_int};
 ghost use Rattle.rust_grammar.specs.Words.{':', 'mut', 'ref'};
 ghost use Rattle.rust_grammar.specs.Expressions as expression_rows;
 ghost use Rattle.rust_grammar.specs.Patterns as pattern_rows;
 ghost use Rattle.rust_productions.specs.Looks.{tokens, spent, Takes, Asks};
-ghost use Rattle.rust_productions.specs.Reads.{looks, Gives, Reads, Saw};
+ghost use Rattle.rust_productions.specs.Reads.{looks, Anew, Completes, Gives, Reads, Saw};
 
+use crate::grammar::attributes::attribute;
 use crate::grammar::expressions::{Level, expect_expression, expression};
+use crate::grammar::items::attributes;
 use crate::grammar::or_patterns::expect_pattern;
 use crate::grammar::paths::{Mode, path_with_args};
 use crate::grammar::patterns::rest_pat;
-use parser_events::parser::Parser;
+use parser_events::parser::{Marker, Parser};
 use parser_input::syntax_kind::SyntaxKind;
 use rust_productions::grammar::expressions::at_expression;
 use rust_productions::grammar::names::{expect_name, name};
-use rust_productions::grammar::patterns::at_named_field;
-use rust_productions::grammar::{at_pair, complete, current, eat, start, take, take_pair};
+use rust_productions::grammar::patterns::{at_attributed_named_field, at_named_field};
+use rust_productions::grammar::{at_new, at_pair, complete, current, eat, start, take, take_pair};
 
 /// Parses a field of a record expression.
 // a: 1
@@ -136,6 +139,10 @@ pub(crate) fn pattern_field(p: &mut Parser<'_>)
     ensures gives { (c : Bool) → Gives rules.pattern_field c p.old p.new }
     ensures takes { Takes 4060 p.old p.new }
 {
+    if at_new(p, SyntaxKind::POUND) {
+        attributed_pattern_field(p);
+        return;
+    }
     if at_pair(p, SyntaxKind::DOT, SyntaxKind::DOT) {
         rest_pat(p);
         return;
@@ -145,6 +152,57 @@ pub(crate) fn pattern_field(p: &mut Parser<'_>)
         return;
     }
     shorthand(p);
+}
+
+/// Parses a field of a record pattern that has attributes.
+// #[a] b: Some(c)
+#[cycle(grammar)]
+fn attributed_pattern_field(p: &mut Parser<'_>)
+    requires some { 1 ≤ tokens p.old }
+    ensures anew { (c : Bool) → Anew c (attributed pattern_rows.attributed_field) p.old p.new }
+    ensures takes { Takes 4070 p.old p.new }
+{
+    let node = start(p);
+    attribute(p);
+    attributes(p);
+    after_attributes(p, node);
+}
+
+/// Parses a field of a record pattern after its attributes, and completes its node.
+// b: Some(c)
+#[cycle(grammar)]
+fn after_attributes(p: &mut Parser<'_>, node: Marker)
+    requires innermost { IsInnermost node p.old.nodes }
+    ensures completes { (c : Bool) → Completes c pattern_rows.attributed_field p.old p.new }
+    ensures asks { Asks 7 p.old p.new }
+{
+    if at_pair(p, SyntaxKind::DOT, SyntaxKind::DOT) {
+        take_pair(p, SyntaxKind::DOT2);
+        complete(p, node, SyntaxKind::REST_PAT);
+        return;
+    }
+    if at_attributed_named_field(p) {
+        name_of_field(p);
+        take(p, SyntaxKind::COLON);
+        expect_pattern(p);
+        complete(p, node, SyntaxKind::RECORD_PAT_FIELD);
+        return;
+    }
+    any_binding(p);
+    complete(p, node, SyntaxKind::RECORD_PAT_FIELD);
+}
+
+/// Parses the binding of a shorthand field; emits an error if there is no name.
+// ref mut a
+fn any_binding(p: &mut Parser<'_>)
+    ensures reads { (c : Bool) → Reads c (IDENT_PAT ⟨ pattern_rows.binding ⟩) p.old p.new }
+    ensures asks { Asks 3 p.old p.new }
+{
+    let node = start(p);
+    eat(p, SyntaxKind::REF_KW);
+    eat(p, SyntaxKind::MUT_KW);
+    expect_name(p);
+    complete(p, node, SyntaxKind::IDENT_PAT);
 }
 
 /// Parses a field of a record pattern with its pattern.

@@ -23,22 +23,25 @@ use crate::grammar::generic_params::where_clause;
 use crate::grammar::items::adt::{enum_item, struct_item};
 use crate::grammar::items::consts::{const_item, static_item, type_alias};
 use crate::grammar::items::functions::fn_item;
+use crate::grammar::items::new_items::new_item;
 use crate::grammar::items::traits::{impl_item, trait_item};
 use crate::grammar::list_end::{ListEnd, at_end_of};
 use crate::grammar::lists::generic_params;
 use crate::grammar::statements::at_inner_attribute;
 use parser_events::parser::{Marker, Parser};
 use parser_input::syntax_kind::SyntaxKind;
+use rust_productions::grammar::item_words::at_new_item;
 use rust_productions::grammar::items::{at_fn, at_unsafe, no_item, path_item, use_item};
 use rust_productions::grammar::names::expect_name;
 use rust_productions::grammar::paths::at_path;
 use rust_productions::grammar::visibility::{opt_visibility, visibility};
-use rust_productions::grammar::{at, complete, current, expect, start, take};
+use rust_productions::grammar::{at, at_new, complete, current, expect, start, take};
 
 pub(crate) mod adt;
 pub(crate) mod consts;
 pub(crate) mod functions;
 pub(crate) mod members;
+pub(crate) mod new_items;
 pub(crate) mod traits;
 
 /// Parses an item.
@@ -130,7 +133,24 @@ fn body(p: &mut Parser<'_>, item: Marker, given: bool, condition: bool)
     requires some { given ≡ false → 1 ≤ tokens p.old }
     requires innermost { IsInnermost item p.old.nodes }
     ensures completes { CompletesWhere given condition (rule rules.body) p.old p.new }
-    ensures takes { TakesUnless given 2910 16 p.old p.new }
+    ensures takes { TakesUnless given 2910 36 p.old p.new }
+{
+    if at_new_item(p) {
+        new_item(p, item, condition);
+        return;
+    }
+    plain_body(p, item, given, condition);
+}
+
+/// Parses an item that both grammars have after its attributes and its visibility, and completes
+/// its node. `given` is `true` if it has some.
+// fn f() {}
+#[cycle(grammar)]
+fn plain_body(p: &mut Parser<'_>, item: Marker, given: bool, condition: bool)
+    requires some { given ≡ false → 1 ≤ tokens p.old }
+    requires innermost { IsInnermost item p.old.nodes }
+    ensures completes { CompletesWhere given condition rows.plain_body p.old p.new }
+    ensures takes { TakesUnless given 2930 16 p.old p.new }
 {
     match current(p) {
         SyntaxKind::MOD_KW => module(p, item),
@@ -197,7 +217,7 @@ fn module_items(p: &mut Parser<'_>)
 /// Parses items in braces, in a node of `kind`.
 // { fn f() {} }
 #[cycle(grammar)]
-fn item_list(p: &mut Parser<'_>, kind: SyntaxKind)
+pub(crate) fn item_list(p: &mut Parser<'_>, kind: SyntaxKind)
     requires some { 1 ≤ tokens p.old }
     ensures reads { (c : Bool) → Reads c (raw_of kind ⟨ items_in_braces ⟩) p.old p.new }
     ensures takes { Takes 4080 p.old p.new }
@@ -259,6 +279,30 @@ pub(crate) fn opt_generic_params(p: &mut Parser<'_>)
 {
     if at(p, SyntaxKind::L_ANGLE) {
         generic_params(p);
+    }
+}
+
+/// Parses optional generic parameters of the whole language.
+// <T>
+#[cycle(grammar)]
+pub(crate) fn opt_new_generics(p: &mut Parser<'_>)
+    ensures reads { (c : Bool) → Reads c rows.new_generics p.old p.new }
+    ensures asks { Asks 1 p.old p.new }
+{
+    if at_new(p, SyntaxKind::L_ANGLE) {
+        generic_params(p);
+    }
+}
+
+/// Parses an optional where clause of the whole language.
+// where T: A
+#[cycle(grammar)]
+pub(crate) fn opt_new_where(p: &mut Parser<'_>)
+    ensures reads { (c : Bool) → Reads c rows.new_where p.old p.new }
+    ensures asks { Asks 1 p.old p.new }
+{
+    if at_new(p, SyntaxKind::WHERE_KW) {
+        where_clause(p);
     }
 }
 

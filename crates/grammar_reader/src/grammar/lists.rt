@@ -18,10 +18,11 @@ ghost use Rattle.rust_productions.specs.Moves.{Keeps};
 use crate::grammar::expressions::closures::closure_param;
 use crate::grammar::expressions::expression;
 use crate::grammar::fields::{field_value, pattern_field};
+use crate::grammar::fn_pointers::fn_ptr_param;
 use crate::grammar::generic_args::{generic_arg, type_arg};
 use crate::grammar::generic_params::generic_param;
 use crate::grammar::items::members::{
-    at_named_member, at_tuple_field, record_field, tuple_field, variant,
+    at_named_member, at_record_field, at_tuple_field, record_field, tuple_field, variant,
 };
 use crate::grammar::or_patterns::pattern;
 use crate::grammar::params::param;
@@ -36,7 +37,7 @@ use rust_productions::grammar::generic_params::{at_captured, at_generic_param, c
 use rust_productions::grammar::lists::{at_list_end, at_unexpected, comma};
 use rust_productions::grammar::params::at_param;
 use rust_productions::grammar::patterns::{at_pattern, at_pattern_field, at_single_pattern};
-use rust_productions::grammar::types::at_type;
+use rust_productions::grammar::types::{at_fn_ptr_param, at_type};
 use rust_productions::grammar::{at, complete, expect, skip, start, take, tokens_left, wrap};
 
 /// The elements of a list.
@@ -46,6 +47,7 @@ pub(crate) enum Element {
     ClosureParam,
     Expression,
     FieldValue,
+    FnPtrParam,
     GenericArg,
     GenericParam,
     Param,
@@ -68,12 +70,13 @@ fn at_element(p: &mut Parser<'_>, element: Element) -> bool
         Element::ClosureParam => at_single_pattern(p),
         Element::Expression => at_expression(p, false),
         Element::FieldValue => at_field_value(p),
+        Element::FnPtrParam => at_fn_ptr_param(p),
         Element::GenericArg => at_generic_arg(p),
         Element::GenericParam => at_generic_param(p),
         Element::Param => at_param(p),
         Element::Pattern => at_pattern(p),
         Element::PatternField => at_pattern_field(p),
-        Element::RecordField => at_named_member(p),
+        Element::RecordField => at_record_field(p),
         Element::TupleField => at_tuple_field(p),
         Element::Type => at_type(p),
         Element::TypeArg => at_type(p),
@@ -94,6 +97,7 @@ fn read_element(p: &mut Parser<'_>, element: Element)
         Element::ClosureParam => closure_param(p),
         Element::Expression => expression(p, false),
         Element::FieldValue => field_value(p, false),
+        Element::FnPtrParam => fn_ptr_param(p),
         Element::GenericArg => generic_arg(p),
         Element::GenericParam => generic_param(p),
         Element::Param => param(p, false),

@@ -3,6 +3,7 @@
 ghost use Rattle.std.specs.Prelude.{◌≤◌, Bool, true};
 ghost use Rattle.parser_input.specs.Kinds as kinds;
 ghost use Rattle.parser_input.specs.Kinds.{NAME, SELF_PARAM};
+ghost use Rattle.parser_events.specs.Stack.{IsInnermost};
 ghost use Rattle.rust_grammar.specs.Calls.{Lifetime};
 ghost use Rattle.rust_grammar.specs.Items.{self_begins};
 ghost use Rattle.rust_grammar.specs.Notation.{◌▸◌, ⁅◌⁆, ◌⟨◌⟩};
@@ -10,18 +11,23 @@ ghost use Rattle.rust_grammar.specs.Rule as rules;
 ghost use Rattle.rust_grammar.specs.Rule.{Kind, One};
 ghost use Rattle.rust_grammar.specs.Words.{'&', 'mut', 'self'};
 ghost use Rattle.rust_grammar.specs.Items as rows;
-ghost use Rattle.rust_grammar.specs.Shared.{type_annotation};
+ghost use Rattle.rust_grammar.specs.Shared.{attributed, dots_and_dot, type_annotation};
 ghost use Rattle.rust_productions.specs.Looks.{tokens, Takes, Asks, Peeks};
-ghost use Rattle.rust_productions.specs.Reads.{looks, Gives, Reads, Saw};
+ghost use Rattle.rust_productions.specs.Reads.{looks, Anew, Completes, Gives, Reads, Saw};
+ghost use Rattle.rust_productions.specs.Starts.{Starts};
 
+use crate::grammar::attributes::attribute;
 use crate::grammar::expressions::closures::opt_type;
-use crate::grammar::or_patterns::pattern;
+use crate::grammar::items::attributes;
+use crate::grammar::or_patterns::{expect_pattern, pattern};
 use crate::grammar::types::{expect_type, word_type};
-use parser_events::parser::Parser;
+use parser_events::parser::{Marker, Parser};
 use parser_input::syntax_kind::SyntaxKind;
 use rust_productions::grammar::names::opt_lifetime;
+use rust_productions::grammar::params::{at_new_dots, at_new_param};
+use rust_productions::grammar::pattern_ranges::take_three_dots;
 use rust_productions::grammar::{
-    at_second, at_third, complete, current, eat, expect, nth, start, take,
+    at, at_dots_dot, at_second, at_third, complete, current, eat, expect, nth, start, take,
 };
 
 /// Returns `true` if the `&` that is next starts a `self` parameter.
@@ -59,11 +65,138 @@ pub(crate) fn param(p: &mut Parser<'_>, condition: bool)
     ensures gives { Gives rules.param condition p.old p.new }
     ensures takes { Takes 2880 p.old p.new }
 {
+    if at_new_param(p) {
+        new_param(p, condition);
+        return;
+    }
     if at_self(p) {
         self_param(p, condition);
         return;
     }
     pattern_param(p, condition);
+}
+
+/// Parses a parameter that only the whole language has: `...`, or one with attributes.
+// #[a] b: u8
+#[cycle(grammar)]
+fn new_param(p: &mut Parser<'_>, condition: bool)
+    requires begins { Starts rows.new_param_begins p.old }
+    ensures anew { Anew condition rows.new_param p.old p.new }
+    ensures takes { Takes 4000 p.old p.new }
+{
+    if at_dots_dot(p) {
+        dots_param(p);
+        return;
+    }
+    attributed_param(p, condition);
+}
+
+/// Parses `...` as a parameter.
+// ...
+fn dots_param(p: &mut Parser<'_>)
+    requires { 3 ≤ tokens p.old }
+    ensures reads { (c : Bool) → Reads c (kinds.PARAM ⟨ dots_and_dot ⟩) p.old p.new }
+    ensures takes { Takes 8192 p.old p.new }
+{
+    let node = start(p);
+    take_three_dots(p);
+    complete(p, node, SyntaxKind::PARAM);
+}
+
+/// Parses a parameter that has attributes.
+// #[a] b: u8
+#[cycle(grammar)]
+fn attributed_param(p: &mut Parser<'_>, condition: bool)
+    requires some { 1 ≤ tokens p.old }
+    ensures anew { Anew condition (attributed rows.attributed_param) p.old p.new }
+    ensures takes { Takes 4030 p.old p.new }
+{
+    let node = start(p);
+    attribute(p);
+    attributes(p);
+    after_attributes(p, node, condition);
+}
+
+/// Parses a parameter after its attributes, and completes its node.
+// b: u8
+#[cycle(grammar)]
+fn after_attributes(p: &mut Parser<'_>, node: Marker, condition: bool)
+    requires innermost { IsInnermost node p.old.nodes }
+    ensures completes { Completes condition rows.attributed_param p.old p.new }
+    ensures asks { Asks 40 p.old p.new }
+{
+    if at_self(p) {
+        self_rest(p, condition);
+        complete(p, node, SyntaxKind::SELF_PARAM);
+        return;
+    }
+    dots_or_param(p);
+    complete(p, node, SyntaxKind::PARAM);
+}
+
+/// Parses the parts of a `self` parameter, within its node.
+// &'a mut self
+#[cycle(grammar)]
+fn self_rest(p: &mut Parser<'_>, condition: bool)
+    ensures reads { Reads condition rows.self_rest p.old p.new }
+    ensures asks { Asks 4 p.old p.new }
+{
+    opt_ref(p);
+    eat(p, SyntaxKind::MUT_KW);
+    expect_self(p);
+    opt_type(p, condition);
+}
+
+/// Parses the optional `&` of a `self` parameter and its optional lifetime.
+// &'a
+fn opt_ref(p: &mut Parser<'_>)
+    ensures reads { (c : Bool) → Reads c ⁅ One '&' ▸ ⁅ Lifetime ⁆ ⁆ p.old p.new }
+    ensures asks { Asks 1 p.old p.new }
+{
+    if at(p, SyntaxKind::AMP) {
+        take(p, SyntaxKind::AMP);
+        opt_lifetime(p);
+    }
+}
+
+/// Parses `...`, or a pattern and its type.
+// b: u8
+#[cycle(grammar)]
+fn dots_or_param(p: &mut Parser<'_>)
+    ensures reads { (c : Bool) → Reads c rows.dots_or_param p.old p.new }
+    ensures asks { Asks 33 p.old p.new }
+{
+    if at_dots_dot(p) {
+        take_three_dots(p);
+        return;
+    }
+    expect_pattern(p);
+    param_type(p);
+}
+
+/// Parses the type of a parameter after its `:`, or in the whole language `...`.
+// : u8
+#[cycle(grammar)]
+fn param_type(p: &mut Parser<'_>)
+    ensures reads { (c : Bool) → Reads c rows.param_type p.old p.new }
+    ensures asks { Asks 20 p.old p.new }
+{
+    expect(p, SyntaxKind::COLON);
+    dots_or_type(p);
+}
+
+/// Parses a type, or in the whole language `...`; emits an error if there is neither.
+// u8
+#[cycle(grammar)]
+fn dots_or_type(p: &mut Parser<'_>)
+    ensures reads { (c : Bool) → Reads c rows.dots_or_type p.old p.new }
+    ensures asks { Asks 19 p.old p.new }
+{
+    if at_new_dots(p) {
+        take_three_dots(p);
+        return;
+    }
+    expect_type(p);
 }
 
 /// Parses a parameter with a pattern.
@@ -77,8 +210,7 @@ fn pattern_param(p: &mut Parser<'_>, condition: bool)
 {
     let node = start(p);
     pattern(p);
-    expect(p, SyntaxKind::COLON);
-    expect_type(p);
+    param_type(p);
     complete(p, node, SyntaxKind::PARAM);
 }
 

@@ -1,9 +1,10 @@
 //! Paths with arguments.
 
 ghost use Rattle.std.specs.Prelude.{◌≤◌, Bool, true, IsTrue};
+ghost use Rattle.parser_input.specs.Kinds.{PARENTHESIZED_ARG_LIST};
 ghost use Rattle.parser_events.specs.Stack.{IsInnermost};
-ghost use Rattle.rust_grammar.specs.Notation.{⁅◌⁆, ◌!, ◌before◌, wide};
-ghost use Rattle.rust_grammar.specs.Words.{'::', '<', 'l_paren'};
+ghost use Rattle.rust_grammar.specs.Notation.{⁅◌⁆, ◌!, ◌▸◌, ◌⟨◌⟩, ◌before◌, wide};
+ghost use Rattle.rust_grammar.specs.Words.{'::', '<', 'dots', 'l_paren', 'r_paren'};
 ghost use Rattle.rust_grammar.specs.Calls.{GenericArgs};
 ghost use Rattle.rust_grammar.specs.Rule as rules;
 ghost use Rattle.rust_grammar.specs.Rule.{One};
@@ -20,7 +21,9 @@ use parser_events::message::Message;
 use parser_events::parser::{Marker, Parser};
 use parser_input::syntax_kind::SyntaxKind;
 use rust_productions::grammar::names::{at_name_ref, name_ref};
-use rust_productions::grammar::paths::{at_colons, at_fn_args, at_next_segment, first_word};
+use rust_productions::grammar::paths::{
+    at_colons, at_colons_dots_args, at_dots_args, at_fn_args, at_next_segment, first_word,
+};
 use rust_productions::grammar::{
     abandon, at, at_second, at_third, complete, error, expect, start, take, take_pair, wrap,
 };
@@ -83,6 +86,37 @@ fn at_args(p: &mut Parser<'_>, mode: Mode) -> bool
     }
 }
 
+/// Parses `(..)` as arguments.
+// (..)
+fn dots_args(p: &mut Parser<'_>)
+    requires some { 3 ≤ tokens p.old }
+    ensures reads { (c : Bool) → Reads c (PARENTHESIZED_ARG_LIST
+        ⟨ One 'l_paren' ▸ One 'dots' ▸ One 'r_paren' ! ⟩) p.old p.new }
+    ensures takes { Takes 8000 p.old p.new }
+{
+    let list = start(p);
+    take(p, SyntaxKind::L_PAREN);
+    take_pair(p, SyntaxKind::DOT2);
+    expect(p, SyntaxKind::R_PAREN);
+    complete(p, list, SyntaxKind::PARENTHESIZED_ARG_LIST);
+}
+
+/// Parses `::(..)` as arguments.
+// ::(..)
+fn colons_dots_args(p: &mut Parser<'_>)
+    requires some { 5 ≤ tokens p.old }
+    ensures reads { (c : Bool) → Reads c (PARENTHESIZED_ARG_LIST
+        ⟨ One '::' ▸ One 'l_paren' ▸ One 'dots' ▸ One 'r_paren' ! ⟩) p.old p.new }
+    ensures takes { Takes 8000 p.old p.new }
+{
+    let list = start(p);
+    take_pair(p, SyntaxKind::COLON2);
+    take(p, SyntaxKind::L_PAREN);
+    take_pair(p, SyntaxKind::DOT2);
+    expect(p, SyntaxKind::R_PAREN);
+    complete(p, list, SyntaxKind::PARENTHESIZED_ARG_LIST);
+}
+
 /// Parses the arguments of `Fn`, in the whole language.
 // (u8, u8) -> u8
 #[cycle(grammar)]
@@ -91,6 +125,14 @@ fn fn_args(p: &mut Parser<'_>)
     ensures reads { (c : Bool) → Reads c rows.fn_args p.old p.new }
     ensures takes { Takes 3200 p.old p.new }
 {
+    if at_dots_args(p) {
+        dots_args(p);
+        return;
+    }
+    if at_colons_dots_args(p) {
+        colons_dots_args(p);
+        return;
+    }
     paren_args(p);
     opt_ret_type(p);
 }

@@ -16,16 +16,18 @@ ghost use Rattle.rust_productions.specs.Starts.{Starts};
 
 use crate::grammar::lists::{Element, pattern_fields, rest_of_list, tuple_tail};
 use crate::grammar::or_patterns::expect_pattern;
-use crate::grammar::paths::{Mode, path_with_args};
+use crate::grammar::paths::{Mode, path_with_args, qualified_path};
+use crate::grammar::pattern_ranges::range_or_atom;
 use crate::grammar::types::word_type;
 use parser_events::message::Message;
 use parser_events::parser::{Marker, Parser};
 use parser_input::syntax_kind::SyntaxKind;
 use rust_productions::grammar::names::{at_literal, expect_literal, expect_name, literal, name};
 use rust_productions::grammar::patterns::at_single_pattern;
+use rust_productions::grammar::token_trees::expect_token_tree;
 use rust_productions::grammar::{
-    abandon, at, at_pair, at_pair_after, complete, current, eat, error, expect, nth, start, take,
-    take_pair, wrap,
+    abandon, at, at_new, at_pair, at_pair_after, complete, current, eat, error, expect, nth, start,
+    take, take_pair, wrap,
 };
 
 /// Returns `true` if an identifier is next that is a pattern: before none of `::`, `(`, `{` and
@@ -69,18 +71,19 @@ pub(crate) fn single_pattern(p: &mut Parser<'_>)
     ensures takes { Takes 2910 p.old p.new }
 {
     let frame = start(p);
-    let frame = inside(p, frame);
+    let frame = range_or_atom(p, frame);
     abandon(p, frame);
 }
 
-/// Parses a pattern without top-level alternatives, within `frame`, which the caller abandons.
+/// Parses a pattern without alternatives and without a range, within `frame`, which the caller
+/// abandons.
 // (a, ..)
 #[cycle(grammar)]
-fn inside(p: &mut Parser<'_>, frame: Marker) -> Marker
-    requires begins { Starts (looks rules.single_pattern) p.old }
+pub(crate) fn inside(p: &mut Parser<'_>, frame: Marker) -> Marker
+    requires begins { Starts (looks rules.pattern_atom) p.old }
     requires innermost { IsInnermost frame p.old.nodes }
-    ensures reads { (c : Bool) → Reads c (rule rules.single_pattern) p.old p.new }
-    ensures takes { TakesIn result 2910 p.old p.new }
+    ensures reads { (c : Bool) → Reads c (rule rules.pattern_atom) p.old p.new }
+    ensures takes { TakesIn result 2950 p.old p.new }
 {
     match current(p) {
         SyntaxKind::MINUS => {
@@ -107,6 +110,7 @@ fn inside(p: &mut Parser<'_>, frame: Marker) -> Marker
             ident_after_mut(p);
             frame
         }
+        SyntaxKind::L_ANGLE => qualified_pat(p, frame),
         SyntaxKind::L_PAREN => {
             if at_paren_before_dots(p) {
                 tuple_pat(p);
@@ -346,13 +350,26 @@ fn path_pat(p: &mut Parser<'_>, frame: Marker) -> Marker
     after_path(p, frame)
 }
 
-/// Parses the optional fields after the path of a pattern.
+/// Parses a pattern whose path starts with a qualifier.
+// <T as A>::B
+#[cycle(grammar)]
+fn qualified_pat(p: &mut Parser<'_>, frame: Marker) -> Marker
+    requires some { 1 ≤ tokens p.old }
+    requires innermost { IsInnermost frame p.old.nodes }
+    ensures reads { (c : Bool) → Reads c rows.qualified_pat p.old p.new }
+    ensures takes { TakesIn result 3900 p.old p.new }
+{
+    let frame = qualified_path(p, frame, Mode::Expr);
+    after_path(p, frame)
+}
+
+/// Parses the optional fields after the path of a pattern, or the rest of a macro call.
 // (a)
 #[cycle(grammar)]
 fn after_path(p: &mut Parser<'_>, frame: Marker) -> Marker
     requires innermost { IsInnermost frame p.old.nodes }
     ensures reads { (c : Bool) → Reads c rows.after_path p.old p.new }
-    ensures asks { AsksIn result 2 p.old p.new }
+    ensures asks { AsksIn result 3 p.old p.new }
 {
     if at(p, SyntaxKind::L_PAREN) {
         take(p, SyntaxKind::L_PAREN);
@@ -367,6 +384,11 @@ fn after_path(p: &mut Parser<'_>, frame: Marker) -> Marker
     if at(p, SyntaxKind::L_CURLY) {
         pattern_fields(p);
         return wrap(p, frame, SyntaxKind::RECORD_PAT);
+    }
+    if at_new(p, SyntaxKind::BANG) {
+        take(p, SyntaxKind::BANG);
+        expect_token_tree(p);
+        return wrap(p, frame, SyntaxKind::MACRO_CALL);
     }
     wrap(p, frame, SyntaxKind::PATH_PAT)
 }

@@ -18,17 +18,19 @@ ghost use Rattle.rust_productions.specs.Reads.{looks, Gives, Reads, Saw};
 ghost use Rattle.rust_productions.specs.Starts.{Starts};
 
 use crate::grammar::expressions::{Level, expect_expression};
+use crate::grammar::fn_pointers::fn_ptr_type;
 use crate::grammar::generic_params::{bounds, for_binder, further_bounds, opt_bound};
 use crate::grammar::lists::{Element, tuple_tail};
+use crate::grammar::new_bounds::lifetime_bound;
 use crate::grammar::paths::{Mode, path_with_args, qualified_path};
 use parser_events::message::Message;
 use parser_events::parser::{Marker, Parser};
 use parser_input::syntax_kind::SyntaxKind;
-use rust_productions::grammar::names::{lifetime, opt_lifetime};
+use rust_productions::grammar::names::opt_lifetime;
 use rust_productions::grammar::paths::at_macro_call;
 use rust_productions::grammar::token_trees::expect_token_tree;
 use rust_productions::grammar::types::{
-    at_bare_type, at_dyn_word, at_new_type, at_type, at_type_no_bounds,
+    at_bare_type, at_dyn_word, at_fn_ptr, at_new_type, at_type, at_type_no_bounds,
 };
 use rust_productions::grammar::{
     abandon, at, at_pair, complete, current, eat, error, expect, start, take, take_pair, wrap,
@@ -153,6 +155,10 @@ fn new_type(p: &mut Parser<'_>, frame: Marker) -> Marker
         lifetime_bounds(p);
         return frame;
     }
+    if at_fn_ptr(p) {
+        fn_ptr_type(p);
+        return frame;
+    }
     let frame = for_or_path(p, frame);
     opt_plus_bounds(p, frame)
 }
@@ -263,19 +269,6 @@ fn lifetime_bounds(p: &mut Parser<'_>)
     further_bounds(p);
     complete(p, list, SyntaxKind::TYPE_BOUND_LIST);
     complete(p, node, SyntaxKind::DYN_TRAIT_TYPE);
-}
-
-/// Parses a lifetime as a bound.
-// 'a
-fn lifetime_bound(p: &mut Parser<'_>)
-    requires { 1 ≤ tokens p.old }
-    ensures reads { (c : Bool) → Reads c (kinds.TYPE_BOUND ⟨ Lifetime ⟩) p.old p.new }
-    ensures left { tokens p.new + 1 ≡ tokens p.old }
-    ensures looks { spent p.new + 4096 ≡ spent p.old }
-{
-    let node = start(p);
-    lifetime(p);
-    complete(p, node, SyntaxKind::TYPE_BOUND);
 }
 
 /// Parses one token, in a node of `kind`.

@@ -1,14 +1,14 @@
 //! What items begin with, and the items that hold no others.
 
-ghost use Rattle.std.specs.Prelude.{◌≡◌, ◌≢◌, ◌≤◌, Bool, IsTrue, true, false};
+ghost use Rattle.std.specs.Prelude.{◌≡◌, ◌≢◌, ◌≤◌, Bool, IsTrue, true, false, [], ◌∷◌};
 ghost use Rattle.parser_input.specs.Kind.{raw_of};
 ghost use Rattle.parser_input.specs.Kinds as kinds;
 ghost use Rattle.parser_events.specs.Stack.{IsInnermost};
 ghost use Rattle.rust_grammar.specs.Items.{fn_begins};
-ghost use Rattle.rust_grammar.specs.Notation.{◌▸◌, ⁅◌⁆, ◌!, ◌before◌, next};
+ghost use Rattle.rust_grammar.specs.Notation.{◌▸◌, ⁅◌⁆, ◌!, ◌before◌, next, one_of, wide};
 ghost use Rattle.rust_grammar.specs.Rule as rules;
-ghost use Rattle.rust_grammar.specs.Rule.{Either, One};
-ghost use Rattle.rust_grammar.specs.Words.{one, 'const', 'fn', 'unsafe'};
+ghost use Rattle.rust_grammar.specs.Rule.{Either, Not, One, begins};
+ghost use Rattle.rust_grammar.specs.Words.{one, 'comma', 'const', 'fn', 'unsafe', '>', ':', '='};
 ghost use Rattle.rust_grammar.specs.Items as rows;
 ghost use Rattle.rust_productions.specs.Looks.{tokens, Takes, Asks, Peeks, TakesUnless};
 ghost use Rattle.rust_productions.specs.Reads.{looks, Completes, CompletesWhere, Reads, Saw};
@@ -18,7 +18,8 @@ use crate::grammar::paths::path;
 use crate::grammar::token_trees::{expect_token_tree, token_tree};
 use crate::grammar::use_trees::expect_use_tree;
 use crate::grammar::{
-    abandon, at, at_second, complete, current, eat, error, expect, nth, skip, take,
+    abandon, at, at_new, at_second, at_whole, complete, current, eat, error, expect, nth, skip,
+    take,
 };
 use parser_events::message::Message;
 use parser_events::parser::{Marker, Parser};
@@ -163,7 +164,7 @@ fn after_path(p: &mut Parser<'_>, item: Marker)
 
 /// Parses the token tree of a macro call, and a `;` unless it is in braces.
 // (a);
-fn macro_tokens(p: &mut Parser<'_>)
+pub(crate) fn macro_tokens(p: &mut Parser<'_>)
     ensures reads { (c : Bool) → Reads c rows.macro_tokens p.old p.new }
     ensures asks { Asks 3 p.old p.new }
 {
@@ -190,4 +191,105 @@ pub fn no_item(p: &mut Parser<'_>, item: Marker, given: bool)
     }
     skip(p, Message::ExpectedItem);
     abandon(p, item);
+}
+
+/// Returns `true` if the third token can follow the name of a generic parameter.
+fn at_param_end(p: &mut Parser<'_>) -> bool
+    ensures sees { (c : Bool) → Saw c (one_of 2 ('>' ∷ 'comma' ∷ ':' ∷ '=' ∷ [])) p.old result }
+    ensures peeks { Peeks 1 p.old p.new }
+{
+    match nth(p, 2) {
+        SyntaxKind::R_ANGLE | SyntaxKind::COMMA | SyntaxKind::COLON | SyntaxKind::EQ => true,
+        _ => false,
+    }
+}
+
+/// Returns `true` if a `<` after `impl` starts a type of the whole language, and no parameters.
+fn at_type_after_impl(p: &mut Parser<'_>) -> bool
+    ensures sees { (c : Bool) → Saw c (wide (Not rows.impl_params_begin)) p.old result }
+    ensures peeks { Peeks 3 p.old p.new }
+{
+    if !at_whole(p) {
+        return false;
+    }
+    if !at(p, SyntaxKind::L_ANGLE) {
+        return true;
+    }
+    match nth(p, 1) {
+        SyntaxKind::POUND | SyntaxKind::R_ANGLE | SyntaxKind::CONST_KW => false,
+        SyntaxKind::LIFETIME_IDENT | SyntaxKind::IDENT => {
+            if at_param_end(p) {
+                return false;
+            }
+            true
+        }
+        _ => true,
+    }
+}
+
+/// Returns `true` if the parameters of an implementation start here.
+pub fn at_impl_params(p: &mut Parser<'_>) -> bool
+    ensures sees { (c : Bool) → Saw c (begins looks rows.impl_params) p.old result }
+    ensures goes { IsTrue result → (c : Bool) → Saw c (wide (Not rows.impl_params_begin)) p.old false }
+    ensures some { IsTrue result → 1 ≤ tokens p.old }
+    ensures peeks { Peeks 4 p.old p.new }
+{
+    if at_type_after_impl(p) {
+        return false;
+    }
+    if at(p, SyntaxKind::L_ANGLE) {
+        return true;
+    }
+    false
+}
+
+/// Parses the optional `const` before the trait of an implementation.
+// const
+pub fn opt_const_before_trait(p: &mut Parser<'_>)
+    ensures reads { (c : Bool) → Reads c rows.const_before_trait p.old p.new }
+    ensures asks { Asks 1 p.old p.new }
+{
+    if at_new(p, SyntaxKind::CONST_KW) {
+        take(p, SyntaxKind::CONST_KW);
+    }
+}
+
+/// Returns `true` if a `!` is next that negates the trait of an implementation.
+fn at_negation(p: &mut Parser<'_>) -> bool
+    ensures sees { (c : Bool) → Saw c (wide rows.negation_begins) p.old result }
+    ensures some { IsTrue result → 1 ≤ tokens p.old }
+    ensures peeks { Peeks 2 p.old p.new }
+{
+    if !at_whole(p) {
+        return false;
+    }
+    if !at(p, SyntaxKind::BANG) {
+        return false;
+    }
+    match nth(p, 1) {
+        SyntaxKind::L_CURLY | SyntaxKind::FOR_KW | SyntaxKind::WHERE_KW => false,
+        _ => true,
+    }
+}
+
+/// Parses the optional `!` before the trait of an implementation.
+// !
+pub fn opt_negation(p: &mut Parser<'_>)
+    ensures reads { (c : Bool) → Reads c rows.negation p.old p.new }
+    ensures asks { Asks 2 p.old p.new }
+{
+    if at_negation(p) {
+        take(p, SyntaxKind::BANG);
+    }
+}
+
+/// Parses the optional `unsafe` before the name of a field.
+// unsafe
+pub fn opt_unsafe_field(p: &mut Parser<'_>)
+    ensures reads { (c : Bool) → Reads c rows.unsafe_field p.old p.new }
+    ensures asks { Asks 1 p.old p.new }
+{
+    if at_new(p, SyntaxKind::UNSAFE_KW) {
+        take(p, SyntaxKind::UNSAFE_KW);
+    }
 }

@@ -67,7 +67,7 @@ fn at_joined(p: &mut Parser<'_>, kind: SyntaxKind) -> bool
 }
 
 /// Returns `true` if the second token touches the third, and that is of this kind.
-fn at_joined_after(p: &mut Parser<'_>, kind: SyntaxKind) -> bool
+pub(crate) fn at_joined_after(p: &mut Parser<'_>, kind: SyntaxKind) -> bool
     ensures sees { (c : Bool) → Saw c (Both (Joint 1) (Kind 2 (raw_of kind))) p.old result }
     ensures some { IsTrue result → raw_of kind ≢ kinds.EOF → 3 ≤ tokens p.old }
     ensures peeks { Peeks 1 p.old p.new }

@@ -2,18 +2,60 @@
 
 ghost use Rattle.std.specs.Prelude.{◌≤◌, Bool, IsTrue};
 ghost use Rattle.rust_productions.specs.Looks.{tokens, Peeks};
+ghost use Rattle.rust_grammar.specs.Items as rows;
+ghost use Rattle.rust_grammar.specs.Notation.{wide};
 ghost use Rattle.rust_grammar.specs.Rule as rules;
+ghost use Rattle.rust_grammar.specs.Shared.{dots_dot};
 ghost use Rattle.rust_productions.specs.Reads.{looks, Saw};
 
 use crate::grammar::patterns::at_pattern;
+use crate::grammar::{at, at_dots_dot, at_whole};
 use parser_events::parser::Parser;
+use parser_input::syntax_kind::SyntaxKind;
 
 /// Returns `true` if a function parameter starts here. A `self` parameter starts as a pattern
-/// does.
+/// does, and in the whole language an attribute may be before it.
 pub fn at_param(p: &mut Parser<'_>) -> bool
     ensures sees { (c : Bool) → Saw c (looks rules.param) p.old result }
     ensures some { IsTrue result → 1 ≤ tokens p.old }
-    ensures peeks { Peeks 9 p.old p.new }
+    ensures peeks { Peeks 13 p.old p.new }
 {
+    if at_new_param(p) {
+        return true;
+    }
     at_pattern(p)
+}
+
+/// Returns `true` if a parameter starts here as only the whole language has it: at `...` or at an
+/// attribute.
+pub fn at_new_param(p: &mut Parser<'_>) -> bool
+    ensures sees { (c : Bool) → Saw c (wide rows.new_param_begins) p.old result }
+    ensures some { IsTrue result → 1 ≤ tokens p.old }
+    ensures peeks { Peeks 4 p.old p.new }
+{
+    if !at_whole(p) {
+        return false;
+    }
+    if at_dots_dot(p) {
+        return true;
+    }
+    if at(p, SyntaxKind::POUND) {
+        return true;
+    }
+    false
+}
+
+/// Returns `true` if `...` is next, in the whole language.
+pub fn at_new_dots(p: &mut Parser<'_>) -> bool
+    ensures sees { (c : Bool) → Saw c (wide dots_dot) p.old result }
+    ensures some { IsTrue result → 3 ≤ tokens p.old }
+    ensures peeks { Peeks 3 p.old p.new }
+{
+    if !at_whole(p) {
+        return false;
+    }
+    if at_dots_dot(p) {
+        return true;
+    }
+    false
 }

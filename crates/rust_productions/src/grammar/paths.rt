@@ -1,21 +1,23 @@
 //! Paths.
 
-ghost use Rattle.std.specs.Prelude.{◌≤◌, Bool, true, false, IsTrue};
+ghost use Rattle.std.specs.Prelude.{◌≤◌, Bool, true, false, IsTrue, [], ◌∷◌};
 ghost use Rattle.parser_input.specs.Kinds as kinds;
 ghost use Rattle.parser_events.specs.Stack.{IsInnermost};
 ghost use Rattle.rust_productions.specs.Looks.{tokens, Takes, Asks, Peeks, TakesTwoIn, AsksIn};
-ghost use Rattle.rust_grammar.specs.Notation.{◌!, wide};
+ghost use Rattle.rust_grammar.specs.Notation.{◌!, ◌before◌, row, wide};
 ghost use Rattle.rust_grammar.specs.Calls.{Path};
 ghost use Rattle.rust_grammar.specs.Shared.{path_goes_on};
 ghost use Rattle.rust_grammar.specs.Rule as rules;
 ghost use Rattle.rust_grammar.specs.Rule.{Kind, Joint, Both, Nothing};
+ghost use Rattle.rust_grammar.specs.Words.{'::', 'l_paren', 'dots'};
 ghost use Rattle.rust_grammar.specs.Paths as rows;
 ghost use Rattle.rust_productions.specs.Reads.{looks, Gives, Reads, Saw};
 ghost use Rattle.rust_productions.specs.Starts.{Starts};
 
 use crate::grammar::names::{at_name_ref, expect_name_ref, name_ref};
 use crate::grammar::{
-    abandon, at, at_pair, at_third, at_whole, complete, error, nth, start, take_pair, wrap,
+    abandon, at, at_fourth_pair, at_pair, at_pair_after, at_third, at_whole, complete, error, nth,
+    start, take_pair, wrap,
 };
 use parser_events::message::Message;
 use parser_events::parser::{Marker, Parser};
@@ -62,6 +64,39 @@ pub fn at_fn_args(p: &mut Parser<'_>) -> bool
         return false;
     }
     if !at_third(p, SyntaxKind::L_PAREN) {
+        return false;
+    }
+    true
+}
+
+/// Returns `true` if `(..` is next.
+pub fn at_dots_args(p: &mut Parser<'_>) -> bool
+    ensures sees { (c : Bool) → Saw c ('l_paren' before 'dots') p.old result }
+    ensures some { IsTrue result → 3 ≤ tokens p.old }
+    ensures peeks { Peeks 3 p.old p.new }
+{
+    if !at(p, SyntaxKind::L_PAREN) {
+        return false;
+    }
+    if !at_pair_after(p, SyntaxKind::DOT, SyntaxKind::DOT) {
+        return false;
+    }
+    true
+}
+
+/// Returns `true` if `::(..` is next.
+pub fn at_colons_dots_args(p: &mut Parser<'_>) -> bool
+    ensures sees { (c : Bool) → Saw c (row 0 ('::' ∷ 'l_paren' ∷ 'dots' ∷ [])) p.old result }
+    ensures some { IsTrue result → 5 ≤ tokens p.old }
+    ensures peeks { Peeks 5 p.old p.new }
+{
+    if !at_colons(p) {
+        return false;
+    }
+    if !at_third(p, SyntaxKind::L_PAREN) {
+        return false;
+    }
+    if !at_fourth_pair(p, SyntaxKind::DOT, SyntaxKind::DOT) {
         return false;
     }
     true
@@ -187,7 +222,7 @@ pub fn path(p: &mut Parser<'_>)
 
 /// Parses a path without generic arguments; emits an error if there is none.
 // a::b
-pub(crate) fn expect_path(p: &mut Parser<'_>)
+pub fn expect_path(p: &mut Parser<'_>)
     ensures reads { (c : Bool) → Reads c (Path !) p.old p.new }
     ensures asks { Asks 3 p.old p.new }
 {

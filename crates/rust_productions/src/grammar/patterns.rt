@@ -5,13 +5,15 @@ ghost use Rattle.rust_productions.specs.Looks.{tokens, Peeks};
 ghost use Rattle.rust_grammar.specs.Shared.{field_name};
 ghost use Rattle.rust_grammar.specs.Words.{':'};
 ghost use Rattle.rust_grammar.specs.Notation.{◌▹◌};
+ghost use Rattle.rust_grammar.specs.Patterns as rows;
 ghost use Rattle.rust_grammar.specs.Rule as rules;
 ghost use Rattle.rust_grammar.specs.Rule.{begins, One};
 ghost use Rattle.rust_productions.specs.Reads.{looks, Saw};
 
 use crate::grammar::names::at_literal;
+use crate::grammar::operators::at_joint;
 use crate::grammar::paths::at_path;
-use crate::grammar::{at, at_pair, at_second, current};
+use crate::grammar::{at, at_new, at_pair, at_second, at_whole, current};
 use parser_events::parser::Parser;
 use parser_input::syntax_kind::SyntaxKind;
 
@@ -30,9 +32,6 @@ pub fn at_single_pattern(p: &mut Parser<'_>) -> bool
     if at_literal(p) {
         return true;
     }
-    if at_pair(p, SyntaxKind::DOT, SyntaxKind::DOT) {
-        return true;
-    }
     match current(p) {
         SyntaxKind::MINUS
         | SyntaxKind::UNDERSCORE
@@ -41,6 +40,21 @@ pub fn at_single_pattern(p: &mut Parser<'_>) -> bool
         | SyntaxKind::L_BRACK
         | SyntaxKind::REF_KW
         | SyntaxKind::MUT_KW => true,
+        SyntaxKind::DOT => {
+            if !at_joint(p) {
+                return false;
+            }
+            if at_second(p, SyntaxKind::DOT) {
+                return true;
+            }
+            false
+        }
+        SyntaxKind::L_ANGLE => {
+            if at_whole(p) {
+                return true;
+            }
+            false
+        }
         _ => false,
     }
 }
@@ -75,12 +89,33 @@ pub fn at_named_field(p: &mut Parser<'_>) -> bool
     }
 }
 
+/// Returns `true` if the name or the number of a field is next, with a colon after it. The field has
+/// attributes.
+pub fn at_attributed_named_field(p: &mut Parser<'_>) -> bool
+    ensures sees { (c : Bool) → Saw c rows.named_field_begins p.old result }
+    ensures some { IsTrue result → 2 ≤ tokens p.old }
+    ensures peeks { Peeks 2 p.old p.new }
+{
+    match current(p) {
+        SyntaxKind::IDENT | SyntaxKind::INT_NUMBER => {
+            if at_second(p, SyntaxKind::COLON) {
+                return true;
+            }
+            false
+        }
+        _ => false,
+    }
+}
+
 /// Returns `true` if a field of a record pattern starts here.
 pub fn at_pattern_field(p: &mut Parser<'_>) -> bool
     ensures sees { (c : Bool) → Saw c (looks rules.pattern_field) p.old result }
     ensures some { IsTrue result → 1 ≤ tokens p.old }
-    ensures peeks { Peeks 5 p.old p.new }
+    ensures peeks { Peeks 6 p.old p.new }
 {
+    if at_new(p, SyntaxKind::POUND) {
+        return true;
+    }
     if at_pair(p, SyntaxKind::DOT, SyntaxKind::DOT) {
         return true;
     }

@@ -1,15 +1,19 @@
 //! Types.
 
-ghost use Rattle.std.specs.Prelude.{◌≤◌, Bool, IsTrue, true};
+ghost use Rattle.std.specs.Prelude.{◌≤◌, Bool, IsTrue, true, [], ◌∷◌};
 ghost use Rattle.parser_input.specs.Kinds as kinds;
 ghost use Rattle.rust_productions.specs.Looks.{tokens, Peeks};
 ghost use Rattle.rust_grammar.specs.Rule as rules;
-ghost use Rattle.rust_grammar.specs.Notation.{wide};
+ghost use Rattle.rust_grammar.specs.Notation.{one_of, wide};
+ghost use Rattle.rust_grammar.specs.Rule.{begins};
+ghost use Rattle.rust_grammar.specs.Words.{'ident', '_'};
 ghost use Rattle.rust_grammar.specs.Types as rows;
 ghost use Rattle.rust_productions.specs.Reads.{looks, Saw};
 
 use crate::grammar::paths::at_path;
-use crate::grammar::{at_contextual, at_second, at_third, at_whole, current, nth};
+use crate::grammar::{
+    at_contextual, at_dots_dot, at_new, at_pair_after, at_second, at_third, at_whole, current, nth,
+};
 use parser_events::parser::Parser;
 use parser_input::syntax_kind::SyntaxKind;
 
@@ -60,12 +64,33 @@ pub fn at_dyn_word(p: &mut Parser<'_>) -> bool
     }
 }
 
+/// Returns `true` if a function pointer type starts here.
+pub fn at_fn_ptr(p: &mut Parser<'_>) -> bool
+    ensures sees { (c : Bool) → Saw c rows.fn_ptr_begins p.old result }
+    ensures some { IsTrue result → 1 ≤ tokens p.old }
+    ensures peeks { Peeks 3 p.old p.new }
+{
+    match current(p) {
+        SyntaxKind::FN_KW | SyntaxKind::EXTERN_KW => true,
+        SyntaxKind::UNSAFE_KW => {
+            if at_second(p, SyntaxKind::FN_KW) {
+                return true;
+            }
+            if at_second(p, SyntaxKind::EXTERN_KW) {
+                return true;
+            }
+            false
+        }
+        _ => false,
+    }
+}
+
 /// Returns `true` if a type starts here that only the whole language has, or that may have bounds
 /// after it there.
 pub fn at_new_type(p: &mut Parser<'_>) -> bool
     ensures sees { (c : Bool) → Saw c (wide rows.new_type_begins) p.old result }
     ensures some { IsTrue result → 1 ≤ tokens p.old }
-    ensures peeks { Peeks 5 p.old p.new }
+    ensures peeks { Peeks 7 p.old p.new }
 {
     if !at_whole(p) {
         return false;
@@ -87,7 +112,12 @@ pub fn at_new_type(p: &mut Parser<'_>) -> bool
             }
             false
         }
-        _ => false,
+        _ => {
+            if at_fn_ptr(p) {
+                return true;
+            }
+            false
+        }
     }
 }
 
@@ -158,6 +188,58 @@ pub fn at_type_no_bounds(p: &mut Parser<'_>) -> bool
     ensures peeks { Peeks 24 p.old p.new }
 {
     if at_bare_type(p) {
+        return true;
+    }
+    if at_type(p) {
+        return true;
+    }
+    false
+}
+
+/// Returns `true` if an identifier or a `_` is next.
+fn at_ident_or_underscore(p: &mut Parser<'_>) -> bool
+    ensures sees { (c : Bool) → Saw c (one_of 0 ('ident' ∷ '_' ∷ [])) p.old result }
+    ensures pattern { IsTrue result → (c : Bool) → Saw c (looks rules.single_pattern) p.old true }
+    ensures some { IsTrue result → 1 ≤ tokens p.old }
+    ensures peeks { Peeks 1 p.old p.new }
+{
+    match current(p) {
+        SyntaxKind::IDENT | SyntaxKind::UNDERSCORE => true,
+        _ => false,
+    }
+}
+
+/// Returns `true` if a parameter of a function pointer type starts here with a name.
+pub fn at_named_param(p: &mut Parser<'_>) -> bool
+    ensures sees { (c : Bool) → Saw c rows.named_param_begins p.old result }
+    ensures pattern { IsTrue result → (c : Bool) → Saw c (looks rules.single_pattern) p.old true }
+    ensures some { IsTrue result → 1 ≤ tokens p.old }
+    ensures peeks { Peeks 4 p.old p.new }
+{
+    if !at_ident_or_underscore(p) {
+        return false;
+    }
+    if !at_second(p, SyntaxKind::COLON) {
+        return false;
+    }
+    if at_pair_after(p, SyntaxKind::COLON, SyntaxKind::COLON) {
+        return false;
+    }
+    true
+}
+
+/// Returns `true` if a parameter of a function pointer type starts here.
+pub fn at_fn_ptr_param(p: &mut Parser<'_>) -> bool
+    ensures sees { (c : Bool) → Saw c (begins looks rows.fn_ptr_param) p.old result }
+    ensures peeks { Peeks 24 p.old p.new }
+{
+    if at_new(p, SyntaxKind::POUND) {
+        return true;
+    }
+    if at_dots_dot(p) {
+        return true;
+    }
+    if at_named_param(p) {
         return true;
     }
     if at_type(p) {

@@ -4,7 +4,7 @@ ghost use Rattle.std.specs.Prelude.{◌*◌, ◌≤◌, Bool, true, false, IsTru
 ghost use Rattle.parser_input.specs.Kinds as kinds;
 ghost use Rattle.parser_input.specs.Kinds.{USE_TREE, USE_TREE_LIST};
 ghost use Rattle.rust_productions.specs.Looks.{tokens, Takes, Asks, Peeks};
-ghost use Rattle.rust_grammar.specs.Notation.{◌*, ◌!, one_of, until, list_element, unexpected};
+ghost use Rattle.rust_grammar.specs.Notation.{⁅◌⁆, ◌*, ◌!, one_of, until, list_element, unexpected};
 ghost use Rattle.rust_grammar.specs.Words.{'l_curly', 'r_curly', '*'};
 ghost use Rattle.rust_grammar.specs.Calls.{UseTree};
 ghost use Rattle.rust_grammar.specs.Items.{after_use};
@@ -84,6 +84,17 @@ fn rename(p: &mut Parser<'_>)
     take(p, SyntaxKind::AS_KW);
     underscore_or_name(p);
     complete(p, rename, SyntaxKind::RENAME);
+}
+
+/// Parses an optional rename.
+// as b
+pub(crate) fn opt_rename(p: &mut Parser<'_>)
+    ensures reads { (c : Bool) → Reads c ⁅ rows.rename ⁆ p.old p.new }
+    ensures asks { Asks 1 p.old p.new }
+{
+    if at(p, SyntaxKind::AS_KW) {
+        rename(p);
+    }
 }
 
 /// Parses `_` or a name; emits an error if there is neither.

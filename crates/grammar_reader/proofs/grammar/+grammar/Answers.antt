@@ -8,6 +8,7 @@ mod Consts
 mod Control
 mod Expressions
 mod Fields
+mod FnPointers
 mod Functions
 mod GenericArgs
 mod GenericParams
@@ -17,10 +18,12 @@ mod Lists
 mod MatchArm
 mod Members
 mod NewBounds
+mod NewItems
 mod NewParams
 mod Operand
 mod Params
 mod Paths
+mod PatternRanges
 mod Patterns
 mod Statements
 mod Traits
@@ -53,6 +56,9 @@ use Rattle.grammar_reader.proofs.grammar.+grammar.Answers.Patterns as patterns
 use Rattle.grammar_reader.proofs.grammar.+grammar.Answers.Statements as statements
 use Rattle.grammar_reader.proofs.grammar.+grammar.Answers.Traits as traits
 use Rattle.grammar_reader.proofs.grammar.+grammar.Answers.Types as types
+use Rattle.grammar_reader.proofs.grammar.+grammar.Answers.FnPointers as fn_pointers
+use Rattle.grammar_reader.proofs.grammar.+grammar.Answers.PatternRanges as pattern_ranges
+use Rattle.grammar_reader.proofs.grammar.+grammar.Answers.NewItems as new_items
 
 pub items::adt::struct_item-complete-requires : goal.items::adt::struct_item-complete-requires
 items::adt::struct_item-complete-requires = adt.items::adt::struct_item-complete-requires
@@ -312,21 +318,6 @@ attributes::attribute-complete-requires = attributes.attributes::attribute-compl
 pub attributes::attribute-returns-clause-gives : goal.attributes::attribute-returns-clause-gives
 attributes::attribute-returns-clause-gives = attributes.attributes::attribute-returns-clause-gives
 
-pub attributes::expect_meta-meta-requires : goal.attributes::expect_meta-meta-requires
-attributes::expect_meta-meta-requires = attributes.attributes::expect_meta-meta-requires
-
-pub attributes::expect_meta-returns-then-at_path-clause-reads : goal.attributes::expect_meta-returns-then-at_path-clause-reads
-attributes::expect_meta-returns-then-at_path-clause-reads = attributes.attributes::expect_meta-returns-then-at_path-clause-reads
-
-pub attributes::expect_meta-returns-clause-reads : goal.attributes::expect_meta-returns-clause-reads
-attributes::expect_meta-returns-clause-reads = attributes.attributes::expect_meta-returns-clause-reads
-
-pub attributes::meta-complete-requires : goal.attributes::meta-complete-requires
-attributes::meta-complete-requires = attributes.attributes::meta-complete-requires
-
-pub attributes::meta-returns-clause-gives : goal.attributes::meta-returns-clause-gives
-attributes::meta-returns-clause-gives = attributes.attributes::meta-returns-clause-gives
-
 pub attributes::opt_value-returns-then-at-clause-reads : goal.attributes::opt_value-returns-then-at-clause-reads
 attributes::opt_value-returns-then-at-clause-reads = attributes.attributes::opt_value-returns-then-at-clause-reads
 
@@ -366,12 +357,6 @@ expressions::blocks::block-complete-requires = blocks.expressions::blocks::block
 pub expressions::blocks::block-returns-clause-gives : goal.expressions::blocks::block-returns-clause-gives
 expressions::blocks::block-returns-clause-gives = blocks.expressions::blocks::block-returns-clause-gives
 
-pub items::consts::const_item-complete-requires : goal.items::consts::const_item-complete-requires
-items::consts::const_item-complete-requires = consts.items::consts::const_item-complete-requires
-
-pub items::consts::const_item-returns-clause-completes : goal.items::consts::const_item-returns-clause-completes
-items::consts::const_item-returns-clause-completes = consts.items::consts::const_item-returns-clause-completes
-
 pub items::consts::static_item-complete-requires : goal.items::consts::static_item-complete-requires
 items::consts::static_item-complete-requires = consts.items::consts::static_item-complete-requires
 
@@ -386,12 +371,6 @@ items::consts::opt_value-returns-then-at-clause-reads = consts.items::consts::op
 
 pub items::consts::opt_value-returns-else-at-clause-reads : goal.items::consts::opt_value-returns-else-at-clause-reads
 items::consts::opt_value-returns-else-at-clause-reads = consts.items::consts::opt_value-returns-else-at-clause-reads
-
-pub items::consts::type_alias-complete-requires : goal.items::consts::type_alias-complete-requires
-items::consts::type_alias-complete-requires = consts.items::consts::type_alias-complete-requires
-
-pub items::consts::type_alias-returns-clause-completes : goal.items::consts::type_alias-returns-clause-completes
-items::consts::type_alias-returns-clause-completes = consts.items::consts::type_alias-returns-clause-completes
 
 pub expressions::control::block_like-returns-in-L_CURLY-clause-gives : goal.expressions::control::block_like-returns-in-L_CURLY-clause-gives
 expressions::control::block_like-returns-in-L_CURLY-clause-gives = control.expressions::control::block_like-returns-in-L_CURLY-clause-gives
@@ -693,21 +672,6 @@ fields::path_value-complete-requires-2 = fields.fields::path_value-complete-requ
 pub fields::path_value-returns-clause-reads : goal.fields::path_value-returns-clause-reads
 fields::path_value-returns-clause-reads = fields.fields::path_value-returns-clause-reads
 
-pub fields::pattern_field-returns-then-at_pair-clause-gives : goal.fields::pattern_field-returns-then-at_pair-clause-gives
-fields::pattern_field-returns-then-at_pair-clause-gives = fields.fields::pattern_field-returns-then-at_pair-clause-gives
-
-pub fields::pattern_field-named_pattern-requires : goal.fields::pattern_field-named_pattern-requires
-fields::pattern_field-named_pattern-requires = fields.fields::pattern_field-named_pattern-requires
-
-pub fields::pattern_field-returns-then-at_named_field-clause-gives : goal.fields::pattern_field-returns-then-at_named_field-clause-gives
-fields::pattern_field-returns-then-at_named_field-clause-gives = fields.fields::pattern_field-returns-then-at_named_field-clause-gives
-
-pub fields::pattern_field-shorthand-requires-clause-begins : goal.fields::pattern_field-shorthand-requires-clause-begins
-fields::pattern_field-shorthand-requires-clause-begins = fields.fields::pattern_field-shorthand-requires-clause-begins
-
-pub fields::pattern_field-returns-clause-gives : goal.fields::pattern_field-returns-clause-gives
-fields::pattern_field-returns-clause-gives = fields.fields::pattern_field-returns-clause-gives
-
 pub fields::named_pattern-complete-requires : goal.fields::named_pattern-complete-requires
 fields::named_pattern-complete-requires = fields.fields::named_pattern-complete-requires
 
@@ -716,12 +680,6 @@ fields::named_pattern-returns-clause-reads = fields.fields::named_pattern-return
 
 pub items::functions::fn_item-fn_words-requires : goal.items::functions::fn_item-fn_words-requires
 items::functions::fn_item-fn_words-requires = functions.items::functions::fn_item-fn_words-requires
-
-pub items::functions::fn_item-complete-requires : goal.items::functions::fn_item-complete-requires
-items::functions::fn_item-complete-requires = functions.items::functions::fn_item-complete-requires
-
-pub items::functions::fn_item-returns-clause-completes : goal.items::functions::fn_item-returns-clause-completes
-items::functions::fn_item-returns-clause-completes = functions.items::functions::fn_item-returns-clause-completes
 
 pub items::functions::expect_params-returns-then-at-clause-reads : goal.items::functions::expect_params-returns-then-at-clause-reads
 items::functions::expect_params-returns-then-at-clause-reads = functions.items::functions::expect_params-returns-then-at-clause-reads
@@ -1128,80 +1086,80 @@ items::attributes-turns-preserved = items.items::attributes-turns-preserved
 pub items::attributes-returns-clause-reads : goal.items::attributes-returns-clause-reads
 items::attributes-returns-clause-reads = items.items::attributes-returns-clause-reads
 
-pub items::body-module-requires : goal.items::body-module-requires
-items::body-module-requires = items.items::body-module-requires
+pub items::plain_body-module-requires : goal.items::plain_body-module-requires
+items::plain_body-module-requires = items.items::plain_body-module-requires
 
-pub items::body-returns-in-MOD_KW-clause-completes : goal.items::body-returns-in-MOD_KW-clause-completes
-items::body-returns-in-MOD_KW-clause-completes = items.items::body-returns-in-MOD_KW-clause-completes
+pub items::plain_body-returns-in-MOD_KW-clause-completes : goal.items::plain_body-returns-in-MOD_KW-clause-completes
+items::plain_body-returns-in-MOD_KW-clause-completes = items.items::plain_body-returns-in-MOD_KW-clause-completes
 
-pub items::body-use_item-requires : goal.items::body-use_item-requires
-items::body-use_item-requires = items.items::body-use_item-requires
+pub items::plain_body-use_item-requires : goal.items::plain_body-use_item-requires
+items::plain_body-use_item-requires = items.items::plain_body-use_item-requires
 
-pub items::body-returns-in-USE_KW-clause-completes : goal.items::body-returns-in-USE_KW-clause-completes
-items::body-returns-in-USE_KW-clause-completes = items.items::body-returns-in-USE_KW-clause-completes
+pub items::plain_body-returns-in-USE_KW-clause-completes : goal.items::plain_body-returns-in-USE_KW-clause-completes
+items::plain_body-returns-in-USE_KW-clause-completes = items.items::plain_body-returns-in-USE_KW-clause-completes
 
-pub items::body-struct_item-requires : goal.items::body-struct_item-requires
-items::body-struct_item-requires = items.items::body-struct_item-requires
+pub items::plain_body-struct_item-requires : goal.items::plain_body-struct_item-requires
+items::plain_body-struct_item-requires = items.items::plain_body-struct_item-requires
 
-pub items::body-returns-in-STRUCT_KW-clause-completes : goal.items::body-returns-in-STRUCT_KW-clause-completes
-items::body-returns-in-STRUCT_KW-clause-completes = items.items::body-returns-in-STRUCT_KW-clause-completes
+pub items::plain_body-returns-in-STRUCT_KW-clause-completes : goal.items::plain_body-returns-in-STRUCT_KW-clause-completes
+items::plain_body-returns-in-STRUCT_KW-clause-completes = items.items::plain_body-returns-in-STRUCT_KW-clause-completes
 
-pub items::body-enum_item-requires : goal.items::body-enum_item-requires
-items::body-enum_item-requires = items.items::body-enum_item-requires
+pub items::plain_body-enum_item-requires : goal.items::plain_body-enum_item-requires
+items::plain_body-enum_item-requires = items.items::plain_body-enum_item-requires
 
-pub items::body-returns-in-ENUM_KW-clause-completes : goal.items::body-returns-in-ENUM_KW-clause-completes
-items::body-returns-in-ENUM_KW-clause-completes = items.items::body-returns-in-ENUM_KW-clause-completes
+pub items::plain_body-returns-in-ENUM_KW-clause-completes : goal.items::plain_body-returns-in-ENUM_KW-clause-completes
+items::plain_body-returns-in-ENUM_KW-clause-completes = items.items::plain_body-returns-in-ENUM_KW-clause-completes
 
-pub items::body-static_item-requires : goal.items::body-static_item-requires
-items::body-static_item-requires = items.items::body-static_item-requires
+pub items::plain_body-static_item-requires : goal.items::plain_body-static_item-requires
+items::plain_body-static_item-requires = items.items::plain_body-static_item-requires
 
-pub items::body-returns-in-STATIC_KW-clause-completes : goal.items::body-returns-in-STATIC_KW-clause-completes
-items::body-returns-in-STATIC_KW-clause-completes = items.items::body-returns-in-STATIC_KW-clause-completes
+pub items::plain_body-returns-in-STATIC_KW-clause-completes : goal.items::plain_body-returns-in-STATIC_KW-clause-completes
+items::plain_body-returns-in-STATIC_KW-clause-completes = items.items::plain_body-returns-in-STATIC_KW-clause-completes
 
-pub items::body-type_alias-requires : goal.items::body-type_alias-requires
-items::body-type_alias-requires = items.items::body-type_alias-requires
+pub items::plain_body-type_alias-requires : goal.items::plain_body-type_alias-requires
+items::plain_body-type_alias-requires = items.items::plain_body-type_alias-requires
 
-pub items::body-returns-in-TYPE_KW-clause-completes : goal.items::body-returns-in-TYPE_KW-clause-completes
-items::body-returns-in-TYPE_KW-clause-completes = items.items::body-returns-in-TYPE_KW-clause-completes
+pub items::plain_body-returns-in-TYPE_KW-clause-completes : goal.items::plain_body-returns-in-TYPE_KW-clause-completes
+items::plain_body-returns-in-TYPE_KW-clause-completes = items.items::plain_body-returns-in-TYPE_KW-clause-completes
 
-pub items::body-returns-then-at_fn-clause-completes : goal.items::body-returns-then-at_fn-clause-completes
-items::body-returns-then-at_fn-clause-completes = items.items::body-returns-then-at_fn-clause-completes
+pub items::plain_body-returns-then-at_fn-clause-completes : goal.items::plain_body-returns-then-at_fn-clause-completes
+items::plain_body-returns-then-at_fn-clause-completes = items.items::plain_body-returns-then-at_fn-clause-completes
 
-pub items::body-fn_item-requires : goal.items::body-fn_item-requires
-items::body-fn_item-requires = items.items::body-fn_item-requires
+pub items::plain_body-fn_item-requires : goal.items::plain_body-fn_item-requires
+items::plain_body-fn_item-requires = items.items::plain_body-fn_item-requires
 
-pub items::body-returns-then-at-clause-completes : goal.items::body-returns-then-at-clause-completes
-items::body-returns-then-at-clause-completes = items.items::body-returns-then-at-clause-completes
+pub items::plain_body-returns-then-at-clause-completes : goal.items::plain_body-returns-then-at-clause-completes
+items::plain_body-returns-then-at-clause-completes = items.items::plain_body-returns-then-at-clause-completes
 
-pub items::body-const_item-requires : goal.items::body-const_item-requires
-items::body-const_item-requires = items.items::body-const_item-requires
+pub items::plain_body-const_item-requires : goal.items::plain_body-const_item-requires
+items::plain_body-const_item-requires = items.items::plain_body-const_item-requires
 
-pub items::body-returns-then-at_unsafe-clause-completes : goal.items::body-returns-then-at_unsafe-clause-completes
-items::body-returns-then-at_unsafe-clause-completes = items.items::body-returns-then-at_unsafe-clause-completes
+pub items::plain_body-returns-then-at_unsafe-clause-completes : goal.items::plain_body-returns-then-at_unsafe-clause-completes
+items::plain_body-returns-then-at_unsafe-clause-completes = items.items::plain_body-returns-then-at_unsafe-clause-completes
 
-pub items::body-impl_item-requires : goal.items::body-impl_item-requires
-items::body-impl_item-requires = items.items::body-impl_item-requires
+pub items::plain_body-impl_item-requires : goal.items::plain_body-impl_item-requires
+items::plain_body-impl_item-requires = items.items::plain_body-impl_item-requires
 
-pub items::body-returns-then-at_unsafe-2-clause-completes : goal.items::body-returns-then-at_unsafe-2-clause-completes
-items::body-returns-then-at_unsafe-2-clause-completes = items.items::body-returns-then-at_unsafe-2-clause-completes
+pub items::plain_body-returns-then-at_unsafe-2-clause-completes : goal.items::plain_body-returns-then-at_unsafe-2-clause-completes
+items::plain_body-returns-then-at_unsafe-2-clause-completes = items.items::plain_body-returns-then-at_unsafe-2-clause-completes
 
-pub items::body-trait_item-requires : goal.items::body-trait_item-requires
-items::body-trait_item-requires = items.items::body-trait_item-requires
+pub items::plain_body-trait_item-requires : goal.items::plain_body-trait_item-requires
+items::plain_body-trait_item-requires = items.items::plain_body-trait_item-requires
 
-pub items::body-returns-then-at_path-clause-completes : goal.items::body-returns-then-at_path-clause-completes
-items::body-returns-then-at_path-clause-completes = items.items::body-returns-then-at_path-clause-completes
+pub items::plain_body-returns-then-at_path-clause-completes : goal.items::plain_body-returns-then-at_path-clause-completes
+items::plain_body-returns-then-at_path-clause-completes = items.items::plain_body-returns-then-at_path-clause-completes
 
-pub items::body-path_item-requires : goal.items::body-path_item-requires
-items::body-path_item-requires = items.items::body-path_item-requires
+pub items::plain_body-path_item-requires : goal.items::plain_body-path_item-requires
+items::plain_body-path_item-requires = items.items::plain_body-path_item-requires
 
-pub items::body-returns-else-at_path-clause-completes : goal.items::body-returns-else-at_path-clause-completes
-items::body-returns-else-at_path-clause-completes = items.items::body-returns-else-at_path-clause-completes
+pub items::plain_body-returns-else-at_path-clause-completes : goal.items::plain_body-returns-else-at_path-clause-completes
+items::plain_body-returns-else-at_path-clause-completes = items.items::plain_body-returns-else-at_path-clause-completes
 
-pub items::body-no_item-requires : goal.items::body-no_item-requires
-items::body-no_item-requires = items.items::body-no_item-requires
+pub items::plain_body-no_item-requires : goal.items::plain_body-no_item-requires
+items::plain_body-no_item-requires = items.items::plain_body-no_item-requires
 
-pub items::body-returns-else-at_path-clause-takes : goal.items::body-returns-else-at_path-clause-takes
-items::body-returns-else-at_path-clause-takes = items.items::body-returns-else-at_path-clause-takes
+pub items::plain_body-returns-else-at_path-clause-takes : goal.items::plain_body-returns-else-at_path-clause-takes
+items::plain_body-returns-else-at_path-clause-takes = items.items::plain_body-returns-else-at_path-clause-takes
 
 pub items::module-complete-requires : goal.items::module-complete-requires
 items::module-complete-requires = items.items::module-complete-requires
@@ -1500,24 +1458,6 @@ expressions::match_arm::arm_value-returns-then-at_block_like-clause-reads = matc
 pub expressions::match_arm::arm_value-returns-clause-reads : goal.expressions::match_arm::arm_value-returns-clause-reads
 expressions::match_arm::arm_value-returns-clause-reads = match_arm.expressions::match_arm::arm_value-returns-clause-reads
 
-pub items::members::variant-named-requires : goal.items::members::variant-named-requires
-items::members::variant-named-requires = members.items::members::variant-named-requires
-
-pub items::members::variant-complete-requires : goal.items::members::variant-complete-requires
-items::members::variant-complete-requires = members.items::members::variant-complete-requires
-
-pub items::members::variant-returns-clause-reads : goal.items::members::variant-returns-clause-reads
-items::members::variant-returns-clause-reads = members.items::members::variant-returns-clause-reads
-
-pub items::members::record_field-named-requires : goal.items::members::record_field-named-requires
-items::members::record_field-named-requires = members.items::members::record_field-named-requires
-
-pub items::members::record_field-complete-requires : goal.items::members::record_field-complete-requires
-items::members::record_field-complete-requires = members.items::members::record_field-complete-requires
-
-pub items::members::record_field-returns-clause-reads : goal.items::members::record_field-returns-clause-reads
-items::members::record_field-returns-clause-reads = members.items::members::record_field-returns-clause-reads
-
 pub items::members::tuple_field-typed-requires : goal.items::members::tuple_field-typed-requires
 items::members::tuple_field-typed-requires = members.items::members::tuple_field-typed-requires
 
@@ -1692,27 +1632,6 @@ expressions::operand::float-returns-then-joint-clause-reads = operand.expression
 pub expressions::operand::float-returns-clause-reads : goal.expressions::operand::float-returns-clause-reads
 expressions::operand::float-returns-clause-reads = operand.expressions::operand::float-returns-clause-reads
 
-pub params::param-self_param-requires : goal.params::param-self_param-requires
-params::param-self_param-requires = params.params::param-self_param-requires
-
-pub params::param-returns-then-at_self-clause-gives : goal.params::param-returns-then-at_self-clause-gives
-params::param-returns-then-at_self-clause-gives = params.params::param-returns-then-at_self-clause-gives
-
-pub params::param-pattern_param-requires : goal.params::param-pattern_param-requires
-params::param-pattern_param-requires = params.params::param-pattern_param-requires
-
-pub params::param-returns-clause-gives : goal.params::param-returns-clause-gives
-params::param-returns-clause-gives = params.params::param-returns-clause-gives
-
-pub params::pattern_param-pattern-requires : goal.params::pattern_param-pattern-requires
-params::pattern_param-pattern-requires = params.params::pattern_param-pattern-requires
-
-pub params::pattern_param-complete-requires : goal.params::pattern_param-complete-requires
-params::pattern_param-complete-requires = params.params::pattern_param-complete-requires
-
-pub params::pattern_param-returns-clause-reads : goal.params::pattern_param-returns-clause-reads
-params::pattern_param-returns-clause-reads = params.params::pattern_param-returns-clause-reads
-
 pub params::self_param-returns-in-AMP-clause-gives : goal.params::self_param-returns-in-AMP-clause-gives
 params::self_param-returns-in-AMP-clause-gives = params.params::self_param-returns-in-AMP-clause-gives
 
@@ -1796,12 +1715,6 @@ paths::opt_generic_args-returns-then-at_generic_args-clause-reads = paths.paths:
 
 pub paths::opt_generic_args-returns-else-at_generic_args-clause-reads : goal.paths::opt_generic_args-returns-else-at_generic_args-clause-reads
 paths::opt_generic_args-returns-else-at_generic_args-clause-reads = paths.paths::opt_generic_args-returns-else-at_generic_args-clause-reads
-
-pub patterns::single_pattern-inside-frame-requires : goal.patterns::single_pattern-inside-frame-requires
-patterns::single_pattern-inside-frame-requires = patterns.patterns::single_pattern-inside-frame-requires
-
-pub patterns::single_pattern-returns-clause-gives : goal.patterns::single_pattern-returns-clause-gives
-patterns::single_pattern-returns-clause-gives = patterns.patterns::single_pattern-returns-clause-gives
 
 pub patterns::inside-returns-in-MINUS-clause-reads : goal.patterns::inside-returns-in-MINUS-clause-reads
 patterns::inside-returns-in-MINUS-clause-reads = patterns.patterns::inside-returns-in-MINUS-clause-reads
@@ -1946,24 +1859,6 @@ patterns::path_pat-after_path-requires = patterns.patterns::path_pat-after_path-
 
 pub patterns::path_pat-returns-clause-reads : goal.patterns::path_pat-returns-clause-reads
 patterns::path_pat-returns-clause-reads = patterns.patterns::path_pat-returns-clause-reads
-
-pub patterns::after_path-wrap-requires : goal.patterns::after_path-wrap-requires
-patterns::after_path-wrap-requires = patterns.patterns::after_path-wrap-requires
-
-pub patterns::after_path-wrap-requires-then-at-2 : goal.patterns::after_path-wrap-requires-then-at-2
-patterns::after_path-wrap-requires-then-at-2 = patterns.patterns::after_path-wrap-requires-then-at-2
-
-pub patterns::after_path-wrap-requires-2 : goal.patterns::after_path-wrap-requires-2
-patterns::after_path-wrap-requires-2 = patterns.patterns::after_path-wrap-requires-2
-
-pub patterns::after_path-returns-then-at-clause-reads : goal.patterns::after_path-returns-then-at-clause-reads
-patterns::after_path-returns-then-at-clause-reads = patterns.patterns::after_path-returns-then-at-clause-reads
-
-pub patterns::after_path-returns-then-at-2-clause-reads : goal.patterns::after_path-returns-then-at-2-clause-reads
-patterns::after_path-returns-then-at-2-clause-reads = patterns.patterns::after_path-returns-then-at-2-clause-reads
-
-pub patterns::after_path-returns-clause-reads : goal.patterns::after_path-returns-clause-reads
-patterns::after_path-returns-clause-reads = patterns.patterns::after_path-returns-clause-reads
 
 pub or_patterns::pattern-alternatives-frame-requires : goal.or_patterns::pattern-alternatives-frame-requires
 or_patterns::pattern-alternatives-frame-requires = patterns.or_patterns::pattern-alternatives-frame-requires
@@ -2115,20 +2010,8 @@ statements::ended_expression-returns-clause-anew = statements.statements::ended_
 pub items::traits::impl_item-unsafe_word-requires : goal.items::traits::impl_item-unsafe_word-requires
 items::traits::impl_item-unsafe_word-requires = traits.items::traits::impl_item-unsafe_word-requires
 
-pub items::traits::impl_item-complete-requires : goal.items::traits::impl_item-complete-requires
-items::traits::impl_item-complete-requires = traits.items::traits::impl_item-complete-requires
-
-pub items::traits::impl_item-returns-clause-completes : goal.items::traits::impl_item-returns-clause-completes
-items::traits::impl_item-returns-clause-completes = traits.items::traits::impl_item-returns-clause-completes
-
 pub items::traits::trait_item-unsafe_word-requires : goal.items::traits::trait_item-unsafe_word-requires
 items::traits::trait_item-unsafe_word-requires = traits.items::traits::trait_item-unsafe_word-requires
-
-pub items::traits::trait_item-complete-requires : goal.items::traits::trait_item-complete-requires
-items::traits::trait_item-complete-requires = traits.items::traits::trait_item-complete-requires
-
-pub items::traits::trait_item-returns-clause-completes : goal.items::traits::trait_item-returns-clause-completes
-items::traits::trait_item-returns-clause-completes = traits.items::traits::trait_item-returns-clause-completes
 
 pub items::traits::expect_assoc_items-returns-then-at-clause-reads : goal.items::traits::expect_assoc_items-returns-then-at-clause-reads
 items::traits::expect_assoc_items-returns-then-at-clause-reads = traits.items::traits::expect_assoc_items-returns-then-at-clause-reads
@@ -2259,9 +2142,6 @@ types::opt_type_after-returns-then-at-clause-reads = types.types::opt_type_after
 pub types::opt_type_after-returns-else-at-clause-reads : goal.types::opt_type_after-returns-else-at-clause-reads
 types::opt_type_after-returns-else-at-clause-reads = types.types::opt_type_after-returns-else-at-clause-reads
 
-pub attributes::meta-path-requires : goal.attributes::meta-path-requires
-attributes::meta-path-requires = attributes.attributes::meta-path-requires
-
 pub expressions::control::arm_turn-returns-then-at_pattern-clause-keeps : goal.expressions::control::arm_turn-returns-then-at_pattern-clause-keeps
 expressions::control::arm_turn-returns-then-at_pattern-clause-keeps = control.expressions::control::arm_turn-returns-then-at_pattern-clause-keeps
 
@@ -2343,18 +2223,6 @@ types::expect_type_no_bounds-returns-then-at_type_no_bounds-clause-reads = types
 pub types::expect_type_no_bounds-returns-clause-reads : goal.types::expect_type_no_bounds-returns-clause-reads
 types::expect_type_no_bounds-returns-clause-reads = types.types::expect_type_no_bounds-returns-clause-reads
 
-pub types::new_type-returns-then-at-clause-reads : goal.types::new_type-returns-then-at-clause-reads
-types::new_type-returns-then-at-clause-reads = types.types::new_type-returns-then-at-clause-reads
-
-pub types::new_type-returns-then-at-clause-takes : goal.types::new_type-returns-then-at-clause-takes
-types::new_type-returns-then-at-clause-takes = types.types::new_type-returns-then-at-clause-takes
-
-pub types::new_type-for_or_path-frame-requires : goal.types::new_type-for_or_path-frame-requires
-types::new_type-for_or_path-frame-requires = types.types::new_type-for_or_path-frame-requires
-
-pub types::new_type-returns-clause-reads : goal.types::new_type-returns-clause-reads
-types::new_type-returns-clause-reads = types.types::new_type-returns-clause-reads
-
 pub types::for_or_path-returns-then-at-clause-reads : goal.types::for_or_path-returns-then-at-clause-reads
 types::for_or_path-returns-then-at-clause-reads = types.types::for_or_path-returns-then-at-clause-reads
 
@@ -2423,12 +2291,6 @@ types::inside-returns-else-at_new_type = types.types::inside-returns-else-at_new
 
 pub types::expect_type-any_type-requires : goal.types::expect_type-any_type-requires
 types::expect_type-any_type-requires = types.types::expect_type-any_type-requires
-
-pub paths::fn_args-paren_args-requires : goal.paths::fn_args-paren_args-requires
-paths::fn_args-paren_args-requires = paths.paths::fn_args-paren_args-requires
-
-pub paths::fn_args-returns-clause-reads : goal.paths::fn_args-returns-clause-reads
-paths::fn_args-returns-clause-reads = paths.paths::fn_args-returns-clause-reads
 
 pub paths::paren_args-opt_colons_before_paren-requires : goal.paths::paren_args-opt_colons_before_paren-requires
 paths::paren_args-opt_colons_before_paren-requires = paths.paths::paren_args-opt_colons_before_paren-requires
@@ -2609,3 +2471,759 @@ lists::read_element-type_arg-requires = lists.lists::read_element-type_arg-requi
 
 pub lists::read_element-returns-in-TypeArg-clause-reads : goal.lists::read_element-returns-in-TypeArg-clause-reads
 lists::read_element-returns-in-TypeArg-clause-reads = lists.lists::read_element-returns-in-TypeArg-clause-reads
+
+pub types::new_type-returns-then-at-clause-reads : goal.types::new_type-returns-then-at-clause-reads
+types::new_type-returns-then-at-clause-reads = types.types::new_type-returns-then-at-clause-reads
+
+pub types::new_type-returns-then-at_fn_ptr-clause-reads : goal.types::new_type-returns-then-at_fn_ptr-clause-reads
+types::new_type-returns-then-at_fn_ptr-clause-reads = types.types::new_type-returns-then-at_fn_ptr-clause-reads
+
+pub types::new_type-returns-clause-reads : goal.types::new_type-returns-clause-reads
+types::new_type-returns-clause-reads = types.types::new_type-returns-clause-reads
+
+pub types::new_type-fn_ptr_type-requires : goal.types::new_type-fn_ptr_type-requires
+types::new_type-fn_ptr_type-requires = types.types::new_type-fn_ptr_type-requires
+
+pub types::new_type-for_or_path-frame-requires : goal.types::new_type-for_or_path-frame-requires
+types::new_type-for_or_path-frame-requires = types.types::new_type-for_or_path-frame-requires
+
+pub types::new_type-opt_plus_bounds-requires : goal.types::new_type-opt_plus_bounds-requires
+types::new_type-opt_plus_bounds-requires = types.types::new_type-opt_plus_bounds-requires
+
+pub types::new_type-returns-then-at_fn_ptr-clause-takes : goal.types::new_type-returns-then-at_fn_ptr-clause-takes
+types::new_type-returns-then-at_fn_ptr-clause-takes = types.types::new_type-returns-then-at_fn_ptr-clause-takes
+
+pub types::new_type-returns-then-at-clause-takes : goal.types::new_type-returns-then-at-clause-takes
+types::new_type-returns-then-at-clause-takes = types.types::new_type-returns-then-at-clause-takes
+
+pub paths::fn_args-returns-then-at_dots_args-clause-reads : goal.paths::fn_args-returns-then-at_dots_args-clause-reads
+paths::fn_args-returns-then-at_dots_args-clause-reads = paths.paths::fn_args-returns-then-at_dots_args-clause-reads
+
+pub paths::fn_args-returns-then-at_colons_dots_args-clause-reads : goal.paths::fn_args-returns-then-at_colons_dots_args-clause-reads
+paths::fn_args-returns-then-at_colons_dots_args-clause-reads = paths.paths::fn_args-returns-then-at_colons_dots_args-clause-reads
+
+pub paths::fn_args-returns-clause-reads : goal.paths::fn_args-returns-clause-reads
+paths::fn_args-returns-clause-reads = paths.paths::fn_args-returns-clause-reads
+
+pub paths::fn_args-paren_args-requires : goal.paths::fn_args-paren_args-requires
+paths::fn_args-paren_args-requires = paths.paths::fn_args-paren_args-requires
+
+pub fn_pointers::fn_ptr_type-returns-clause-reads : goal.fn_pointers::fn_ptr_type-returns-clause-reads
+fn_pointers::fn_ptr_type-returns-clause-reads = fn_pointers.fn_pointers::fn_ptr_type-returns-clause-reads
+
+pub fn_pointers::fn_ptr_type-complete-requires : goal.fn_pointers::fn_ptr_type-complete-requires
+fn_pointers::fn_ptr_type-complete-requires = fn_pointers.fn_pointers::fn_ptr_type-complete-requires
+
+pub fn_pointers::fn_ptr_type-fn_ptr_words-requires : goal.fn_pointers::fn_ptr_type-fn_ptr_words-requires
+fn_pointers::fn_ptr_type-fn_ptr_words-requires = fn_pointers.fn_pointers::fn_ptr_type-fn_ptr_words-requires
+
+pub fn_pointers::expect_params-returns-then-at-clause-reads : goal.fn_pointers::expect_params-returns-then-at-clause-reads
+fn_pointers::expect_params-returns-then-at-clause-reads = fn_pointers.fn_pointers::expect_params-returns-then-at-clause-reads
+
+pub fn_pointers::expect_params-returns-clause-reads : goal.fn_pointers::expect_params-returns-clause-reads
+fn_pointers::expect_params-returns-clause-reads = fn_pointers.fn_pointers::expect_params-returns-clause-reads
+
+pub fn_pointers::params-returns-clause-reads : goal.fn_pointers::params-returns-clause-reads
+fn_pointers::params-returns-clause-reads = fn_pointers.fn_pointers::params-returns-clause-reads
+
+pub fn_pointers::params-complete-requires : goal.fn_pointers::params-complete-requires
+fn_pointers::params-complete-requires = fn_pointers.fn_pointers::params-complete-requires
+
+pub fn_pointers::dots_or_type-returns-then-at_dots_dot-clause-reads : goal.fn_pointers::dots_or_type-returns-then-at_dots_dot-clause-reads
+fn_pointers::dots_or_type-returns-then-at_dots_dot-clause-reads = fn_pointers.fn_pointers::dots_or_type-returns-then-at_dots_dot-clause-reads
+
+pub fn_pointers::dots_or_type-returns-clause-reads : goal.fn_pointers::dots_or_type-returns-clause-reads
+fn_pointers::dots_or_type-returns-clause-reads = fn_pointers.fn_pointers::dots_or_type-returns-clause-reads
+
+pub fn_pointers::missing_type-complete-requires : goal.fn_pointers::missing_type-complete-requires
+fn_pointers::missing_type-complete-requires = fn_pointers.fn_pointers::missing_type-complete-requires
+
+pub fn_pointers::dots_name_or_type-returns-then-at_dots_dot-clause-reads : goal.fn_pointers::dots_name_or_type-returns-then-at_dots_dot-clause-reads
+fn_pointers::dots_name_or_type-returns-then-at_dots_dot-clause-reads = fn_pointers.fn_pointers::dots_name_or_type-returns-then-at_dots_dot-clause-reads
+
+pub fn_pointers::dots_name_or_type-returns-then-at_named_param-clause-reads : goal.fn_pointers::dots_name_or_type-returns-then-at_named_param-clause-reads
+fn_pointers::dots_name_or_type-returns-then-at_named_param-clause-reads = fn_pointers.fn_pointers::dots_name_or_type-returns-then-at_named_param-clause-reads
+
+pub fn_pointers::dots_name_or_type-returns-then-at_type-clause-reads : goal.fn_pointers::dots_name_or_type-returns-then-at_type-clause-reads
+fn_pointers::dots_name_or_type-returns-then-at_type-clause-reads = fn_pointers.fn_pointers::dots_name_or_type-returns-then-at_type-clause-reads
+
+pub fn_pointers::dots_name_or_type-returns-clause-reads : goal.fn_pointers::dots_name_or_type-returns-clause-reads
+fn_pointers::dots_name_or_type-returns-clause-reads = fn_pointers.fn_pointers::dots_name_or_type-returns-clause-reads
+
+pub fn_pointers::dots_name_or_type-named_param-requires : goal.fn_pointers::dots_name_or_type-named_param-requires
+fn_pointers::dots_name_or_type-named_param-requires = fn_pointers.fn_pointers::dots_name_or_type-named_param-requires
+
+pub fn_pointers::dots_name_or_type-any_type-requires : goal.fn_pointers::dots_name_or_type-any_type-requires
+fn_pointers::dots_name_or_type-any_type-requires = fn_pointers.fn_pointers::dots_name_or_type-any_type-requires
+
+pub fn_pointers::dots_name_or_type-missing_type-requires : goal.fn_pointers::dots_name_or_type-missing_type-requires
+fn_pointers::dots_name_or_type-missing_type-requires = fn_pointers.fn_pointers::dots_name_or_type-missing_type-requires
+
+pub fn_pointers::missing_type-missing_path-requires : goal.fn_pointers::missing_type-missing_path-requires
+fn_pointers::missing_type-missing_path-requires = fn_pointers.fn_pointers::missing_type-missing_path-requires
+
+pub fn_pointers::missing_type-returns-clause-gives : goal.fn_pointers::missing_type-returns-clause-gives
+fn_pointers::missing_type-returns-clause-gives = fn_pointers.fn_pointers::missing_type-returns-clause-gives
+
+pub fn_pointers::named_param-returns-clause-reads : goal.fn_pointers::named_param-returns-clause-reads
+fn_pointers::named_param-returns-clause-reads = fn_pointers.fn_pointers::named_param-returns-clause-reads
+
+pub fn_pointers::named_param-single_pattern-requires : goal.fn_pointers::named_param-single_pattern-requires
+fn_pointers::named_param-single_pattern-requires = fn_pointers.fn_pointers::named_param-single_pattern-requires
+
+pub fn_pointers::missing_path-missing_segment-requires : goal.fn_pointers::missing_path-missing_segment-requires
+fn_pointers::missing_path-missing_segment-requires = fn_pointers.fn_pointers::missing_path-missing_segment-requires
+
+pub fn_pointers::missing_path-next_segments-frame-requires : goal.fn_pointers::missing_path-next_segments-frame-requires
+fn_pointers::missing_path-next_segments-frame-requires = fn_pointers.fn_pointers::missing_path-next_segments-frame-requires
+
+pub fn_pointers::missing_path-returns-clause-gives : goal.fn_pointers::missing_path-returns-clause-gives
+fn_pointers::missing_path-returns-clause-gives = fn_pointers.fn_pointers::missing_path-returns-clause-gives
+
+pub fn_pointers::missing_segment-returns-clause-reads : goal.fn_pointers::missing_segment-returns-clause-reads
+fn_pointers::missing_segment-returns-clause-reads = fn_pointers.fn_pointers::missing_segment-returns-clause-reads
+
+pub fn_pointers::missing_segment-complete-requires : goal.fn_pointers::missing_segment-complete-requires
+fn_pointers::missing_segment-complete-requires = fn_pointers.fn_pointers::missing_segment-complete-requires
+
+pub fn_pointers::missing_segment-complete-requires-2 : goal.fn_pointers::missing_segment-complete-requires-2
+fn_pointers::missing_segment-complete-requires-2 = fn_pointers.fn_pointers::missing_segment-complete-requires-2
+
+pub fn_pointers::fn_ptr_param-returns-clause-reads : goal.fn_pointers::fn_ptr_param-returns-clause-reads
+fn_pointers::fn_ptr_param-returns-clause-reads = fn_pointers.fn_pointers::fn_ptr_param-returns-clause-reads
+
+pub fn_pointers::fn_ptr_param-complete-requires : goal.fn_pointers::fn_ptr_param-complete-requires
+fn_pointers::fn_ptr_param-complete-requires = fn_pointers.fn_pointers::fn_ptr_param-complete-requires
+
+pub fn_pointers::fn_ptr_param-attributed_or_bare-requires : goal.fn_pointers::fn_ptr_param-attributed_or_bare-requires
+fn_pointers::fn_ptr_param-attributed_or_bare-requires = fn_pointers.fn_pointers::fn_ptr_param-attributed_or_bare-requires
+
+pub fn_pointers::attributed_or_bare-returns-then-at_new-clause-reads : goal.fn_pointers::attributed_or_bare-returns-then-at_new-clause-reads
+fn_pointers::attributed_or_bare-returns-then-at_new-clause-reads = fn_pointers.fn_pointers::attributed_or_bare-returns-then-at_new-clause-reads
+
+pub fn_pointers::attributed_or_bare-bare_param-requires : goal.fn_pointers::attributed_or_bare-bare_param-requires
+fn_pointers::attributed_or_bare-bare_param-requires = fn_pointers.fn_pointers::attributed_or_bare-bare_param-requires
+
+pub fn_pointers::attributed_or_bare-returns-clause-reads : goal.fn_pointers::attributed_or_bare-returns-clause-reads
+fn_pointers::attributed_or_bare-returns-clause-reads = fn_pointers.fn_pointers::attributed_or_bare-returns-clause-reads
+
+pub fn_pointers::bare_param-returns-then-at_dots_dot-clause-reads : goal.fn_pointers::bare_param-returns-then-at_dots_dot-clause-reads
+fn_pointers::bare_param-returns-then-at_dots_dot-clause-reads = fn_pointers.fn_pointers::bare_param-returns-then-at_dots_dot-clause-reads
+
+pub fn_pointers::bare_param-returns-then-at_named_param-clause-reads : goal.fn_pointers::bare_param-returns-then-at_named_param-clause-reads
+fn_pointers::bare_param-returns-then-at_named_param-clause-reads = fn_pointers.fn_pointers::bare_param-returns-then-at_named_param-clause-reads
+
+pub fn_pointers::bare_param-returns-clause-reads : goal.fn_pointers::bare_param-returns-clause-reads
+fn_pointers::bare_param-returns-clause-reads = fn_pointers.fn_pointers::bare_param-returns-clause-reads
+
+pub fn_pointers::bare_param-named_param-requires : goal.fn_pointers::bare_param-named_param-requires
+fn_pointers::bare_param-named_param-requires = fn_pointers.fn_pointers::bare_param-named_param-requires
+
+pub fn_pointers::bare_param-any_type-requires : goal.fn_pointers::bare_param-any_type-requires
+fn_pointers::bare_param-any_type-requires = fn_pointers.fn_pointers::bare_param-any_type-requires
+
+pub patterns::single_pattern-range_or_atom-frame-requires : goal.patterns::single_pattern-range_or_atom-frame-requires
+patterns::single_pattern-range_or_atom-frame-requires = patterns.patterns::single_pattern-range_or_atom-frame-requires
+
+pub patterns::single_pattern-returns-clause-gives : goal.patterns::single_pattern-returns-clause-gives
+patterns::single_pattern-returns-clause-gives = patterns.patterns::single_pattern-returns-clause-gives
+
+pub patterns::inside-qualified_pat-requires : goal.patterns::inside-qualified_pat-requires
+patterns::inside-qualified_pat-requires = patterns.patterns::inside-qualified_pat-requires
+
+pub patterns::inside-returns-in-L_ANGLE-clause-reads : goal.patterns::inside-returns-in-L_ANGLE-clause-reads
+patterns::inside-returns-in-L_ANGLE-clause-reads = patterns.patterns::inside-returns-in-L_ANGLE-clause-reads
+
+pub patterns::inside-returns-in-L_ANGLE-clause-takes : goal.patterns::inside-returns-in-L_ANGLE-clause-takes
+patterns::inside-returns-in-L_ANGLE-clause-takes = patterns.patterns::inside-returns-in-L_ANGLE-clause-takes
+
+pub patterns::qualified_pat-returns-clause-reads : goal.patterns::qualified_pat-returns-clause-reads
+patterns::qualified_pat-returns-clause-reads = patterns.patterns::qualified_pat-returns-clause-reads
+
+pub patterns::qualified_pat-qualified_path-frame-requires : goal.patterns::qualified_pat-qualified_path-frame-requires
+patterns::qualified_pat-qualified_path-frame-requires = patterns.patterns::qualified_pat-qualified_path-frame-requires
+
+pub patterns::qualified_pat-after_path-requires : goal.patterns::qualified_pat-after_path-requires
+patterns::qualified_pat-after_path-requires = patterns.patterns::qualified_pat-after_path-requires
+
+pub patterns::after_path-returns-then-at-clause-reads : goal.patterns::after_path-returns-then-at-clause-reads
+patterns::after_path-returns-then-at-clause-reads = patterns.patterns::after_path-returns-then-at-clause-reads
+
+pub patterns::after_path-returns-then-at-2-clause-reads : goal.patterns::after_path-returns-then-at-2-clause-reads
+patterns::after_path-returns-then-at-2-clause-reads = patterns.patterns::after_path-returns-then-at-2-clause-reads
+
+pub patterns::after_path-returns-then-at_new-clause-reads : goal.patterns::after_path-returns-then-at_new-clause-reads
+patterns::after_path-returns-then-at_new-clause-reads = patterns.patterns::after_path-returns-then-at_new-clause-reads
+
+pub patterns::after_path-returns-clause-reads : goal.patterns::after_path-returns-clause-reads
+patterns::after_path-returns-clause-reads = patterns.patterns::after_path-returns-clause-reads
+
+pub patterns::after_path-wrap-requires : goal.patterns::after_path-wrap-requires
+patterns::after_path-wrap-requires = patterns.patterns::after_path-wrap-requires
+
+pub patterns::after_path-wrap-requires-then-at : goal.patterns::after_path-wrap-requires-then-at
+patterns::after_path-wrap-requires-then-at = patterns.patterns::after_path-wrap-requires-then-at
+
+pub patterns::after_path-wrap-requires-then-at_new : goal.patterns::after_path-wrap-requires-then-at_new
+patterns::after_path-wrap-requires-then-at_new = patterns.patterns::after_path-wrap-requires-then-at_new
+
+pub patterns::after_path-wrap-requires-2 : goal.patterns::after_path-wrap-requires-2
+patterns::after_path-wrap-requires-2 = patterns.patterns::after_path-wrap-requires-2
+
+pub pattern_ranges::range_or_atom-returns-then-at_open_range-clause-reads : goal.pattern_ranges::range_or_atom-returns-then-at_open_range-clause-reads
+pattern_ranges::range_or_atom-returns-then-at_open_range-clause-reads = pattern_ranges.pattern_ranges::range_or_atom-returns-then-at_open_range-clause-reads
+
+pub pattern_ranges::range_or_atom-returns-clause-reads : goal.pattern_ranges::range_or_atom-returns-clause-reads
+pattern_ranges::range_or_atom-returns-clause-reads = pattern_ranges.pattern_ranges::range_or_atom-returns-clause-reads
+
+pub pattern_ranges::range_or_atom-open_range-requires : goal.pattern_ranges::range_or_atom-open_range-requires
+pattern_ranges::range_or_atom-open_range-requires = pattern_ranges.pattern_ranges::range_or_atom-open_range-requires
+
+pub pattern_ranges::range_or_atom-inside-frame-requires : goal.pattern_ranges::range_or_atom-inside-frame-requires
+pattern_ranges::range_or_atom-inside-frame-requires = pattern_ranges.pattern_ranges::range_or_atom-inside-frame-requires
+
+pub pattern_ranges::range_or_atom-opt_range-requires : goal.pattern_ranges::range_or_atom-opt_range-requires
+pattern_ranges::range_or_atom-opt_range-requires = pattern_ranges.pattern_ranges::range_or_atom-opt_range-requires
+
+pub pattern_ranges::range_or_atom-returns-then-at_open_range-clause-takes : goal.pattern_ranges::range_or_atom-returns-then-at_open_range-clause-takes
+pattern_ranges::range_or_atom-returns-then-at_open_range-clause-takes = pattern_ranges.pattern_ranges::range_or_atom-returns-then-at_open_range-clause-takes
+
+pub pattern_ranges::open_range-returns-clause-reads : goal.pattern_ranges::open_range-returns-clause-reads
+pattern_ranges::open_range-returns-clause-reads = pattern_ranges.pattern_ranges::open_range-returns-clause-reads
+
+pub pattern_ranges::open_range-complete-requires : goal.pattern_ranges::open_range-complete-requires
+pattern_ranges::open_range-complete-requires = pattern_ranges.pattern_ranges::open_range-complete-requires
+
+pub pattern_ranges::open_range-take_two_dots-requires : goal.pattern_ranges::open_range-take_two_dots-requires
+pattern_ranges::open_range-take_two_dots-requires = pattern_ranges.pattern_ranges::open_range-take_two_dots-requires
+
+pub pattern_ranges::opt_range_end-returns-then-at_range_end-clause-reads : goal.pattern_ranges::opt_range_end-returns-then-at_range_end-clause-reads
+pattern_ranges::opt_range_end-returns-then-at_range_end-clause-reads = pattern_ranges.pattern_ranges::opt_range_end-returns-then-at_range_end-clause-reads
+
+pub pattern_ranges::opt_range_end-returns-else-at_range_end-clause-reads : goal.pattern_ranges::opt_range_end-returns-else-at_range_end-clause-reads
+pattern_ranges::opt_range_end-returns-else-at_range_end-clause-reads = pattern_ranges.pattern_ranges::opt_range_end-returns-else-at_range_end-clause-reads
+
+pub pattern_ranges::opt_range_end-pattern_atom-requires : goal.pattern_ranges::opt_range_end-pattern_atom-requires
+pattern_ranges::opt_range_end-pattern_atom-requires = pattern_ranges.pattern_ranges::opt_range_end-pattern_atom-requires
+
+pub pattern_ranges::pattern_atom-inside-frame-requires : goal.pattern_ranges::pattern_atom-inside-frame-requires
+pattern_ranges::pattern_atom-inside-frame-requires = pattern_ranges.pattern_ranges::pattern_atom-inside-frame-requires
+
+pub pattern_ranges::pattern_atom-returns-clause-gives : goal.pattern_ranges::pattern_atom-returns-clause-gives
+pattern_ranges::pattern_atom-returns-clause-gives = pattern_ranges.pattern_ranges::pattern_atom-returns-clause-gives
+
+pub pattern_ranges::opt_range-returns-then-at_range_op-clause-reads : goal.pattern_ranges::opt_range-returns-then-at_range_op-clause-reads
+pattern_ranges::opt_range-returns-then-at_range_op-clause-reads = pattern_ranges.pattern_ranges::opt_range-returns-then-at_range_op-clause-reads
+
+pub pattern_ranges::opt_range-returns-clause-reads : goal.pattern_ranges::opt_range-returns-clause-reads
+pattern_ranges::opt_range-returns-clause-reads = pattern_ranges.pattern_ranges::opt_range-returns-clause-reads
+
+pub pattern_ranges::opt_range-take_range_op-requires : goal.pattern_ranges::opt_range-take_range_op-requires
+pattern_ranges::opt_range-take_range_op-requires = pattern_ranges.pattern_ranges::opt_range-take_range_op-requires
+
+pub pattern_ranges::opt_range-wrap-requires : goal.pattern_ranges::opt_range-wrap-requires
+pattern_ranges::opt_range-wrap-requires = pattern_ranges.pattern_ranges::opt_range-wrap-requires
+
+pub fields::pattern_field-returns-then-at_pair-clause-gives : goal.fields::pattern_field-returns-then-at_pair-clause-gives
+fields::pattern_field-returns-then-at_pair-clause-gives = fields.fields::pattern_field-returns-then-at_pair-clause-gives
+
+pub fields::pattern_field-returns-then-at_named_field-clause-gives : goal.fields::pattern_field-returns-then-at_named_field-clause-gives
+fields::pattern_field-returns-then-at_named_field-clause-gives = fields.fields::pattern_field-returns-then-at_named_field-clause-gives
+
+pub fields::pattern_field-returns-clause-gives : goal.fields::pattern_field-returns-clause-gives
+fields::pattern_field-returns-clause-gives = fields.fields::pattern_field-returns-clause-gives
+
+pub fields::pattern_field-returns-then-at_new-clause-gives : goal.fields::pattern_field-returns-then-at_new-clause-gives
+fields::pattern_field-returns-then-at_new-clause-gives = fields.fields::pattern_field-returns-then-at_new-clause-gives
+
+pub fields::pattern_field-named_pattern-requires : goal.fields::pattern_field-named_pattern-requires
+fields::pattern_field-named_pattern-requires = fields.fields::pattern_field-named_pattern-requires
+
+pub fields::pattern_field-shorthand-requires-clause-begins : goal.fields::pattern_field-shorthand-requires-clause-begins
+fields::pattern_field-shorthand-requires-clause-begins = fields.fields::pattern_field-shorthand-requires-clause-begins
+
+pub fields::attributed_pattern_field-after_attributes-requires : goal.fields::attributed_pattern_field-after_attributes-requires
+fields::attributed_pattern_field-after_attributes-requires = fields.fields::attributed_pattern_field-after_attributes-requires
+
+pub fields::attributed_pattern_field-returns-clause-anew : goal.fields::attributed_pattern_field-returns-clause-anew
+fields::attributed_pattern_field-returns-clause-anew = fields.fields::attributed_pattern_field-returns-clause-anew
+
+pub fields::after_attributes-returns-then-at_pair-clause-completes : goal.fields::after_attributes-returns-then-at_pair-clause-completes
+fields::after_attributes-returns-then-at_pair-clause-completes = fields.fields::after_attributes-returns-then-at_pair-clause-completes
+
+pub fields::after_attributes-returns-then-at_attributed_named_field-clause-completes : goal.fields::after_attributes-returns-then-at_attributed_named_field-clause-completes
+fields::after_attributes-returns-then-at_attributed_named_field-clause-completes = fields.fields::after_attributes-returns-then-at_attributed_named_field-clause-completes
+
+pub fields::after_attributes-returns-clause-completes : goal.fields::after_attributes-returns-clause-completes
+fields::after_attributes-returns-clause-completes = fields.fields::after_attributes-returns-clause-completes
+
+pub fields::after_attributes-complete-requires : goal.fields::after_attributes-complete-requires
+fields::after_attributes-complete-requires = fields.fields::after_attributes-complete-requires
+
+pub fields::after_attributes-complete-requires-then-at_attributed_named_field : goal.fields::after_attributes-complete-requires-then-at_attributed_named_field
+fields::after_attributes-complete-requires-then-at_attributed_named_field = fields.fields::after_attributes-complete-requires-then-at_attributed_named_field
+
+pub fields::after_attributes-complete-requires-2 : goal.fields::after_attributes-complete-requires-2
+fields::after_attributes-complete-requires-2 = fields.fields::after_attributes-complete-requires-2
+
+pub attributes::outer_attributes-turns-preserved : goal.attributes::outer_attributes-turns-preserved
+attributes::outer_attributes-turns-preserved = attributes.attributes::outer_attributes-turns-preserved
+
+pub attributes::outer_attributes-returns-clause-reads : goal.attributes::outer_attributes-returns-clause-reads
+attributes::outer_attributes-returns-clause-reads = attributes.attributes::outer_attributes-returns-clause-reads
+
+pub attributes::expect_meta-meta-requires : goal.attributes::expect_meta-meta-requires
+attributes::expect_meta-meta-requires = attributes.attributes::expect_meta-meta-requires
+
+pub attributes::expect_meta-returns-then-at_meta-clause-reads : goal.attributes::expect_meta-returns-then-at_meta-clause-reads
+attributes::expect_meta-returns-then-at_meta-clause-reads = attributes.attributes::expect_meta-returns-then-at_meta-clause-reads
+
+pub attributes::expect_meta-returns-clause-reads : goal.attributes::expect_meta-returns-clause-reads
+attributes::expect_meta-returns-clause-reads = attributes.attributes::expect_meta-returns-clause-reads
+
+pub attributes::meta-returns-then-at_new-clause-gives : goal.attributes::meta-returns-then-at_new-clause-gives
+attributes::meta-returns-then-at_new-clause-gives = attributes.attributes::meta-returns-then-at_new-clause-gives
+
+pub attributes::meta-path_meta-requires : goal.attributes::meta-path_meta-requires
+attributes::meta-path_meta-requires = attributes.attributes::meta-path_meta-requires
+
+pub attributes::meta-returns-clause-gives : goal.attributes::meta-returns-clause-gives
+attributes::meta-returns-clause-gives = attributes.attributes::meta-returns-clause-gives
+
+pub attributes::path_meta-returns-clause-reads : goal.attributes::path_meta-returns-clause-reads
+attributes::path_meta-returns-clause-reads = attributes.attributes::path_meta-returns-clause-reads
+
+pub attributes::path_meta-complete-requires : goal.attributes::path_meta-complete-requires
+attributes::path_meta-complete-requires = attributes.attributes::path_meta-complete-requires
+
+pub attributes::path_meta-path-requires : goal.attributes::path_meta-path-requires
+attributes::path_meta-path-requires = attributes.attributes::path_meta-path-requires
+
+pub attributes::unsafe_meta-returns-clause-reads : goal.attributes::unsafe_meta-returns-clause-reads
+attributes::unsafe_meta-returns-clause-reads = attributes.attributes::unsafe_meta-returns-clause-reads
+
+pub attributes::unsafe_meta-complete-requires : goal.attributes::unsafe_meta-complete-requires
+attributes::unsafe_meta-complete-requires = attributes.attributes::unsafe_meta-complete-requires
+
+pub items::body-new_item-requires : goal.items::body-new_item-requires
+items::body-new_item-requires = items.items::body-new_item-requires
+
+pub items::body-returns-then-at_new_item-clause-completes : goal.items::body-returns-then-at_new_item-clause-completes
+items::body-returns-then-at_new_item-clause-completes = items.items::body-returns-then-at_new_item-clause-completes
+
+pub items::body-returns-then-at_new_item-clause-takes : goal.items::body-returns-then-at_new_item-clause-takes
+items::body-returns-then-at_new_item-clause-takes = items.items::body-returns-then-at_new_item-clause-takes
+
+pub items::body-plain_body-requires : goal.items::body-plain_body-requires
+items::body-plain_body-requires = items.items::body-plain_body-requires
+
+pub items::body-returns-clause-completes : goal.items::body-returns-clause-completes
+items::body-returns-clause-completes = items.items::body-returns-clause-completes
+
+pub items::body-returns-clause-takes : goal.items::body-returns-clause-takes
+items::body-returns-clause-takes = items.items::body-returns-clause-takes
+
+pub items::opt_new_generics-returns-then-at_new-clause-reads : goal.items::opt_new_generics-returns-then-at_new-clause-reads
+items::opt_new_generics-returns-then-at_new-clause-reads = items.items::opt_new_generics-returns-then-at_new-clause-reads
+
+pub items::opt_new_generics-returns-else-at_new-clause-reads : goal.items::opt_new_generics-returns-else-at_new-clause-reads
+items::opt_new_generics-returns-else-at_new-clause-reads = items.items::opt_new_generics-returns-else-at_new-clause-reads
+
+pub items::opt_new_where-returns-then-at_new-clause-reads : goal.items::opt_new_where-returns-then-at_new-clause-reads
+items::opt_new_where-returns-then-at_new-clause-reads = items.items::opt_new_where-returns-then-at_new-clause-reads
+
+pub items::opt_new_where-returns-else-at_new-clause-reads : goal.items::opt_new_where-returns-else-at_new-clause-reads
+items::opt_new_where-returns-else-at_new-clause-reads = items.items::opt_new_where-returns-else-at_new-clause-reads
+
+pub items::functions::fn_item-returns-clause-completes : goal.items::functions::fn_item-returns-clause-completes
+items::functions::fn_item-returns-clause-completes = functions.items::functions::fn_item-returns-clause-completes
+
+pub items::functions::fn_item-complete-requires : goal.items::functions::fn_item-complete-requires
+items::functions::fn_item-complete-requires = functions.items::functions::fn_item-complete-requires
+
+pub items::functions::plain_fn-returns-clause-completes : goal.items::functions::plain_fn-returns-clause-completes
+items::functions::plain_fn-returns-clause-completes = functions.items::functions::plain_fn-returns-clause-completes
+
+pub items::functions::plain_fn-complete-requires : goal.items::functions::plain_fn-complete-requires
+items::functions::plain_fn-complete-requires = functions.items::functions::plain_fn-complete-requires
+
+pub items::functions::after_fn-returns-clause-reads : goal.items::functions::after_fn-returns-clause-reads
+items::functions::after_fn-returns-clause-reads = functions.items::functions::after_fn-returns-clause-reads
+
+pub items::consts::const_item-returns-clause-completes : goal.items::consts::const_item-returns-clause-completes
+items::consts::const_item-returns-clause-completes = consts.items::consts::const_item-returns-clause-completes
+
+pub items::consts::const_item-complete-requires : goal.items::consts::const_item-complete-requires
+items::consts::const_item-complete-requires = consts.items::consts::const_item-complete-requires
+
+pub items::consts::const_typed-returns-clause-reads : goal.items::consts::const_typed-returns-clause-reads
+items::consts::const_typed-returns-clause-reads = consts.items::consts::const_typed-returns-clause-reads
+
+pub items::consts::type_alias-returns-clause-completes : goal.items::consts::type_alias-returns-clause-completes
+items::consts::type_alias-returns-clause-completes = consts.items::consts::type_alias-returns-clause-completes
+
+pub items::consts::type_alias-complete-requires : goal.items::consts::type_alias-complete-requires
+items::consts::type_alias-complete-requires = consts.items::consts::type_alias-complete-requires
+
+pub items::consts::alias_value-returns-clause-reads : goal.items::consts::alias_value-returns-clause-reads
+items::consts::alias_value-returns-clause-reads = consts.items::consts::alias_value-returns-clause-reads
+
+pub items::traits::impl_item-returns-clause-completes : goal.items::traits::impl_item-returns-clause-completes
+items::traits::impl_item-returns-clause-completes = traits.items::traits::impl_item-returns-clause-completes
+
+pub items::traits::impl_item-complete-requires : goal.items::traits::impl_item-complete-requires
+items::traits::impl_item-complete-requires = traits.items::traits::impl_item-complete-requires
+
+pub items::traits::trait_item-returns-clause-completes : goal.items::traits::trait_item-returns-clause-completes
+items::traits::trait_item-returns-clause-completes = traits.items::traits::trait_item-returns-clause-completes
+
+pub items::traits::trait_item-complete-requires : goal.items::traits::trait_item-complete-requires
+items::traits::trait_item-complete-requires = traits.items::traits::trait_item-complete-requires
+
+pub items::traits::plain_impl-returns-clause-completes : goal.items::traits::plain_impl-returns-clause-completes
+items::traits::plain_impl-returns-clause-completes = traits.items::traits::plain_impl-returns-clause-completes
+
+pub items::traits::plain_impl-complete-requires : goal.items::traits::plain_impl-complete-requires
+items::traits::plain_impl-complete-requires = traits.items::traits::plain_impl-complete-requires
+
+pub items::traits::after_impl-returns-clause-reads : goal.items::traits::after_impl-returns-clause-reads
+items::traits::after_impl-returns-clause-reads = traits.items::traits::after_impl-returns-clause-reads
+
+pub items::traits::plain_trait-returns-clause-completes : goal.items::traits::plain_trait-returns-clause-completes
+items::traits::plain_trait-returns-clause-completes = traits.items::traits::plain_trait-returns-clause-completes
+
+pub items::traits::plain_trait-complete-requires : goal.items::traits::plain_trait-complete-requires
+items::traits::plain_trait-complete-requires = traits.items::traits::plain_trait-complete-requires
+
+pub items::traits::after_trait-returns-clause-reads : goal.items::traits::after_trait-returns-clause-reads
+items::traits::after_trait-returns-clause-reads = traits.items::traits::after_trait-returns-clause-reads
+
+pub items::traits::trait_body-returns-then-at_new-clause-reads : goal.items::traits::trait_body-returns-then-at_new-clause-reads
+items::traits::trait_body-returns-then-at_new-clause-reads = traits.items::traits::trait_body-returns-then-at_new-clause-reads
+
+pub items::traits::trait_body-returns-clause-reads : goal.items::traits::trait_body-returns-clause-reads
+items::traits::trait_body-returns-clause-reads = traits.items::traits::trait_body-returns-clause-reads
+
+pub items::traits::alias_bounds-returns-clause-reads : goal.items::traits::alias_bounds-returns-clause-reads
+items::traits::alias_bounds-returns-clause-reads = traits.items::traits::alias_bounds-returns-clause-reads
+
+pub items::traits::trait_items-returns-clause-reads : goal.items::traits::trait_items-returns-clause-reads
+items::traits::trait_items-returns-clause-reads = traits.items::traits::trait_items-returns-clause-reads
+
+pub items::traits::opt_impl_params-returns-then-at_impl_params-clause-reads : goal.items::traits::opt_impl_params-returns-then-at_impl_params-clause-reads
+items::traits::opt_impl_params-returns-then-at_impl_params-clause-reads = traits.items::traits::opt_impl_params-returns-then-at_impl_params-clause-reads
+
+pub items::traits::opt_impl_params-returns-else-at_impl_params-clause-reads : goal.items::traits::opt_impl_params-returns-else-at_impl_params-clause-reads
+items::traits::opt_impl_params-returns-else-at_impl_params-clause-reads = traits.items::traits::opt_impl_params-returns-else-at_impl_params-clause-reads
+
+pub items::members::variant-returns-clause-reads : goal.items::members::variant-returns-clause-reads
+items::members::variant-returns-clause-reads = members.items::members::variant-returns-clause-reads
+
+pub items::members::variant-complete-requires : goal.items::members::variant-complete-requires
+items::members::variant-complete-requires = members.items::members::variant-complete-requires
+
+pub items::members::variant-named-requires : goal.items::members::variant-named-requires
+items::members::variant-named-requires = members.items::members::variant-named-requires
+
+pub items::members::record_field-returns-clause-reads : goal.items::members::record_field-returns-clause-reads
+items::members::record_field-returns-clause-reads = members.items::members::record_field-returns-clause-reads
+
+pub items::members::record_field-complete-requires : goal.items::members::record_field-complete-requires
+items::members::record_field-complete-requires = members.items::members::record_field-complete-requires
+
+pub items::members::record_field-field_front-requires : goal.items::members::record_field-field_front-requires
+items::members::record_field-field_front-requires = members.items::members::record_field-field_front-requires
+
+pub items::members::field_front-attributes_and_visibility-requires : goal.items::members::field_front-attributes_and_visibility-requires
+items::members::field_front-attributes_and_visibility-requires = members.items::members::field_front-attributes_and_visibility-requires
+
+pub items::members::field_front-returns-in-POUND-clause-reads : goal.items::members::field_front-returns-in-POUND-clause-reads
+items::members::field_front-returns-in-POUND-clause-reads = members.items::members::field_front-returns-in-POUND-clause-reads
+
+pub items::members::field_front-returns-in-PUB_KW-clause-reads : goal.items::members::field_front-returns-in-PUB_KW-clause-reads
+items::members::field_front-returns-in-PUB_KW-clause-reads = members.items::members::field_front-returns-in-PUB_KW-clause-reads
+
+pub items::members::field_front-returns-in-UNSAFE_KW-clause-reads : goal.items::members::field_front-returns-in-UNSAFE_KW-clause-reads
+items::members::field_front-returns-in-UNSAFE_KW-clause-reads = members.items::members::field_front-returns-in-UNSAFE_KW-clause-reads
+
+pub items::members::field_front-returns-in_default-clause-reads : goal.items::members::field_front-returns-in_default-clause-reads
+items::members::field_front-returns-in_default-clause-reads = members.items::members::field_front-returns-in_default-clause-reads
+
+pub items::members::opt_discriminant-returns-then-at_new-clause-reads : goal.items::members::opt_discriminant-returns-then-at_new-clause-reads
+items::members::opt_discriminant-returns-then-at_new-clause-reads = members.items::members::opt_discriminant-returns-then-at_new-clause-reads
+
+pub items::members::opt_discriminant-returns-else-at_new-clause-reads : goal.items::members::opt_discriminant-returns-else-at_new-clause-reads
+items::members::opt_discriminant-returns-else-at_new-clause-reads = members.items::members::opt_discriminant-returns-else-at_new-clause-reads
+
+pub items::members::const_value-returns-clause-reads : goal.items::members::const_value-returns-clause-reads
+items::members::const_value-returns-clause-reads = members.items::members::const_value-returns-clause-reads
+
+pub items::members::const_value-complete-requires : goal.items::members::const_value-complete-requires
+items::members::const_value-complete-requires = members.items::members::const_value-complete-requires
+
+pub params::param-new_param-requires : goal.params::param-new_param-requires
+params::param-new_param-requires = params.params::param-new_param-requires
+
+pub params::param-returns-then-at_new_param-clause-gives : goal.params::param-returns-then-at_new_param-clause-gives
+params::param-returns-then-at_new_param-clause-gives = params.params::param-returns-then-at_new_param-clause-gives
+
+pub params::param-self_param-requires : goal.params::param-self_param-requires
+params::param-self_param-requires = params.params::param-self_param-requires
+
+pub params::param-returns-then-at_self-clause-gives : goal.params::param-returns-then-at_self-clause-gives
+params::param-returns-then-at_self-clause-gives = params.params::param-returns-then-at_self-clause-gives
+
+pub params::param-pattern_param-requires : goal.params::param-pattern_param-requires
+params::param-pattern_param-requires = params.params::param-pattern_param-requires
+
+pub params::param-returns-clause-gives : goal.params::param-returns-clause-gives
+params::param-returns-clause-gives = params.params::param-returns-clause-gives
+
+pub params::new_param-dots_param-requires : goal.params::new_param-dots_param-requires
+params::new_param-dots_param-requires = params.params::new_param-dots_param-requires
+
+pub params::new_param-returns-then-at_dots_dot-clause-anew : goal.params::new_param-returns-then-at_dots_dot-clause-anew
+params::new_param-returns-then-at_dots_dot-clause-anew = params.params::new_param-returns-then-at_dots_dot-clause-anew
+
+pub params::new_param-attributed_param-requires : goal.params::new_param-attributed_param-requires
+params::new_param-attributed_param-requires = params.params::new_param-attributed_param-requires
+
+pub params::new_param-returns-clause-anew : goal.params::new_param-returns-clause-anew
+params::new_param-returns-clause-anew = params.params::new_param-returns-clause-anew
+
+pub params::attributed_param-after_attributes-requires : goal.params::attributed_param-after_attributes-requires
+params::attributed_param-after_attributes-requires = params.params::attributed_param-after_attributes-requires
+
+pub params::attributed_param-returns-clause-anew : goal.params::attributed_param-returns-clause-anew
+params::attributed_param-returns-clause-anew = params.params::attributed_param-returns-clause-anew
+
+pub params::pattern_param-returns-clause-reads : goal.params::pattern_param-returns-clause-reads
+params::pattern_param-returns-clause-reads = params.params::pattern_param-returns-clause-reads
+
+pub params::pattern_param-complete-requires : goal.params::pattern_param-complete-requires
+params::pattern_param-complete-requires = params.params::pattern_param-complete-requires
+
+pub params::pattern_param-pattern-requires : goal.params::pattern_param-pattern-requires
+params::pattern_param-pattern-requires = params.params::pattern_param-pattern-requires
+
+pub params::after_attributes-returns-then-at_self-clause-completes : goal.params::after_attributes-returns-then-at_self-clause-completes
+params::after_attributes-returns-then-at_self-clause-completes = params.params::after_attributes-returns-then-at_self-clause-completes
+
+pub params::after_attributes-returns-clause-completes : goal.params::after_attributes-returns-clause-completes
+params::after_attributes-returns-clause-completes = params.params::after_attributes-returns-clause-completes
+
+pub params::after_attributes-complete-requires : goal.params::after_attributes-complete-requires
+params::after_attributes-complete-requires = params.params::after_attributes-complete-requires
+
+pub params::after_attributes-complete-requires-2 : goal.params::after_attributes-complete-requires-2
+params::after_attributes-complete-requires-2 = params.params::after_attributes-complete-requires-2
+
+pub params::self_rest-returns-clause-reads : goal.params::self_rest-returns-clause-reads
+params::self_rest-returns-clause-reads = params.params::self_rest-returns-clause-reads
+
+pub params::dots_or_param-returns-then-at_dots_dot-clause-reads : goal.params::dots_or_param-returns-then-at_dots_dot-clause-reads
+params::dots_or_param-returns-then-at_dots_dot-clause-reads = params.params::dots_or_param-returns-then-at_dots_dot-clause-reads
+
+pub params::dots_or_param-returns-clause-reads : goal.params::dots_or_param-returns-clause-reads
+params::dots_or_param-returns-clause-reads = params.params::dots_or_param-returns-clause-reads
+
+pub params::param_type-returns-clause-reads : goal.params::param_type-returns-clause-reads
+params::param_type-returns-clause-reads = params.params::param_type-returns-clause-reads
+
+pub params::dots_or_type-returns-then-at_new_dots-clause-reads : goal.params::dots_or_type-returns-then-at_new_dots-clause-reads
+params::dots_or_type-returns-then-at_new_dots-clause-reads = params.params::dots_or_type-returns-then-at_new_dots-clause-reads
+
+pub params::dots_or_type-returns-clause-reads : goal.params::dots_or_type-returns-clause-reads
+params::dots_or_type-returns-clause-reads = params.params::dots_or_type-returns-clause-reads
+
+pub items::new_items::new_item-returns-then-at_extern_crate-clause-completes : goal.items::new_items::new_item-returns-then-at_extern_crate-clause-completes
+items::new_items::new_item-returns-then-at_extern_crate-clause-completes = new_items.items::new_items::new_item-returns-then-at_extern_crate-clause-completes
+
+pub items::new_items::new_item-returns-then-at_union-clause-completes : goal.items::new_items::new_item-returns-then-at_union-clause-completes
+items::new_items::new_item-returns-then-at_union-clause-completes = new_items.items::new_items::new_item-returns-then-at_union-clause-completes
+
+pub items::new_items::new_item-returns-then-at_macro_rules-clause-completes : goal.items::new_items::new_item-returns-then-at_macro_rules-clause-completes
+items::new_items::new_item-returns-then-at_macro_rules-clause-completes = new_items.items::new_items::new_item-returns-then-at_macro_rules-clause-completes
+
+pub items::new_items::new_item-returns-then-at-clause-completes : goal.items::new_items::new_item-returns-then-at-clause-completes
+items::new_items::new_item-returns-then-at-clause-completes = new_items.items::new_items::new_item-returns-then-at-clause-completes
+
+pub items::new_items::new_item-returns-clause-completes : goal.items::new_items::new_item-returns-clause-completes
+items::new_items::new_item-returns-clause-completes = new_items.items::new_items::new_item-returns-clause-completes
+
+pub items::new_items::new_item-extern_crate-requires : goal.items::new_items::new_item-extern_crate-requires
+items::new_items::new_item-extern_crate-requires = new_items.items::new_items::new_item-extern_crate-requires
+
+pub items::new_items::new_item-union_item-requires : goal.items::new_items::new_item-union_item-requires
+items::new_items::new_item-union_item-requires = new_items.items::new_items::new_item-union_item-requires
+
+pub items::new_items::new_item-macro_rules-requires : goal.items::new_items::new_item-macro_rules-requires
+items::new_items::new_item-macro_rules-requires = new_items.items::new_items::new_item-macro_rules-requires
+
+pub items::new_items::new_item-macro_def-requires : goal.items::new_items::new_item-macro_def-requires
+items::new_items::new_item-macro_def-requires = new_items.items::new_items::new_item-macro_def-requires
+
+pub items::new_items::new_item-item_words-requires : goal.items::new_items::new_item-item_words-requires
+items::new_items::new_item-item_words-requires = new_items.items::new_items::new_item-item_words-requires
+
+pub items::new_items::union_item-returns-clause-completes : goal.items::new_items::union_item-returns-clause-completes
+items::new_items::union_item-returns-clause-completes = new_items.items::new_items::union_item-returns-clause-completes
+
+pub items::new_items::union_item-complete-requires : goal.items::new_items::union_item-complete-requires
+items::new_items::union_item-complete-requires = new_items.items::new_items::union_item-complete-requires
+
+pub items::new_items::expect_record_fields-returns-then-at-clause-reads : goal.items::new_items::expect_record_fields-returns-then-at-clause-reads
+items::new_items::expect_record_fields-returns-then-at-clause-reads = new_items.items::new_items::expect_record_fields-returns-then-at-clause-reads
+
+pub items::new_items::expect_record_fields-returns-clause-reads : goal.items::new_items::expect_record_fields-returns-clause-reads
+items::new_items::expect_record_fields-returns-clause-reads = new_items.items::new_items::expect_record_fields-returns-clause-reads
+
+pub items::new_items::words_from_async-returns-clause-completes : goal.items::new_items::words_from_async-returns-clause-completes
+items::new_items::words_from_async-returns-clause-completes = new_items.items::new_items::words_from_async-returns-clause-completes
+
+pub items::new_items::words_from_async-words_from_gen-requires : goal.items::new_items::words_from_async-words_from_gen-requires
+items::new_items::words_from_async-words_from_gen-requires = new_items.items::new_items::words_from_async-words_from_gen-requires
+
+pub items::new_items::words_from_gen-returns-clause-completes : goal.items::new_items::words_from_gen-returns-clause-completes
+items::new_items::words_from_gen-returns-clause-completes = new_items.items::new_items::words_from_gen-returns-clause-completes
+
+pub items::new_items::words_from_gen-words_from_unsafe-requires : goal.items::new_items::words_from_gen-words_from_unsafe-requires
+items::new_items::words_from_gen-words_from_unsafe-requires = new_items.items::new_items::words_from_gen-words_from_unsafe-requires
+
+pub items::new_items::words_from_unsafe-returns-clause-completes : goal.items::new_items::words_from_unsafe-returns-clause-completes
+items::new_items::words_from_unsafe-returns-clause-completes = new_items.items::new_items::words_from_unsafe-returns-clause-completes
+
+pub items::new_items::words_from_unsafe-safe_or_abi-requires : goal.items::new_items::words_from_unsafe-safe_or_abi-requires
+items::new_items::words_from_unsafe-safe_or_abi-requires = new_items.items::new_items::words_from_unsafe-safe_or_abi-requires
+
+pub items::new_items::safe_or_abi-returns-clause-completes : goal.items::new_items::safe_or_abi-returns-clause-completes
+items::new_items::safe_or_abi-returns-clause-completes = new_items.items::new_items::safe_or_abi-returns-clause-completes
+
+pub items::new_items::safe_or_abi-abi_or_words-requires : goal.items::new_items::safe_or_abi-abi_or_words-requires
+items::new_items::safe_or_abi-abi_or_words-requires = new_items.items::new_items::safe_or_abi-abi_or_words-requires
+
+pub items::new_items::abi_or_words-returns-then-at-clause-completes : goal.items::new_items::abi_or_words-returns-then-at-clause-completes
+items::new_items::abi_or_words-returns-then-at-clause-completes = new_items.items::new_items::abi_or_words-returns-then-at-clause-completes
+
+pub items::new_items::abi_or_words-returns-clause-completes : goal.items::new_items::abi_or_words-returns-clause-completes
+items::new_items::abi_or_words-returns-clause-completes = new_items.items::new_items::abi_or_words-returns-clause-completes
+
+pub items::new_items::abi_or_words-after_abi-requires : goal.items::new_items::abi_or_words-after_abi-requires
+items::new_items::abi_or_words-after_abi-requires = new_items.items::new_items::abi_or_words-after_abi-requires
+
+pub items::new_items::abi_or_words-item_word-requires : goal.items::new_items::abi_or_words-item_word-requires
+items::new_items::abi_or_words-item_word-requires = new_items.items::new_items::abi_or_words-item_word-requires
+
+pub items::new_items::after_abi-returns-then-at-clause-completes : goal.items::new_items::after_abi-returns-then-at-clause-completes
+items::new_items::after_abi-returns-then-at-clause-completes = new_items.items::new_items::after_abi-returns-then-at-clause-completes
+
+pub items::new_items::after_abi-returns-clause-completes : goal.items::new_items::after_abi-returns-clause-completes
+items::new_items::after_abi-returns-clause-completes = new_items.items::new_items::after_abi-returns-clause-completes
+
+pub items::new_items::after_abi-complete-requires : goal.items::new_items::after_abi-complete-requires
+items::new_items::after_abi-complete-requires = new_items.items::new_items::after_abi-complete-requires
+
+pub items::new_items::after_abi-item_word-requires : goal.items::new_items::after_abi-item_word-requires
+items::new_items::after_abi-item_word-requires = new_items.items::new_items::after_abi-item_word-requires
+
+pub items::new_items::item_word-returns-in-FN_KW-clause-completes : goal.items::new_items::item_word-returns-in-FN_KW-clause-completes
+items::new_items::item_word-returns-in-FN_KW-clause-completes = new_items.items::new_items::item_word-returns-in-FN_KW-clause-completes
+
+pub items::new_items::item_word-returns-in-TRAIT_KW-clause-completes : goal.items::new_items::item_word-returns-in-TRAIT_KW-clause-completes
+items::new_items::item_word-returns-in-TRAIT_KW-clause-completes = new_items.items::new_items::item_word-returns-in-TRAIT_KW-clause-completes
+
+pub items::new_items::item_word-returns-in-IMPL_KW-clause-completes : goal.items::new_items::item_word-returns-in-IMPL_KW-clause-completes
+items::new_items::item_word-returns-in-IMPL_KW-clause-completes = new_items.items::new_items::item_word-returns-in-IMPL_KW-clause-completes
+
+pub items::new_items::item_word-returns-in-STATIC_KW-clause-completes : goal.items::new_items::item_word-returns-in-STATIC_KW-clause-completes
+items::new_items::item_word-returns-in-STATIC_KW-clause-completes = new_items.items::new_items::item_word-returns-in-STATIC_KW-clause-completes
+
+pub items::new_items::item_word-returns-in-CONST_KW-clause-completes : goal.items::new_items::item_word-returns-in-CONST_KW-clause-completes
+items::new_items::item_word-returns-in-CONST_KW-clause-completes = new_items.items::new_items::item_word-returns-in-CONST_KW-clause-completes
+
+pub items::new_items::item_word-returns-in-TYPE_KW-clause-completes : goal.items::new_items::item_word-returns-in-TYPE_KW-clause-completes
+items::new_items::item_word-returns-in-TYPE_KW-clause-completes = new_items.items::new_items::item_word-returns-in-TYPE_KW-clause-completes
+
+pub items::new_items::item_word-returns-in_default-clause-completes : goal.items::new_items::item_word-returns-in_default-clause-completes
+items::new_items::item_word-returns-in_default-clause-completes = new_items.items::new_items::item_word-returns-in_default-clause-completes
+
+pub items::new_items::item_word-complete-requires : goal.items::new_items::item_word-complete-requires
+items::new_items::item_word-complete-requires = new_items.items::new_items::item_word-complete-requires
+
+pub items::new_items::item_word-plain_fn-requires : goal.items::new_items::item_word-plain_fn-requires
+items::new_items::item_word-plain_fn-requires = new_items.items::new_items::item_word-plain_fn-requires
+
+pub items::new_items::item_word-plain_trait-requires : goal.items::new_items::item_word-plain_trait-requires
+items::new_items::item_word-plain_trait-requires = new_items.items::new_items::item_word-plain_trait-requires
+
+pub items::new_items::item_word-plain_impl-requires : goal.items::new_items::item_word-plain_impl-requires
+items::new_items::item_word-plain_impl-requires = new_items.items::new_items::item_word-plain_impl-requires
+
+pub items::new_items::item_word-static_item-requires : goal.items::new_items::item_word-static_item-requires
+items::new_items::item_word-static_item-requires = new_items.items::new_items::item_word-static_item-requires
+
+pub items::new_items::item_word-const_item-requires : goal.items::new_items::item_word-const_item-requires
+items::new_items::item_word-const_item-requires = new_items.items::new_items::item_word-const_item-requires
+
+pub items::new_items::item_word-type_alias-requires : goal.items::new_items::item_word-type_alias-requires
+items::new_items::item_word-type_alias-requires = new_items.items::new_items::item_word-type_alias-requires
+
+pub items::new_items::item_words-returns-then-at_const_word-clause-completes : goal.items::new_items::item_words-returns-then-at_const_word-clause-completes
+items::new_items::item_words-returns-then-at_const_word-clause-completes = new_items.items::new_items::item_words-returns-then-at_const_word-clause-completes
+
+pub items::new_items::item_words-returns-then-at_async_word-clause-completes : goal.items::new_items::item_words-returns-then-at_async_word-clause-completes
+items::new_items::item_words-returns-then-at_async_word-clause-completes = new_items.items::new_items::item_words-returns-then-at_async_word-clause-completes
+
+pub items::new_items::item_words-returns-then-at_gen_word-clause-completes : goal.items::new_items::item_words-returns-then-at_gen_word-clause-completes
+items::new_items::item_words-returns-then-at_gen_word-clause-completes = new_items.items::new_items::item_words-returns-then-at_gen_word-clause-completes
+
+pub items::new_items::item_words-returns-then-at_unsafe_word-clause-completes : goal.items::new_items::item_words-returns-then-at_unsafe_word-clause-completes
+items::new_items::item_words-returns-then-at_unsafe_word-clause-completes = new_items.items::new_items::item_words-returns-then-at_unsafe_word-clause-completes
+
+pub items::new_items::item_words-returns-clause-completes : goal.items::new_items::item_words-returns-clause-completes
+items::new_items::item_words-returns-clause-completes = new_items.items::new_items::item_words-returns-clause-completes
+
+pub items::new_items::item_words-words_from_async-requires : goal.items::new_items::item_words-words_from_async-requires
+items::new_items::item_words-words_from_async-requires = new_items.items::new_items::item_words-words_from_async-requires
+
+pub items::new_items::item_words-words_from_gen-requires : goal.items::new_items::item_words-words_from_gen-requires
+items::new_items::item_words-words_from_gen-requires = new_items.items::new_items::item_words-words_from_gen-requires
+
+pub items::new_items::item_words-words_from_unsafe-requires : goal.items::new_items::item_words-words_from_unsafe-requires
+items::new_items::item_words-words_from_unsafe-requires = new_items.items::new_items::item_words-words_from_unsafe-requires
+
+pub items::new_items::item_words-safe_or_abi-requires : goal.items::new_items::item_words-safe_or_abi-requires
+items::new_items::item_words-safe_or_abi-requires = new_items.items::new_items::item_words-safe_or_abi-requires
+
+pub items::new_items::item_words-contextual_words-requires : goal.items::new_items::item_words-contextual_words-requires
+items::new_items::item_words-contextual_words-requires = new_items.items::new_items::item_words-contextual_words-requires
+
+pub items::new_items::contextual_words-returns-then-at_safe_word-clause-completes : goal.items::new_items::contextual_words-returns-then-at_safe_word-clause-completes
+items::new_items::contextual_words-returns-then-at_safe_word-clause-completes = new_items.items::new_items::contextual_words-returns-then-at_safe_word-clause-completes
+
+pub items::new_items::contextual_words-returns-then-at-clause-completes : goal.items::new_items::contextual_words-returns-then-at-clause-completes
+items::new_items::contextual_words-returns-then-at-clause-completes = new_items.items::new_items::contextual_words-returns-then-at-clause-completes
+
+pub items::new_items::contextual_words-returns-then-at_auto_word-clause-completes : goal.items::new_items::contextual_words-returns-then-at_auto_word-clause-completes
+items::new_items::contextual_words-returns-then-at_auto_word-clause-completes = new_items.items::new_items::contextual_words-returns-then-at_auto_word-clause-completes
+
+pub items::new_items::contextual_words-returns-clause-completes : goal.items::new_items::contextual_words-returns-clause-completes
+items::new_items::contextual_words-returns-clause-completes = new_items.items::new_items::contextual_words-returns-clause-completes
+
+pub items::new_items::contextual_words-abi_or_words-requires : goal.items::new_items::contextual_words-abi_or_words-requires
+items::new_items::contextual_words-abi_or_words-requires = new_items.items::new_items::contextual_words-abi_or_words-requires
+
+pub items::new_items::contextual_words-after_abi-requires : goal.items::new_items::contextual_words-after_abi-requires
+items::new_items::contextual_words-after_abi-requires = new_items.items::new_items::contextual_words-after_abi-requires
+
+pub items::new_items::contextual_words-item_word-requires : goal.items::new_items::contextual_words-item_word-requires
+items::new_items::contextual_words-item_word-requires = new_items.items::new_items::contextual_words-item_word-requires
+
+pub items::new_items::contextual_words-item_word-requires-2 : goal.items::new_items::contextual_words-item_word-requires-2
+items::new_items::contextual_words-item_word-requires-2 = new_items.items::new_items::contextual_words-item_word-requires-2
+
+pub lists::read_element-fn_ptr_param-requires : goal.lists::read_element-fn_ptr_param-requires
+lists::read_element-fn_ptr_param-requires = lists.lists::read_element-fn_ptr_param-requires
+
+pub lists::read_element-returns-in-FnPtrParam-clause-reads : goal.lists::read_element-returns-in-FnPtrParam-clause-reads
+lists::read_element-returns-in-FnPtrParam-clause-reads = lists.lists::read_element-returns-in-FnPtrParam-clause-reads

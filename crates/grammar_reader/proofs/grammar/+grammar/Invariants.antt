@@ -10,12 +10,12 @@ use Rattle.grammar_reader.specs.Told.{args_of, element_of, ends_of, item_or_attr
 use Rattle.parser_input.specs.Kind.{raw_of}
 use Rattle.parser_input.specs.Kinds.{PATH, PATH_SEGMENT}
 use Rattle.parser_events.specs.Forest.{ExpectedMatchArm}
-use Rattle.rust_grammar.specs.Calls.{MatchArm, Ref, SinglePattern, Bound, WherePred}
-use Rattle.rust_grammar.specs.Notation.{◌or◌, ◌▸◌, ◌!, ◌⟨◌⟩, ◌<⟨◌⟩, more, until, ⁅◌⁆}
+use Rattle.rust_grammar.specs.Calls.{Attribute, MatchArm, Ref, SinglePattern, Bound, WherePred}
+use Rattle.rust_grammar.specs.Notation.{◌or◌, ◌▸◌, ◌!, ◌⟨◌⟩, ◌<⟨◌⟩, more, next, until, wide, ⁅◌⁆}
 use Rattle.rust_grammar.specs.Rule as rules
-use Rattle.rust_grammar.specs.Rule.{Call, One, Skip, Unless}
+use Rattle.rust_grammar.specs.Rule.{Call, One, Skip, Unless, When}
 use Rattle.rust_grammar.specs.Shared.{colons_before_more}
-use Rattle.rust_grammar.specs.Words.{'::', '|', 'r_curly', '+', 'comma'}
+use Rattle.rust_grammar.specs.Words.{'::', '|', 'r_curly', '+', 'comma', '#'}
 use Rattle.grammar_reader.proofs.grammar.+grammar.Given as goal
 
 abbrev pub decreases-paths::path_with_args : goal.decreases-paths::path_with_args
@@ -232,7 +232,7 @@ abbrev pub decreases-patterns::single_pattern : goal.decreases-patterns::single_
 decreases-patterns::single_pattern l = 512 * tokens l.p.now + 22
 
 abbrev pub decreases-patterns::inside : goal.decreases-patterns::inside
-decreases-patterns::inside l = 512 * tokens l.p.now + 21
+decreases-patterns::inside l = 512 * tokens l.p.now + 20
 
 abbrev pub decreases-patterns::expect_single : goal.decreases-patterns::expect_single
 decreases-patterns::expect_single l = 512 * tokens l.p.now + 23
@@ -497,7 +497,7 @@ decreases-expressions::operand::postfixes-turns l = tokens l.p
 
 -- items by hand
 abbrev pub decreases-items::item : goal.decreases-items::item
-decreases-items::item l = 512 * tokens l.p.now + 3
+decreases-items::item l = 512 * tokens l.p.now + 5
 
 abbrev pub decreases-items::attributed_item : goal.decreases-items::attributed_item
 decreases-items::attributed_item l = 512 * tokens l.p.now + 2
@@ -506,13 +506,13 @@ abbrev pub decreases-items::visible_item : goal.decreases-items::visible_item
 decreases-items::visible_item l = 512 * tokens l.p.now
 
 abbrev pub decreases-items::bare_item : goal.decreases-items::bare_item
-decreases-items::bare_item l = 512 * tokens l.p.now + 2
+decreases-items::bare_item l = 512 * tokens l.p.now + 4
 
 abbrev pub decreases-items::attributes : goal.decreases-items::attributes
 decreases-items::attributes l = 512 * tokens l.p.now + 1
 
 abbrev pub decreases-items::body : goal.decreases-items::body
-decreases-items::body l = 512 * tokens l.p.now + 1
+decreases-items::body l = 512 * tokens l.p.now + 3
 
 abbrev pub decreases-items::module : goal.decreases-items::module
 decreases-items::module l = 512 * tokens l.p.now
@@ -524,10 +524,10 @@ abbrev pub decreases-items::item_list : goal.decreases-items::item_list
 decreases-items::item_list l = 512 * tokens l.p.now
 
 abbrev pub decreases-items::item_turn : goal.decreases-items::item_turn
-decreases-items::item_turn l = 512 * tokens l.p.now + 4
+decreases-items::item_turn l = 512 * tokens l.p.now + 6
 
 abbrev pub decreases-items::items : goal.decreases-items::items
-decreases-items::items l = 512 * tokens l.p.now + 5
+decreases-items::items l = 512 * tokens l.p.now + 7
 
 abbrev pub decreases-items::assoc_items : goal.decreases-items::assoc_items
 decreases-items::assoc_items l = 512 * tokens l.p.now + 1
@@ -784,7 +784,7 @@ abbrev pub decreases-fields::path_value : goal.decreases-fields::path_value
 decreases-fields::path_value l = 512 * tokens l.p.now + 9
 
 abbrev pub decreases-fields::pattern_field : goal.decreases-fields::pattern_field
-decreases-fields::pattern_field l = 512 * tokens l.p.now + 1
+decreases-fields::pattern_field l = 512 * tokens l.p.now + 2
 
 abbrev pub decreases-fields::named_pattern : goal.decreases-fields::named_pattern
 decreases-fields::named_pattern l = 512 * tokens l.p.now
@@ -947,3 +947,194 @@ decreases-items::members::record_field l = 512 * tokens l.p.now + 3
 
 abbrev pub decreases-items::members::tuple_field : goal.decreases-items::members::tuple_field
 decreases-items::members::tuple_field l = 512 * tokens l.p.now + 21
+
+abbrev pub decreases-fields::attributed_pattern_field : goal.decreases-fields::attributed_pattern_field
+decreases-fields::attributed_pattern_field l = 512 * tokens l.p.now + 1
+
+abbrev pub decreases-fields::after_attributes : goal.decreases-fields::after_attributes
+decreases-fields::after_attributes l = 512 * tokens l.p.now
+
+abbrev pub decreases-fn_pointers::fn_ptr_type : goal.decreases-fn_pointers::fn_ptr_type
+decreases-fn_pointers::fn_ptr_type l = 512 * tokens l.p.now
+
+abbrev pub decreases-fn_pointers::expect_params : goal.decreases-fn_pointers::expect_params
+decreases-fn_pointers::expect_params l = 512 * tokens l.p.now + 1
+
+abbrev pub decreases-fn_pointers::params : goal.decreases-fn_pointers::params
+decreases-fn_pointers::params l = 512 * tokens l.p.now
+
+abbrev pub decreases-fn_pointers::fn_ptr_param : goal.decreases-fn_pointers::fn_ptr_param
+decreases-fn_pointers::fn_ptr_param l = 512 * tokens l.p.now + 27
+
+abbrev pub decreases-fn_pointers::dots_name_or_type : goal.decreases-fn_pointers::dots_name_or_type
+decreases-fn_pointers::dots_name_or_type l = 512 * tokens l.p.now + 24
+
+abbrev pub decreases-fn_pointers::missing_type : goal.decreases-fn_pointers::missing_type
+decreases-fn_pointers::missing_type l = 512 * tokens l.p.now + 9
+
+abbrev pub decreases-fn_pointers::missing_path : goal.decreases-fn_pointers::missing_path
+decreases-fn_pointers::missing_path l = 512 * tokens l.p.now + 8
+
+abbrev pub decreases-fn_pointers::missing_segment : goal.decreases-fn_pointers::missing_segment
+decreases-fn_pointers::missing_segment l = 512 * tokens l.p.now + 4
+
+abbrev pub decreases-fn_pointers::named_param : goal.decreases-fn_pointers::named_param
+decreases-fn_pointers::named_param l = 512 * tokens l.p.now + 23
+
+abbrev pub decreases-fn_pointers::dots_or_type : goal.decreases-fn_pointers::dots_or_type
+decreases-fn_pointers::dots_or_type l = 512 * tokens l.p.now + 20
+
+abbrev pub decreases-items::opt_new_generics : goal.decreases-items::opt_new_generics
+decreases-items::opt_new_generics l = 512 * tokens l.p.now + 1
+
+abbrev pub decreases-items::opt_new_where : goal.decreases-items::opt_new_where
+decreases-items::opt_new_where l = 512 * tokens l.p.now + 1
+
+abbrev pub decreases-pattern_ranges::range_or_atom : goal.decreases-pattern_ranges::range_or_atom
+decreases-pattern_ranges::range_or_atom l = 512 * tokens l.p.now + 21
+
+abbrev pub decreases-pattern_ranges::open_range : goal.decreases-pattern_ranges::open_range
+decreases-pattern_ranges::open_range l = 512 * tokens l.p.now
+
+abbrev pub decreases-pattern_ranges::opt_range_end : goal.decreases-pattern_ranges::opt_range_end
+decreases-pattern_ranges::opt_range_end l = 512 * tokens l.p.now + 22
+
+abbrev pub decreases-pattern_ranges::pattern_atom : goal.decreases-pattern_ranges::pattern_atom
+decreases-pattern_ranges::pattern_atom l = 512 * tokens l.p.now + 21
+
+abbrev pub decreases-pattern_ranges::opt_range : goal.decreases-pattern_ranges::opt_range
+decreases-pattern_ranges::opt_range l = 512 * tokens l.p.now
+
+abbrev pub decreases-params::new_param : goal.decreases-params::new_param
+decreases-params::new_param l = 512 * tokens l.p.now + 2
+
+abbrev pub decreases-params::attributed_param : goal.decreases-params::attributed_param
+decreases-params::attributed_param l = 512 * tokens l.p.now + 1
+
+abbrev pub decreases-params::after_attributes : goal.decreases-params::after_attributes
+decreases-params::after_attributes l = 512 * tokens l.p.now + 27
+
+abbrev pub decreases-params::self_rest : goal.decreases-params::self_rest
+decreases-params::self_rest l = 512 * tokens l.p.now + 1
+
+abbrev pub decreases-params::dots_or_param : goal.decreases-params::dots_or_param
+decreases-params::dots_or_param l = 512 * tokens l.p.now + 26
+
+abbrev pub decreases-params::param_type : goal.decreases-params::param_type
+decreases-params::param_type l = 512 * tokens l.p.now + 21
+
+abbrev pub decreases-params::dots_or_type : goal.decreases-params::dots_or_type
+decreases-params::dots_or_type l = 512 * tokens l.p.now + 20
+
+abbrev pub decreases-patterns::qualified_pat : goal.decreases-patterns::qualified_pat
+decreases-patterns::qualified_pat l = 512 * tokens l.p.now + 3
+
+abbrev pub decreases-attributes::outer_attributes : goal.decreases-attributes::outer_attributes
+decreases-attributes::outer_attributes l = 512 * tokens l.p.now
+
+abbrev pub decreases-attributes::path_meta : goal.decreases-attributes::path_meta
+decreases-attributes::path_meta l = 512 * tokens l.p.now
+
+abbrev pub decreases-attributes::unsafe_meta : goal.decreases-attributes::unsafe_meta
+decreases-attributes::unsafe_meta l = 512 * tokens l.p.now
+
+abbrev pub decreases-items::new_items::new_item : goal.decreases-items::new_items::new_item
+decreases-items::new_items::new_item l = 512 * tokens l.p.now + 2
+
+abbrev pub decreases-items::new_items::union_item : goal.decreases-items::new_items::union_item
+decreases-items::new_items::union_item l = 512 * tokens l.p.now
+
+abbrev pub decreases-items::new_items::expect_record_fields : goal.decreases-items::new_items::expect_record_fields
+decreases-items::new_items::expect_record_fields l = 512 * tokens l.p.now + 1
+
+abbrev pub decreases-items::new_items::item_words : goal.decreases-items::new_items::item_words
+decreases-items::new_items::item_words l = 512 * tokens l.p.now + 1
+
+abbrev pub decreases-items::new_items::contextual_words : goal.decreases-items::new_items::contextual_words
+decreases-items::new_items::contextual_words l = 512 * tokens l.p.now
+
+abbrev pub decreases-items::new_items::words_from_async : goal.decreases-items::new_items::words_from_async
+decreases-items::new_items::words_from_async l = 512 * tokens l.p.now + 6
+
+abbrev pub decreases-items::new_items::words_from_gen : goal.decreases-items::new_items::words_from_gen
+decreases-items::new_items::words_from_gen l = 512 * tokens l.p.now + 5
+
+abbrev pub decreases-items::new_items::words_from_unsafe : goal.decreases-items::new_items::words_from_unsafe
+decreases-items::new_items::words_from_unsafe l = 512 * tokens l.p.now + 4
+
+abbrev pub decreases-items::new_items::safe_or_abi : goal.decreases-items::new_items::safe_or_abi
+decreases-items::new_items::safe_or_abi l = 512 * tokens l.p.now + 3
+
+abbrev pub decreases-items::new_items::abi_or_words : goal.decreases-items::new_items::abi_or_words
+decreases-items::new_items::abi_or_words l = 512 * tokens l.p.now + 2
+
+abbrev pub decreases-items::new_items::after_abi : goal.decreases-items::new_items::after_abi
+decreases-items::new_items::after_abi l = 512 * tokens l.p.now + 2
+
+abbrev pub decreases-items::new_items::item_word : goal.decreases-items::new_items::item_word
+decreases-items::new_items::item_word l = 512 * tokens l.p.now + 1
+
+abbrev pub decreases-items::members::field_front : goal.decreases-items::members::field_front
+decreases-items::members::field_front l = 512 * tokens l.p.now + 2
+
+abbrev pub decreases-items::members::opt_discriminant : goal.decreases-items::members::opt_discriminant
+decreases-items::members::opt_discriminant l = 512 * tokens l.p.now
+
+abbrev pub decreases-items::members::const_value : goal.decreases-items::members::const_value
+decreases-items::members::const_value l = 512 * tokens l.p.now + 41
+
+abbrev pub decreases-items::functions::plain_fn : goal.decreases-items::functions::plain_fn
+decreases-items::functions::plain_fn l = 512 * tokens l.p.now
+
+abbrev pub decreases-items::functions::after_fn : goal.decreases-items::functions::after_fn
+decreases-items::functions::after_fn l = 512 * tokens l.p.now + 3
+
+abbrev pub decreases-items::consts::const_typed : goal.decreases-items::consts::const_typed
+decreases-items::consts::const_typed l = 512 * tokens l.p.now + 20
+
+abbrev pub decreases-items::consts::alias_value : goal.decreases-items::consts::alias_value
+decreases-items::consts::alias_value l = 512 * tokens l.p.now + 2
+
+abbrev pub decreases-items::traits::plain_impl : goal.decreases-items::traits::plain_impl
+decreases-items::traits::plain_impl l = 512 * tokens l.p.now
+
+abbrev pub decreases-items::traits::after_impl : goal.decreases-items::traits::after_impl
+decreases-items::traits::after_impl l = 512 * tokens l.p.now + 20
+
+abbrev pub decreases-items::traits::opt_impl_params : goal.decreases-items::traits::opt_impl_params
+decreases-items::traits::opt_impl_params l = 512 * tokens l.p.now + 1
+
+abbrev pub decreases-items::traits::plain_trait : goal.decreases-items::traits::plain_trait
+decreases-items::traits::plain_trait l = 512 * tokens l.p.now
+
+abbrev pub decreases-items::traits::after_trait : goal.decreases-items::traits::after_trait
+decreases-items::traits::after_trait l = 512 * tokens l.p.now + 5
+
+abbrev pub decreases-items::traits::trait_body : goal.decreases-items::traits::trait_body
+decreases-items::traits::trait_body l = 512 * tokens l.p.now + 4
+
+abbrev pub decreases-items::traits::alias_bounds : goal.decreases-items::traits::alias_bounds
+decreases-items::traits::alias_bounds l = 512 * tokens l.p.now
+
+abbrev pub decreases-items::traits::trait_items : goal.decreases-items::traits::trait_items
+decreases-items::traits::trait_items l = 512 * tokens l.p.now + 3
+
+abbrev pub invariant-attributes::outer_attributes-turns : goal.invariant-attributes::outer_attributes-turns
+invariant-attributes::outer_attributes-turns l = record {
+  innermost : (n : ℕ) → IsInnermost n l.initial.p.nodes → IsInnermost n l.p.nodes;
+  goes : (c : Bool) → TurnsFrom c (When (wide (next '#')) Attribute) l.initial.p l.p;
+  left : tokens l.p ≤ tokens l.initial.p;
+  looks : spent l.p ≤ spent l.initial.p;
+}
+
+abbrev pub decreases-attributes::outer_attributes-turns : goal.decreases-attributes::outer_attributes-turns
+decreases-attributes::outer_attributes-turns l = tokens l.p
+
+abbrev pub decreases-items::plain_body : goal.decreases-items::plain_body
+decreases-items::plain_body l = 512 * tokens l.p.now + 1
+
+abbrev pub decreases-fn_pointers::attributed_or_bare : goal.decreases-fn_pointers::attributed_or_bare
+decreases-fn_pointers::attributed_or_bare l = 512 * tokens l.p.now + 26
+
+abbrev pub decreases-fn_pointers::bare_param : goal.decreases-fn_pointers::bare_param
+decreases-fn_pointers::bare_param l = 512 * tokens l.p.now + 25

@@ -1,6 +1,6 @@
 //! Constants, statics and names of types.
 
-ghost use Rattle.std.specs.Prelude.{◌≤◌};
+ghost use Rattle.std.specs.Prelude.{◌≤◌, Bool};
 ghost use Rattle.parser_events.specs.Stack.{IsInnermost};
 ghost use Rattle.rust_grammar.specs.Notation.{⁅◌⁆};
 ghost use Rattle.rust_grammar.specs.Items as rows;
@@ -10,7 +10,9 @@ ghost use Rattle.rust_productions.specs.Reads.{Completes, Reads};
 
 use crate::grammar::expressions::{Level, expect_expression};
 use crate::grammar::generic_params::bounds_after_colon;
-use crate::grammar::items::{opt_generic_params, opt_where_clause};
+use crate::grammar::items::{
+    opt_generic_params, opt_new_generics, opt_new_where, opt_where_clause,
+};
 use crate::grammar::types::{expect_type, opt_type_after};
 use parser_events::parser::{Marker, Parser};
 use parser_input::syntax_kind::SyntaxKind;
@@ -29,8 +31,23 @@ pub(crate) fn const_item(p: &mut Parser<'_>, item: Marker, condition: bool)
 {
     take(p, SyntaxKind::CONST_KW);
     underscore_or_name(p);
-    typed_value(p, condition);
+    opt_new_generics(p);
+    const_typed(p, condition);
     complete(p, item, SyntaxKind::CONST);
+}
+
+/// Parses the type and the optional value of a constant, its where clause and its `;`.
+// : u8 = 1;
+#[cycle(grammar)]
+fn const_typed(p: &mut Parser<'_>, in_condition: bool)
+    ensures reads { Reads in_condition rows.const_typed p.old p.new }
+    ensures asks { Asks 20 p.old p.new }
+{
+    expect(p, SyntaxKind::COLON);
+    expect_type(p);
+    opt_value(p, in_condition);
+    opt_new_where(p);
+    expect(p, SyntaxKind::SEMICOLON);
 }
 
 /// Parses a static, and completes its node.
@@ -49,7 +66,7 @@ pub(crate) fn static_item(p: &mut Parser<'_>, item: Marker, condition: bool)
     complete(p, item, SyntaxKind::STATIC);
 }
 
-/// Parses the type and the optional value of a constant or a static, and its `;`.
+/// Parses the type and the optional value of a static, and its `;`.
 // : u8 = 1;
 #[cycle(grammar)]
 fn typed_value(p: &mut Parser<'_>, condition: bool)
@@ -89,7 +106,18 @@ pub(crate) fn type_alias(p: &mut Parser<'_>, item: Marker, condition: bool)
     opt_generic_params(p);
     bounds_after_colon(p);
     opt_where_clause(p);
-    opt_type_after(p, SyntaxKind::EQ);
-    expect(p, SyntaxKind::SEMICOLON);
+    alias_value(p);
     complete(p, item, SyntaxKind::TYPE_ALIAS);
+}
+
+/// Parses the optional type of a type alias, its where clause and its `;`.
+// = B<T>;
+#[cycle(grammar)]
+fn alias_value(p: &mut Parser<'_>)
+    ensures reads { (c : Bool) → Reads c rows.alias_value p.old p.new }
+    ensures asks { Asks 3 p.old p.new }
+{
+    opt_type_after(p, SyntaxKind::EQ);
+    opt_new_where(p);
+    expect(p, SyntaxKind::SEMICOLON);
 }

@@ -1,12 +1,15 @@
 //! Functions.
 
-ghost use Rattle.std.specs.Prelude.{Bool};
+ghost use Rattle.std.specs.Prelude.{◌≤◌, Bool};
+ghost use Rattle.parser_input.specs.Kinds.{FN};
 ghost use Rattle.parser_events.specs.Stack.{IsInnermost};
 ghost use Rattle.rust_grammar.specs.Calls.{Params, RetType};
 ghost use Rattle.rust_grammar.specs.Items.{fn_begins};
-ghost use Rattle.rust_grammar.specs.Notation.{⁅◌⁆, ◌! };
+ghost use Rattle.rust_grammar.specs.Notation.{⁅◌⁆, ◌!, ◌▸◌, ◌<⟨◌⟩};
 ghost use Rattle.rust_grammar.specs.Items as rows;
-ghost use Rattle.rust_productions.specs.Looks.{Takes, Asks};
+ghost use Rattle.rust_grammar.specs.Rule.{One};
+ghost use Rattle.rust_grammar.specs.Words.{'fn'};
+ghost use Rattle.rust_productions.specs.Looks.{tokens, Takes, Asks};
 ghost use Rattle.rust_productions.specs.Reads.{Completes, Reads};
 ghost use Rattle.rust_productions.specs.Starts.{Starts};
 
@@ -19,7 +22,7 @@ use parser_events::parser::{Marker, Parser};
 use parser_input::syntax_kind::SyntaxKind;
 use rust_productions::grammar::items::fn_words;
 use rust_productions::grammar::names::expect_name;
-use rust_productions::grammar::{at, at_pair, complete, error, expect};
+use rust_productions::grammar::{at, at_pair, complete, error, expect, take};
 
 /// Parses a function, and completes its node.
 // const unsafe fn f<T>(a: T) -> T { a }
@@ -31,13 +34,37 @@ pub(crate) fn fn_item(p: &mut Parser<'_>, item: Marker, condition: bool)
     ensures takes { Takes 4080 p.old p.new }
 {
     fn_words(p);
+    after_fn(p);
+    complete(p, item, SyntaxKind::FN);
+}
+
+/// Parses a function without words before its `fn`, and completes its node.
+// fn f<T>(a: T) -> T { a }
+#[cycle(grammar)]
+pub(crate) fn plain_fn(p: &mut Parser<'_>, node: Marker)
+    requires some { 1 ≤ tokens p.old }
+    requires innermost { IsInnermost node p.old.nodes }
+    ensures completes { (c : Bool) → Completes c (FN <⟨ One 'fn' ▸ rows.after_fn ⟩) p.old p.new }
+    ensures takes { Takes 4080 p.old p.new }
+{
+    take(p, SyntaxKind::FN_KW);
+    after_fn(p);
+    complete(p, node, SyntaxKind::FN);
+}
+
+/// Parses a function after its `fn`.
+// f<T>(a: T) -> T { a }
+#[cycle(grammar)]
+fn after_fn(p: &mut Parser<'_>)
+    ensures reads { (c : Bool) → Reads c rows.after_fn p.old p.new }
+    ensures asks { Asks 8 p.old p.new }
+{
     expect_name(p);
     opt_generic_params(p);
     expect_params(p);
     opt_ret_type(p);
     opt_where_clause(p);
     fn_body(p);
-    complete(p, item, SyntaxKind::FN);
 }
 
 /// Parses function parameters; emits an error if there are none.

@@ -1,25 +1,27 @@
 //! The members of structs and enums: variants, and fields with and without names.
 
 ghost use Rattle.std.specs.Prelude.{◌≤◌, Bool, false, true};
-ghost use Rattle.rust_grammar.specs.Calls.{Attribute, Name, Visibility};
+ghost use Rattle.parser_input.specs.Kinds.{CONST_ARG};
+ghost use Rattle.rust_grammar.specs.Calls.{Attribute, Expression, Name, Visibility};
 ghost use Rattle.rust_grammar.specs.Items as rows;
-ghost use Rattle.rust_grammar.specs.Notation.{◌▸◌, ⁅◌⁆, ◌*, ◌! };
+ghost use Rattle.rust_grammar.specs.Notation.{◌▸◌, ⁅◌⁆, ◌*, ◌!, ◌⟨◌⟩};
 ghost use Rattle.rust_grammar.specs.Rule.{begins};
 ghost use Rattle.rust_productions.specs.Looks.{tokens, Takes, Asks, Peeks};
 ghost use Rattle.rust_productions.specs.Reads.{looks, Reads, Saw};
 
+use crate::grammar::expressions::{Level, expect_expression};
 use crate::grammar::items::attributes_and_visibility;
 use crate::grammar::lists::{record_fields, tuple_fields};
 use crate::grammar::types::{any_type, expect_type};
 use parser_events::parser::Parser;
 use parser_input::syntax_kind::SyntaxKind;
+use rust_productions::grammar::items::opt_unsafe_field;
 use rust_productions::grammar::names::{expect_name, name};
 use rust_productions::grammar::types::at_type;
 use rust_productions::grammar::visibility::visibility;
-use rust_productions::grammar::{complete, current, expect, start};
+use rust_productions::grammar::{at_new, at_whole, complete, current, expect, start, take};
 
-/// Returns `true` if a variant or a named field starts here: at an attribute, a visibility or a
-/// name.
+/// Returns `true` if a variant starts here: at an attribute, a visibility or a name.
 pub(crate) fn at_named_member(p: &mut Parser<'_>) -> bool
     ensures sees { (c : Bool) → Saw c
         (begins looks (Attribute * ▸ ⁅ Visibility ⁆ ▸ Name !)) p.old result }
@@ -27,6 +29,24 @@ pub(crate) fn at_named_member(p: &mut Parser<'_>) -> bool
 {
     match current(p) {
         SyntaxKind::POUND | SyntaxKind::PUB_KW | SyntaxKind::IDENT => true,
+        _ => false,
+    }
+}
+
+/// Returns `true` if a named field starts here: at an attribute, a visibility, a name, or in the
+/// whole language at `unsafe`.
+pub(crate) fn at_record_field(p: &mut Parser<'_>) -> bool
+    ensures sees { (c : Bool) → Saw c (begins looks rows.field_front) p.old result }
+    ensures peeks { Peeks 1 p.old p.new }
+{
+    match current(p) {
+        SyntaxKind::PUB_KW | SyntaxKind::POUND | SyntaxKind::IDENT => true,
+        SyntaxKind::UNSAFE_KW => {
+            if at_whole(p) {
+                return true;
+            }
+            false
+        }
         _ => false,
     }
 }
@@ -54,6 +74,7 @@ pub(crate) fn variant(p: &mut Parser<'_>)
     let variant = start(p);
     named(p);
     opt_fields(p);
+    opt_discriminant(p);
     complete(p, variant, SyntaxKind::VARIANT);
 }
 
@@ -67,9 +88,10 @@ pub(crate) fn record_field(p: &mut Parser<'_>)
     ensures takes { Takes 4000 p.old p.new }
 {
     let field = start(p);
-    named(p);
+    field_front(p);
     expect(p, SyntaxKind::COLON);
     expect_type(p);
+    opt_discriminant(p);
     complete(p, field, SyntaxKind::RECORD_FIELD);
 }
 
@@ -87,7 +109,70 @@ pub(crate) fn tuple_field(p: &mut Parser<'_>)
     complete(p, field, SyntaxKind::TUPLE_FIELD);
 }
 
-/// Parses the attributes, the visibility and the name of a variant or a field.
+/// Parses the attributes, the visibility and the name of a named field.
+// #[a] pub unsafe b
+#[cycle(grammar)]
+fn field_front(p: &mut Parser<'_>)
+    requires begins { Saw false (begins looks rows.field_front) p.old true }
+    requires some { 1 ≤ tokens p.old }
+    ensures reads { Reads false rows.field_front p.old p.new }
+    ensures takes { Takes 4060 p.old p.new }
+{
+    match current(p) {
+        SyntaxKind::POUND => {
+            attributes_and_visibility(p);
+            unsafe_and_name(p);
+        }
+        SyntaxKind::PUB_KW => {
+            visibility(p);
+            unsafe_and_name(p);
+        }
+        SyntaxKind::UNSAFE_KW => {
+            take(p, SyntaxKind::UNSAFE_KW);
+            expect_name(p);
+        }
+        _ => {
+            name(p);
+        }
+    }
+}
+
+/// Parses the optional `unsafe` of a named field and its name.
+// unsafe b
+fn unsafe_and_name(p: &mut Parser<'_>)
+    ensures reads { (c : Bool) → Reads c rows.unsafe_and_name p.old p.new }
+    ensures asks { Asks 2 p.old p.new }
+{
+    opt_unsafe_field(p);
+    expect_name(p);
+}
+
+/// Parses the optional value of a variant, or the optional default of a field.
+// = 1
+#[cycle(grammar)]
+fn opt_discriminant(p: &mut Parser<'_>)
+    ensures reads { Reads false rows.discriminant p.old p.new }
+    ensures asks { Asks 1 p.old p.new }
+{
+    if at_new(p, SyntaxKind::EQ) {
+        take(p, SyntaxKind::EQ);
+        const_value(p);
+    }
+}
+
+/// Parses an expression as a constant; emits an error if there is none.
+// 1
+#[cycle(grammar)]
+fn const_value(p: &mut Parser<'_>)
+    ensures reads { Reads false (CONST_ARG ⟨ Expression ! ⟩) p.old p.new }
+    ensures asks { Asks 770 p.old p.new }
+{
+    let node = start(p);
+    expect_expression(p, Level::Expression, false);
+    complete(p, node, SyntaxKind::CONST_ARG);
+}
+
+/// Parses the attributes, the visibility and the name of a variant.
 // #[a] pub b
 #[cycle(grammar)]
 fn named(p: &mut Parser<'_>)

@@ -1,8 +1,7 @@
 use Rattle.std.proofs.Common.{false, true, subst}
-use Rattle.rust_grammar.specs.Rule.{Look}
 use Rattle.rust_productions.specs.Reads.{looks, Saw}
 use Rattle.rust_productions.proofs.Begins.{meta-begins}
-use Rattle.grammar_reader.proofs.AnyMode.{pattern-mode, type-mode}
+use Rattle.grammar_reader.proofs.AnyMode.{meta-mode, pattern-mode, type-mode}
 use Rattle.grammar_reader.proofs.PathArgs.{any-mode}
 use Rattle.ra_parser.specs.Entries.{single_of}
 use Rattle.ra_parser.specs.declared.entries.Single.{Single}
@@ -16,7 +15,7 @@ expression-requires c = record {
 
 pub meta-requires : goal.meta-requires
 meta-requires c = record {
-  begins = λ d. any-mode (subst (λ (l : Look). Saw false l c.args.p.now true) meta-begins (subst (λ (s : Single). Saw false (looks (single_of s)) c.args.p.now true) c.in-Meta.is c.requires.begins));
+  begins = λ d. meta-mode (subst (λ (s : Single). Saw false (looks (single_of s)) c.args.p.now true) c.in-Meta.is c.requires.begins);
   some = c.requires.some;
 }
 

@@ -18,8 +18,8 @@ use Rattle.rust_grammar.specs.Words.{'mut', 'ref'}
 use Rattle.grammar_reader.specs.declared.grammar.paths.Mode.TheVariants as modes
 use Rattle.grammar_reader.proofs.PathArgs.{any-mode, paths-begin}
 use Rattle.rust_productions.specs.Reads.{looks, Saw}
-use Rattle.rust_productions.proofs.ByHand.{after-look, reads-call, reads-node, reads-nothing, reads-then}
-use Rattle.rust_productions.proofs.Choices.{anew-after, gives-anew, reads-here}
+use Rattle.rust_productions.proofs.ByHand.{after-look, reads-call, reads-node, reads-nothing, reads-then, completes-look, completes-then, completes-wrap}
+use Rattle.rust_productions.proofs.Choices.{anew-after, gives-anew, reads-here, anew-completes, anew-here, anew-look, completes-here}
 use Rattle.rust_productions.proofs.Facts.{begun, nothing, saw-so, ◌and◌}
 use Rattle.rust_productions.proofs.Seen.{begins-else, saw-after, saw-before, saw-else, saw-inside, saw-left}
 use Rattle.grammar_reader.proofs.grammar.+grammar.Goals as goal
@@ -78,27 +78,58 @@ fields::path_value-complete-requires-2 t c = c.complete.ensures.closes.innermost
 pub fields::path_value-returns-clause-reads : goal.fields::path_value-returns-clause-reads
 fields::path_value-returns-clause-reads t c = λ cond. reads-node cond c.start-node.ensures.opens (reads-node cond c.start-value.ensures.opens (reads-call cond (c.path_with_args.ensures.gives cond)) c.complete.ensures.closes) c.complete-2.ensures.closes
 
-pub fields::pattern_field-returns-then-at_pair-clause-gives : goal.fields::pattern_field-returns-then-at_pair-clause-gives
-unfolding look_of begins_below whole rule items statements expressions patterns types paths there_at shift passes is_silent begins in_mode anew row one_of any_of no_longer longest is_longer
-fields::pattern_field-returns-then-at_pair-clause-gives t c = λ cond. gives-anew (anew-after refl (reads-here (saw-so (c.at_pair.ensures.sees cond) c.if-at_pair.true and nothing) (after-look cond c.at_pair.ensures.peeks.same (c.rest_pat.ensures.reads cond))))
-
-pub fields::pattern_field-named_pattern-requires : goal.fields::pattern_field-named_pattern-requires
-fields::pattern_field-named_pattern-requires t c = (omega arith, omega (arith, c.at_named_field.ensures.some c.if-at_named_field.true, c.at_named_field.ensures.peeks.left, c.at_pair.ensures.peeks.left))
-
-pub fields::pattern_field-returns-then-at_named_field-clause-gives : goal.fields::pattern_field-returns-then-at_named_field-clause-gives
-unfolding look_of begins_below whole rule items statements expressions patterns types paths there_at shift passes is_silent begins in_mode anew row one_of any_of no_longer longest is_longer
-fields::pattern_field-returns-then-at_named_field-clause-gives t c = λ cond. gives-anew (anew-after refl (reads-here (saw-so (c.at_pair.ensures.sees cond) c.if-at_pair.false and saw-before c.at_pair.ensures.peeks.same (saw-so (c.at_named_field.ensures.sees cond) c.if-at_named_field.true) and nothing) (after-look cond c.at_pair.ensures.peeks.same (after-look cond c.at_named_field.ensures.peeks.same (c.named_pattern.ensures.reads cond)))))
-
-pub fields::pattern_field-shorthand-requires-clause-begins : goal.fields::pattern_field-shorthand-requires-clause-begins
-unfolding look_of begins_below whole rule items statements expressions patterns types paths there_at shift passes is_silent begins in_mode anew row one_of any_of no_longer longest is_longer
-fields::pattern_field-shorthand-requires-clause-begins t c = λ cond. saw-after c.at_named_field.ensures.peeks.same (saw-after c.at_pair.ensures.peeks.same (saw-else (begins looks (⁅ One 'ref' ⁆ ▸ ⁅ One 'mut' ⁆ ▸ Name !)) (looks rules.pattern_field) (saw-so (c.at_pair.ensures.sees cond) c.if-at_pair.false and saw-before c.at_pair.ensures.peeks.same (saw-so (c.at_named_field.ensures.sees cond) c.if-at_named_field.false) and nothing) (c.requires.begins cond) refl))
-
-pub fields::pattern_field-returns-clause-gives : goal.fields::pattern_field-returns-clause-gives
-unfolding look_of begins_below whole rule items statements expressions patterns types paths there_at shift passes is_silent begins in_mode anew row one_of any_of no_longer longest is_longer
-fields::pattern_field-returns-clause-gives t c = λ cond. gives-anew (anew-after refl (reads-here (saw-so (c.at_pair.ensures.sees cond) c.if-at_pair.false and saw-before c.at_pair.ensures.peeks.same (saw-so (c.at_named_field.ensures.sees cond) c.if-at_named_field.false) and nothing) (after-look cond c.at_pair.ensures.peeks.same (after-look cond c.at_named_field.ensures.peeks.same (c.shorthand.ensures.reads cond)))))
-
 pub fields::named_pattern-complete-requires : goal.fields::named_pattern-complete-requires
 fields::named_pattern-complete-requires t c = (c.expect_pattern.ensures.reads true).does.innermost _ ((c.take.ensures.reads true).does.innermost _ ((c.name_of_field.ensures.reads true).does.innermost _ c.start-node.ensures.marker))
 
 pub fields::named_pattern-returns-clause-reads : goal.fields::named_pattern-returns-clause-reads
 fields::named_pattern-returns-clause-reads t c = λ cond. reads-node cond c.start-node.ensures.opens (reads-then cond (c.name_of_field.ensures.reads cond) (reads-then cond (c.take.ensures.reads cond) (c.expect_pattern.ensures.reads cond))) c.complete.ensures.closes
+
+pub fields::pattern_field-returns-then-at_pair-clause-gives : goal.fields::pattern_field-returns-then-at_pair-clause-gives
+unfolding look_of begins_below whole rule items statements expressions patterns types paths there_at shift passes is_silent begins in_mode anew row one_of any_of no_longer longest is_longer
+fields::pattern_field-returns-then-at_pair-clause-gives t c = λ cond. gives-anew (anew-after refl (reads-here (saw-so (c.at_new.ensures.sees cond) c.if-at_new.false and saw-before c.at_new.ensures.peeks.same (saw-so (c.at_pair.ensures.sees cond) c.if-at_pair.true) and nothing) (after-look cond c.at_new.ensures.peeks.same (after-look cond c.at_pair.ensures.peeks.same (c.rest_pat.ensures.reads cond)))))
+
+pub fields::pattern_field-returns-then-at_named_field-clause-gives : goal.fields::pattern_field-returns-then-at_named_field-clause-gives
+unfolding look_of begins_below whole rule items statements expressions patterns types paths there_at shift passes is_silent begins in_mode anew row one_of any_of no_longer longest is_longer
+fields::pattern_field-returns-then-at_named_field-clause-gives t c = λ cond. gives-anew (anew-after refl (reads-here (saw-so (c.at_new.ensures.sees cond) c.if-at_new.false and saw-before c.at_new.ensures.peeks.same (saw-so (c.at_pair.ensures.sees cond) c.if-at_pair.false) and saw-before c.at_new.ensures.peeks.same (saw-before c.at_pair.ensures.peeks.same (saw-so (c.at_named_field.ensures.sees cond) c.if-at_named_field.true)) and nothing) (after-look cond c.at_new.ensures.peeks.same (after-look cond c.at_pair.ensures.peeks.same (after-look cond c.at_named_field.ensures.peeks.same (c.named_pattern.ensures.reads cond))))))
+
+pub fields::pattern_field-returns-clause-gives : goal.fields::pattern_field-returns-clause-gives
+unfolding look_of begins_below whole rule items statements expressions patterns types paths there_at shift passes is_silent begins in_mode anew row one_of any_of no_longer longest is_longer
+fields::pattern_field-returns-clause-gives t c = λ cond. gives-anew (anew-after refl (reads-here (saw-so (c.at_new.ensures.sees cond) c.if-at_new.false and saw-before c.at_new.ensures.peeks.same (saw-so (c.at_pair.ensures.sees cond) c.if-at_pair.false) and saw-before c.at_new.ensures.peeks.same (saw-before c.at_pair.ensures.peeks.same (saw-so (c.at_named_field.ensures.sees cond) c.if-at_named_field.false)) and nothing) (after-look cond c.at_new.ensures.peeks.same (after-look cond c.at_pair.ensures.peeks.same (after-look cond c.at_named_field.ensures.peeks.same (c.shorthand.ensures.reads cond))))))
+
+pub fields::pattern_field-returns-then-at_new-clause-gives : goal.fields::pattern_field-returns-then-at_new-clause-gives
+unfolding look_of begins_below whole rule items statements expressions patterns types paths there_at shift passes is_silent begins in_mode anew row one_of any_of no_longer longest is_longer
+fields::pattern_field-returns-then-at_new-clause-gives t c = λ cond. gives-anew (anew-here (saw-so (c.at_new.ensures.sees cond) c.if-at_new.true and nothing) (anew-look c.at_new.ensures.peeks.same (c.attributed_pattern_field.ensures.anew cond)))
+
+pub fields::pattern_field-named_pattern-requires : goal.fields::pattern_field-named_pattern-requires
+fields::pattern_field-named_pattern-requires t c = (omega arith, omega (arith, c.at_named_field.ensures.some c.if-at_named_field.true, c.at_named_field.ensures.peeks.left, c.at_pair.ensures.peeks.left, c.at_new.ensures.peeks.left))
+
+pub fields::pattern_field-shorthand-requires-clause-begins : goal.fields::pattern_field-shorthand-requires-clause-begins
+unfolding look_of begins_below whole rule items statements expressions patterns types paths there_at shift passes is_silent begins in_mode anew row one_of any_of no_longer longest is_longer
+fields::pattern_field-shorthand-requires-clause-begins t c = λ cond. saw-after c.at_named_field.ensures.peeks.same (saw-after c.at_pair.ensures.peeks.same (saw-after c.at_new.ensures.peeks.same (saw-else (begins looks (⁅ One 'ref' ⁆ ▸ ⁅ One 'mut' ⁆ ▸ Name !)) (looks rules.pattern_field) (saw-so (c.at_new.ensures.sees cond) c.if-at_new.false and saw-before c.at_new.ensures.peeks.same (saw-so (c.at_pair.ensures.sees cond) c.if-at_pair.false) and saw-before c.at_new.ensures.peeks.same (saw-before c.at_pair.ensures.peeks.same (saw-so (c.at_named_field.ensures.sees cond) c.if-at_named_field.false)) and nothing) (c.requires.begins cond) refl)))
+
+pub fields::attributed_pattern_field-after_attributes-requires : goal.fields::attributed_pattern_field-after_attributes-requires
+fields::attributed_pattern_field-after_attributes-requires t c = (omega arith, (c.attributes.ensures.reads true).does.innermost _ ((c.attribute.ensures.gives true).does.innermost _ (c.start-node.ensures.marker)))
+
+pub fields::attributed_pattern_field-returns-clause-anew : goal.fields::attributed_pattern_field-returns-clause-anew
+fields::attributed_pattern_field-returns-clause-anew t c = λ cond. anew-completes c.start-node.ensures.opens (completes-then (reads-call cond (c.attribute.ensures.gives cond)) (completes-then (c.attributes.ensures.reads cond) (c.after_attributes.ensures.completes cond)))
+
+pub fields::after_attributes-returns-then-at_pair-clause-completes : goal.fields::after_attributes-returns-then-at_pair-clause-completes
+unfolding look_of begins_below whole rule items statements expressions patterns types paths there_at shift passes is_silent begins in_mode anew row one_of any_of no_longer longest is_longer
+fields::after_attributes-returns-then-at_pair-clause-completes t c = λ cond. completes-here (saw-so (c.at_pair.ensures.sees cond) c.if-at_pair.true and nothing) (completes-look c.at_pair.ensures.peeks.same (completes-wrap (c.take_pair.ensures.reads cond _ _) c.complete.ensures.closes))
+
+pub fields::after_attributes-returns-then-at_attributed_named_field-clause-completes : goal.fields::after_attributes-returns-then-at_attributed_named_field-clause-completes
+unfolding look_of begins_below whole rule items statements expressions patterns types paths there_at shift passes is_silent begins in_mode anew row one_of any_of no_longer longest is_longer
+fields::after_attributes-returns-then-at_attributed_named_field-clause-completes t c = λ cond. completes-here (saw-so (c.at_pair.ensures.sees cond) c.if-at_pair.false and saw-before c.at_pair.ensures.peeks.same (saw-so (c.at_attributed_named_field.ensures.sees cond) c.if-at_attributed_named_field.true) and nothing) (completes-look c.at_pair.ensures.peeks.same (completes-look c.at_attributed_named_field.ensures.peeks.same (completes-wrap (reads-then cond (c.name_of_field.ensures.reads cond) (reads-then cond (c.take.ensures.reads cond) (c.expect_pattern.ensures.reads cond))) c.complete-then-at_attributed_named_field.ensures.closes)))
+
+pub fields::after_attributes-returns-clause-completes : goal.fields::after_attributes-returns-clause-completes
+unfolding look_of begins_below whole rule items statements expressions patterns types paths there_at shift passes is_silent begins in_mode anew row one_of any_of no_longer longest is_longer
+fields::after_attributes-returns-clause-completes t c = λ cond. completes-here (saw-so (c.at_pair.ensures.sees cond) c.if-at_pair.false and saw-before c.at_pair.ensures.peeks.same (saw-so (c.at_attributed_named_field.ensures.sees cond) c.if-at_attributed_named_field.false) and nothing) (completes-look c.at_pair.ensures.peeks.same (completes-look c.at_attributed_named_field.ensures.peeks.same (completes-wrap (c.any_binding.ensures.reads cond) c.complete-2.ensures.closes)))
+
+pub fields::after_attributes-complete-requires : goal.fields::after_attributes-complete-requires
+fields::after_attributes-complete-requires t c = (c.take_pair.ensures.reads true 0 0).does.innermost _ (c.at_pair.ensures.peeks.same.innermost _ (c.requires.innermost))
+
+pub fields::after_attributes-complete-requires-then-at_attributed_named_field : goal.fields::after_attributes-complete-requires-then-at_attributed_named_field
+fields::after_attributes-complete-requires-then-at_attributed_named_field t c = (c.expect_pattern.ensures.reads true).does.innermost _ ((c.take.ensures.reads true).does.innermost _ ((c.name_of_field.ensures.reads true).does.innermost _ (c.at_attributed_named_field.ensures.peeks.same.innermost _ (c.at_pair.ensures.peeks.same.innermost _ (c.requires.innermost)))))
+
+pub fields::after_attributes-complete-requires-2 : goal.fields::after_attributes-complete-requires-2
+fields::after_attributes-complete-requires-2 t c = (c.any_binding.ensures.reads true).does.innermost _ (c.at_attributed_named_field.ensures.peeks.same.innermost _ (c.at_pair.ensures.peeks.same.innermost _ (c.requires.innermost)))

@@ -108,95 +108,95 @@ pub items::attributes-returns-clause-reads : goal.items::attributes-returns-clau
 unfolding look_of begins_below whole rule items statements expressions patterns types paths there_at shift passes is_silent begins in_mode anew row one_of any_of no_longer longest is_longer
 items::attributes-returns-clause-reads t c = λ cond. last-turn cond (Call rules.attribute) (ends-at-end cond (Call rules.attribute) refl) _ _ _ (c.turns.invariant.goes cond) (saw-told (saw-so (c.at.ensures.sees cond) c.turns-test.false and nothing) refl) c.at.ensures.peeks.same
 
-pub items::body-module-requires : goal.items::body-module-requires
-items::body-module-requires t c = (omega arith, (omega (arith, c.current.ensures.peeks.left, c.current.ensures.some (λ e. absurd (omega (arith, sym (ap raw_of c.in-MOD_KW.is) ∙ e)))), c.current.ensures.peeks.same.innermost _ c.requires.innermost))
+pub items::plain_body-module-requires : goal.items::plain_body-module-requires
+items::plain_body-module-requires t c = (omega arith, (omega (arith, c.current.ensures.peeks.left, c.current.ensures.some (λ e. absurd (omega (arith, sym (ap raw_of c.in-MOD_KW.is) ∙ e)))), c.current.ensures.peeks.same.innermost _ c.requires.innermost))
 
-pub items::body-returns-in-MOD_KW-clause-completes : goal.items::body-returns-in-MOD_KW-clause-completes
+pub items::plain_body-returns-in-MOD_KW-clause-completes : goal.items::plain_body-returns-in-MOD_KW-clause-completes
 unfolding look_of begins_below whole rule items statements expressions patterns types paths there_at shift passes is_silent begins in_mode anew row one_of any_of no_longer longest is_longer
-items::body-returns-in-MOD_KW-clause-completes t c = where-here (saw-arm c.in-MOD_KW.is (c.current.ensures.sees c.args.condition) and nothing) (where-look c.current.ensures.peeks.same (where-any (c.module.ensures.completes c.args.condition)))
+items::plain_body-returns-in-MOD_KW-clause-completes t c = where-here (saw-arm c.in-MOD_KW.is (c.current.ensures.sees c.args.condition) and nothing) (where-look c.current.ensures.peeks.same (where-any (c.module.ensures.completes c.args.condition)))
 
-pub items::body-use_item-requires : goal.items::body-use_item-requires
-items::body-use_item-requires t c = record { some = omega (arith, c.current.ensures.peeks.left, c.current.ensures.some (λ e. absurd (omega (arith, sym (ap raw_of c.in-USE_KW.is) ∙ e)))); innermost = c.current.ensures.peeks.same.innermost _ c.requires.innermost }
+pub items::plain_body-use_item-requires : goal.items::plain_body-use_item-requires
+items::plain_body-use_item-requires t c = record { some = omega (arith, c.current.ensures.peeks.left, c.current.ensures.some (λ e. absurd (omega (arith, sym (ap raw_of c.in-USE_KW.is) ∙ e)))); innermost = c.current.ensures.peeks.same.innermost _ c.requires.innermost }
 
-pub items::body-returns-in-USE_KW-clause-completes : goal.items::body-returns-in-USE_KW-clause-completes
+pub items::plain_body-returns-in-USE_KW-clause-completes : goal.items::plain_body-returns-in-USE_KW-clause-completes
 unfolding look_of begins_below whole rule items statements expressions patterns types paths there_at shift passes is_silent begins in_mode anew row one_of any_of no_longer longest is_longer
-items::body-returns-in-USE_KW-clause-completes t c = where-here (saw-arm c.in-USE_KW.is (c.current.ensures.sees c.args.condition) and nothing) (where-look c.current.ensures.peeks.same (where-any (c.use_item.ensures.completes c.args.condition)))
+items::plain_body-returns-in-USE_KW-clause-completes t c = where-here (saw-arm c.in-USE_KW.is (c.current.ensures.sees c.args.condition) and nothing) (where-look c.current.ensures.peeks.same (where-any (c.use_item.ensures.completes c.args.condition)))
 
-pub items::body-struct_item-requires : goal.items::body-struct_item-requires
-items::body-struct_item-requires t c = (omega arith, (omega (arith, c.current.ensures.peeks.left, c.current.ensures.some (λ e. absurd (omega (arith, sym (ap raw_of c.in-STRUCT_KW.is) ∙ e)))), c.current.ensures.peeks.same.innermost _ c.requires.innermost))
+pub items::plain_body-struct_item-requires : goal.items::plain_body-struct_item-requires
+items::plain_body-struct_item-requires t c = (omega arith, (omega (arith, c.current.ensures.peeks.left, c.current.ensures.some (λ e. absurd (omega (arith, sym (ap raw_of c.in-STRUCT_KW.is) ∙ e)))), c.current.ensures.peeks.same.innermost _ c.requires.innermost))
 
-pub items::body-returns-in-STRUCT_KW-clause-completes : goal.items::body-returns-in-STRUCT_KW-clause-completes
+pub items::plain_body-returns-in-STRUCT_KW-clause-completes : goal.items::plain_body-returns-in-STRUCT_KW-clause-completes
 unfolding look_of begins_below whole rule items statements expressions patterns types paths there_at shift passes is_silent begins in_mode anew row one_of any_of no_longer longest is_longer
-items::body-returns-in-STRUCT_KW-clause-completes t c = where-here (saw-arm c.in-STRUCT_KW.is (c.current.ensures.sees c.args.condition) and nothing) (where-look c.current.ensures.peeks.same (where-any c.struct_item.ensures.completes))
+items::plain_body-returns-in-STRUCT_KW-clause-completes t c = where-here (saw-arm c.in-STRUCT_KW.is (c.current.ensures.sees c.args.condition) and nothing) (where-look c.current.ensures.peeks.same (where-any c.struct_item.ensures.completes))
 
-pub items::body-enum_item-requires : goal.items::body-enum_item-requires
-items::body-enum_item-requires t c = (omega arith, (omega (arith, c.current.ensures.peeks.left, c.current.ensures.some (λ e. absurd (omega (arith, sym (ap raw_of c.in-ENUM_KW.is) ∙ e)))), c.current.ensures.peeks.same.innermost _ c.requires.innermost))
+pub items::plain_body-enum_item-requires : goal.items::plain_body-enum_item-requires
+items::plain_body-enum_item-requires t c = (omega arith, (omega (arith, c.current.ensures.peeks.left, c.current.ensures.some (λ e. absurd (omega (arith, sym (ap raw_of c.in-ENUM_KW.is) ∙ e)))), c.current.ensures.peeks.same.innermost _ c.requires.innermost))
 
-pub items::body-returns-in-ENUM_KW-clause-completes : goal.items::body-returns-in-ENUM_KW-clause-completes
+pub items::plain_body-returns-in-ENUM_KW-clause-completes : goal.items::plain_body-returns-in-ENUM_KW-clause-completes
 unfolding look_of begins_below whole rule items statements expressions patterns types paths there_at shift passes is_silent begins in_mode anew row one_of any_of no_longer longest is_longer
-items::body-returns-in-ENUM_KW-clause-completes t c = where-here (saw-arm c.in-ENUM_KW.is (c.current.ensures.sees c.args.condition) and nothing) (where-look c.current.ensures.peeks.same (where-any c.enum_item.ensures.completes))
+items::plain_body-returns-in-ENUM_KW-clause-completes t c = where-here (saw-arm c.in-ENUM_KW.is (c.current.ensures.sees c.args.condition) and nothing) (where-look c.current.ensures.peeks.same (where-any c.enum_item.ensures.completes))
 
-pub items::body-static_item-requires : goal.items::body-static_item-requires
-items::body-static_item-requires t c = (omega arith, (omega (arith, c.current.ensures.peeks.left, c.current.ensures.some (λ e. absurd (omega (arith, sym (ap raw_of c.in-STATIC_KW.is) ∙ e)))), c.current.ensures.peeks.same.innermost _ c.requires.innermost))
+pub items::plain_body-static_item-requires : goal.items::plain_body-static_item-requires
+items::plain_body-static_item-requires t c = (omega arith, (omega (arith, c.current.ensures.peeks.left, c.current.ensures.some (λ e. absurd (omega (arith, sym (ap raw_of c.in-STATIC_KW.is) ∙ e)))), c.current.ensures.peeks.same.innermost _ c.requires.innermost))
 
-pub items::body-returns-in-STATIC_KW-clause-completes : goal.items::body-returns-in-STATIC_KW-clause-completes
+pub items::plain_body-returns-in-STATIC_KW-clause-completes : goal.items::plain_body-returns-in-STATIC_KW-clause-completes
 unfolding look_of begins_below whole rule items statements expressions patterns types paths there_at shift passes is_silent begins in_mode anew row one_of any_of no_longer longest is_longer
-items::body-returns-in-STATIC_KW-clause-completes t c = where-here (saw-arm c.in-STATIC_KW.is (c.current.ensures.sees c.args.condition) and nothing) (where-look c.current.ensures.peeks.same (where-any c.static_item.ensures.completes))
+items::plain_body-returns-in-STATIC_KW-clause-completes t c = where-here (saw-arm c.in-STATIC_KW.is (c.current.ensures.sees c.args.condition) and nothing) (where-look c.current.ensures.peeks.same (where-any c.static_item.ensures.completes))
 
-pub items::body-type_alias-requires : goal.items::body-type_alias-requires
-items::body-type_alias-requires t c = (omega arith, (omega (arith, c.current.ensures.peeks.left, c.current.ensures.some (λ e. absurd (omega (arith, sym (ap raw_of c.in-TYPE_KW.is) ∙ e)))), c.current.ensures.peeks.same.innermost _ c.requires.innermost))
+pub items::plain_body-type_alias-requires : goal.items::plain_body-type_alias-requires
+items::plain_body-type_alias-requires t c = (omega arith, (omega (arith, c.current.ensures.peeks.left, c.current.ensures.some (λ e. absurd (omega (arith, sym (ap raw_of c.in-TYPE_KW.is) ∙ e)))), c.current.ensures.peeks.same.innermost _ c.requires.innermost))
 
-pub items::body-returns-in-TYPE_KW-clause-completes : goal.items::body-returns-in-TYPE_KW-clause-completes
+pub items::plain_body-returns-in-TYPE_KW-clause-completes : goal.items::plain_body-returns-in-TYPE_KW-clause-completes
 unfolding look_of begins_below whole rule items statements expressions patterns types paths there_at shift passes is_silent begins in_mode anew row one_of any_of no_longer longest is_longer
-items::body-returns-in-TYPE_KW-clause-completes t c = where-here (saw-arm c.in-TYPE_KW.is (c.current.ensures.sees c.args.condition) and nothing) (where-look c.current.ensures.peeks.same (where-any c.type_alias.ensures.completes))
+items::plain_body-returns-in-TYPE_KW-clause-completes t c = where-here (saw-arm c.in-TYPE_KW.is (c.current.ensures.sees c.args.condition) and nothing) (where-look c.current.ensures.peeks.same (where-any c.type_alias.ensures.completes))
 
-pub items::body-returns-then-at_fn-clause-completes : goal.items::body-returns-then-at_fn-clause-completes
+pub items::plain_body-returns-then-at_fn-clause-completes : goal.items::plain_body-returns-then-at_fn-clause-completes
 unfolding look_of begins_below whole rule items statements expressions patterns types paths there_at shift passes is_silent begins in_mode anew row one_of any_of no_longer longest is_longer
-items::body-returns-then-at_fn-clause-completes t c = where-here (saw-not c.in_default.not-MOD_KW (c.current.ensures.sees c.args.condition) and saw-not c.in_default.not-USE_KW (c.current.ensures.sees c.args.condition) and saw-not c.in_default.not-STRUCT_KW (c.current.ensures.sees c.args.condition) and saw-not c.in_default.not-ENUM_KW (c.current.ensures.sees c.args.condition) and saw-not c.in_default.not-STATIC_KW (c.current.ensures.sees c.args.condition) and saw-not c.in_default.not-TYPE_KW (c.current.ensures.sees c.args.condition) and saw-before c.current.ensures.peeks.same (saw-so (c.at_fn.ensures.sees c.args.condition) c.if-at_fn.true) and nothing) (where-look c.current.ensures.peeks.same (where-look c.at_fn.ensures.peeks.same (where-any c.fn_item.ensures.completes)))
+items::plain_body-returns-then-at_fn-clause-completes t c = where-here (saw-not c.in_default.not-MOD_KW (c.current.ensures.sees c.args.condition) and saw-not c.in_default.not-USE_KW (c.current.ensures.sees c.args.condition) and saw-not c.in_default.not-STRUCT_KW (c.current.ensures.sees c.args.condition) and saw-not c.in_default.not-ENUM_KW (c.current.ensures.sees c.args.condition) and saw-not c.in_default.not-STATIC_KW (c.current.ensures.sees c.args.condition) and saw-not c.in_default.not-TYPE_KW (c.current.ensures.sees c.args.condition) and saw-before c.current.ensures.peeks.same (saw-so (c.at_fn.ensures.sees c.args.condition) c.if-at_fn.true) and nothing) (where-look c.current.ensures.peeks.same (where-look c.at_fn.ensures.peeks.same (where-any c.fn_item.ensures.completes)))
 
-pub items::body-fn_item-requires : goal.items::body-fn_item-requires
+pub items::plain_body-fn_item-requires : goal.items::plain_body-fn_item-requires
 unfolding look_of begins_below whole rule items statements expressions patterns types paths there_at shift passes is_silent begins in_mode anew row one_of any_of no_longer longest is_longer
-items::body-fn_item-requires t c = (omega arith, (record { sees = λ d. saw-after c.at_fn.ensures.peeks.same (saw-so (c.at_fn.ensures.sees d) c.if-at_fn.true); some = omega (arith, c.current.ensures.peeks.left, c.at_fn.ensures.peeks.left, c.at_fn.ensures.some c.if-at_fn.true) }, c.at_fn.ensures.peeks.same.innermost _ (c.current.ensures.peeks.same.innermost _ c.requires.innermost)))
+items::plain_body-fn_item-requires t c = (omega arith, (record { sees = λ d. saw-after c.at_fn.ensures.peeks.same (saw-so (c.at_fn.ensures.sees d) c.if-at_fn.true); some = omega (arith, c.current.ensures.peeks.left, c.at_fn.ensures.peeks.left, c.at_fn.ensures.some c.if-at_fn.true) }, c.at_fn.ensures.peeks.same.innermost _ (c.current.ensures.peeks.same.innermost _ c.requires.innermost)))
 
-pub items::body-returns-then-at-clause-completes : goal.items::body-returns-then-at-clause-completes
+pub items::plain_body-returns-then-at-clause-completes : goal.items::plain_body-returns-then-at-clause-completes
 unfolding look_of begins_below whole rule items statements expressions patterns types paths there_at shift passes is_silent begins in_mode anew row one_of any_of no_longer longest is_longer
-items::body-returns-then-at-clause-completes t c = where-here (saw-not c.in_default.not-MOD_KW (c.current.ensures.sees c.args.condition) and saw-not c.in_default.not-USE_KW (c.current.ensures.sees c.args.condition) and saw-not c.in_default.not-STRUCT_KW (c.current.ensures.sees c.args.condition) and saw-not c.in_default.not-ENUM_KW (c.current.ensures.sees c.args.condition) and saw-not c.in_default.not-STATIC_KW (c.current.ensures.sees c.args.condition) and saw-not c.in_default.not-TYPE_KW (c.current.ensures.sees c.args.condition) and saw-before c.current.ensures.peeks.same (saw-so (c.at_fn.ensures.sees c.args.condition) c.if-at_fn.false) and saw-before c.current.ensures.peeks.same (saw-before c.at_fn.ensures.peeks.same (saw-so (c.at.ensures.sees c.args.condition) c.if-at.true)) and nothing) (where-look c.current.ensures.peeks.same (where-look c.at_fn.ensures.peeks.same (where-look c.at.ensures.peeks.same (where-any c.const_item.ensures.completes))))
+items::plain_body-returns-then-at-clause-completes t c = where-here (saw-not c.in_default.not-MOD_KW (c.current.ensures.sees c.args.condition) and saw-not c.in_default.not-USE_KW (c.current.ensures.sees c.args.condition) and saw-not c.in_default.not-STRUCT_KW (c.current.ensures.sees c.args.condition) and saw-not c.in_default.not-ENUM_KW (c.current.ensures.sees c.args.condition) and saw-not c.in_default.not-STATIC_KW (c.current.ensures.sees c.args.condition) and saw-not c.in_default.not-TYPE_KW (c.current.ensures.sees c.args.condition) and saw-before c.current.ensures.peeks.same (saw-so (c.at_fn.ensures.sees c.args.condition) c.if-at_fn.false) and saw-before c.current.ensures.peeks.same (saw-before c.at_fn.ensures.peeks.same (saw-so (c.at.ensures.sees c.args.condition) c.if-at.true)) and nothing) (where-look c.current.ensures.peeks.same (where-look c.at_fn.ensures.peeks.same (where-look c.at.ensures.peeks.same (where-any c.const_item.ensures.completes))))
 
-pub items::body-const_item-requires : goal.items::body-const_item-requires
-items::body-const_item-requires t c = (omega arith, (omega (arith, c.current.ensures.peeks.left, c.at_fn.ensures.peeks.left, c.at.ensures.peeks.left, c.at.ensures.some c.if-at.true (λ e. absurd (omega (arith, e)))), c.at.ensures.peeks.same.innermost _ (c.at_fn.ensures.peeks.same.innermost _ (c.current.ensures.peeks.same.innermost _ c.requires.innermost))))
+pub items::plain_body-const_item-requires : goal.items::plain_body-const_item-requires
+items::plain_body-const_item-requires t c = (omega arith, (omega (arith, c.current.ensures.peeks.left, c.at_fn.ensures.peeks.left, c.at.ensures.peeks.left, c.at.ensures.some c.if-at.true (λ e. absurd (omega (arith, e)))), c.at.ensures.peeks.same.innermost _ (c.at_fn.ensures.peeks.same.innermost _ (c.current.ensures.peeks.same.innermost _ c.requires.innermost))))
 
-pub items::body-returns-then-at_unsafe-clause-completes : goal.items::body-returns-then-at_unsafe-clause-completes
+pub items::plain_body-returns-then-at_unsafe-clause-completes : goal.items::plain_body-returns-then-at_unsafe-clause-completes
 unfolding look_of begins_below whole rule items statements expressions patterns types paths there_at shift passes is_silent begins in_mode anew row one_of any_of no_longer longest is_longer
-items::body-returns-then-at_unsafe-clause-completes t c = where-here (saw-not c.in_default.not-MOD_KW (c.current.ensures.sees c.args.condition) and saw-not c.in_default.not-USE_KW (c.current.ensures.sees c.args.condition) and saw-not c.in_default.not-STRUCT_KW (c.current.ensures.sees c.args.condition) and saw-not c.in_default.not-ENUM_KW (c.current.ensures.sees c.args.condition) and saw-not c.in_default.not-STATIC_KW (c.current.ensures.sees c.args.condition) and saw-not c.in_default.not-TYPE_KW (c.current.ensures.sees c.args.condition) and saw-before c.current.ensures.peeks.same (saw-so (c.at_fn.ensures.sees c.args.condition) c.if-at_fn.false) and saw-before c.current.ensures.peeks.same (saw-before c.at_fn.ensures.peeks.same (saw-so (c.at.ensures.sees c.args.condition) c.if-at.false)) and saw-before c.current.ensures.peeks.same (saw-before c.at_fn.ensures.peeks.same (saw-before c.at.ensures.peeks.same (saw-so (c.at_unsafe.ensures.sees c.args.condition) c.if-at_unsafe.true))) and nothing) (where-look c.current.ensures.peeks.same (where-look c.at_fn.ensures.peeks.same (where-look c.at.ensures.peeks.same (where-look c.at_unsafe.ensures.peeks.same (where-any c.impl_item.ensures.completes)))))
+items::plain_body-returns-then-at_unsafe-clause-completes t c = where-here (saw-not c.in_default.not-MOD_KW (c.current.ensures.sees c.args.condition) and saw-not c.in_default.not-USE_KW (c.current.ensures.sees c.args.condition) and saw-not c.in_default.not-STRUCT_KW (c.current.ensures.sees c.args.condition) and saw-not c.in_default.not-ENUM_KW (c.current.ensures.sees c.args.condition) and saw-not c.in_default.not-STATIC_KW (c.current.ensures.sees c.args.condition) and saw-not c.in_default.not-TYPE_KW (c.current.ensures.sees c.args.condition) and saw-before c.current.ensures.peeks.same (saw-so (c.at_fn.ensures.sees c.args.condition) c.if-at_fn.false) and saw-before c.current.ensures.peeks.same (saw-before c.at_fn.ensures.peeks.same (saw-so (c.at.ensures.sees c.args.condition) c.if-at.false)) and saw-before c.current.ensures.peeks.same (saw-before c.at_fn.ensures.peeks.same (saw-before c.at.ensures.peeks.same (saw-so (c.at_unsafe.ensures.sees c.args.condition) c.if-at_unsafe.true))) and nothing) (where-look c.current.ensures.peeks.same (where-look c.at_fn.ensures.peeks.same (where-look c.at.ensures.peeks.same (where-look c.at_unsafe.ensures.peeks.same (where-any c.impl_item.ensures.completes)))))
 
-pub items::body-impl_item-requires : goal.items::body-impl_item-requires
+pub items::plain_body-impl_item-requires : goal.items::plain_body-impl_item-requires
 unfolding look_of begins_below whole rule items statements expressions patterns types paths there_at shift passes is_silent begins in_mode anew row one_of any_of no_longer longest is_longer
-items::body-impl_item-requires t c = (omega arith, (record { sees = λ d. saw-after c.at_unsafe.ensures.peeks.same (saw-so (c.at_unsafe.ensures.sees d) c.if-at_unsafe.true); some = omega (arith, c.current.ensures.peeks.left, c.at_fn.ensures.peeks.left, c.at.ensures.peeks.left, c.at_unsafe.ensures.peeks.left, c.at_unsafe.ensures.some c.if-at_unsafe.true (λ e. absurd (omega (arith, e)))) }, c.at_unsafe.ensures.peeks.same.innermost _ (c.at.ensures.peeks.same.innermost _ (c.at_fn.ensures.peeks.same.innermost _ (c.current.ensures.peeks.same.innermost _ c.requires.innermost)))))
+items::plain_body-impl_item-requires t c = (omega arith, (record { sees = λ d. saw-after c.at_unsafe.ensures.peeks.same (saw-so (c.at_unsafe.ensures.sees d) c.if-at_unsafe.true); some = omega (arith, c.current.ensures.peeks.left, c.at_fn.ensures.peeks.left, c.at.ensures.peeks.left, c.at_unsafe.ensures.peeks.left, c.at_unsafe.ensures.some c.if-at_unsafe.true (λ e. absurd (omega (arith, e)))) }, c.at_unsafe.ensures.peeks.same.innermost _ (c.at.ensures.peeks.same.innermost _ (c.at_fn.ensures.peeks.same.innermost _ (c.current.ensures.peeks.same.innermost _ c.requires.innermost)))))
 
-pub items::body-returns-then-at_unsafe-2-clause-completes : goal.items::body-returns-then-at_unsafe-2-clause-completes
+pub items::plain_body-returns-then-at_unsafe-2-clause-completes : goal.items::plain_body-returns-then-at_unsafe-2-clause-completes
 unfolding look_of begins_below whole rule items statements expressions patterns types paths there_at shift passes is_silent begins in_mode anew row one_of any_of no_longer longest is_longer
-items::body-returns-then-at_unsafe-2-clause-completes t c = where-here (saw-not c.in_default.not-MOD_KW (c.current.ensures.sees c.args.condition) and saw-not c.in_default.not-USE_KW (c.current.ensures.sees c.args.condition) and saw-not c.in_default.not-STRUCT_KW (c.current.ensures.sees c.args.condition) and saw-not c.in_default.not-ENUM_KW (c.current.ensures.sees c.args.condition) and saw-not c.in_default.not-STATIC_KW (c.current.ensures.sees c.args.condition) and saw-not c.in_default.not-TYPE_KW (c.current.ensures.sees c.args.condition) and saw-before c.current.ensures.peeks.same (saw-so (c.at_fn.ensures.sees c.args.condition) c.if-at_fn.false) and saw-before c.current.ensures.peeks.same (saw-before c.at_fn.ensures.peeks.same (saw-so (c.at.ensures.sees c.args.condition) c.if-at.false)) and saw-before c.current.ensures.peeks.same (saw-before c.at_fn.ensures.peeks.same (saw-before c.at.ensures.peeks.same (saw-so (c.at_unsafe.ensures.sees c.args.condition) c.if-at_unsafe.false))) and saw-before c.current.ensures.peeks.same (saw-before c.at_fn.ensures.peeks.same (saw-before c.at.ensures.peeks.same (saw-before c.at_unsafe.ensures.peeks.same (saw-so (c.at_unsafe-in_default.ensures.sees c.args.condition) c.if-at_unsafe-2.true)))) and nothing) (where-look c.current.ensures.peeks.same (where-look c.at_fn.ensures.peeks.same (where-look c.at.ensures.peeks.same (where-look c.at_unsafe.ensures.peeks.same (where-look c.at_unsafe-in_default.ensures.peeks.same (where-any c.trait_item.ensures.completes))))))
+items::plain_body-returns-then-at_unsafe-2-clause-completes t c = where-here (saw-not c.in_default.not-MOD_KW (c.current.ensures.sees c.args.condition) and saw-not c.in_default.not-USE_KW (c.current.ensures.sees c.args.condition) and saw-not c.in_default.not-STRUCT_KW (c.current.ensures.sees c.args.condition) and saw-not c.in_default.not-ENUM_KW (c.current.ensures.sees c.args.condition) and saw-not c.in_default.not-STATIC_KW (c.current.ensures.sees c.args.condition) and saw-not c.in_default.not-TYPE_KW (c.current.ensures.sees c.args.condition) and saw-before c.current.ensures.peeks.same (saw-so (c.at_fn.ensures.sees c.args.condition) c.if-at_fn.false) and saw-before c.current.ensures.peeks.same (saw-before c.at_fn.ensures.peeks.same (saw-so (c.at.ensures.sees c.args.condition) c.if-at.false)) and saw-before c.current.ensures.peeks.same (saw-before c.at_fn.ensures.peeks.same (saw-before c.at.ensures.peeks.same (saw-so (c.at_unsafe.ensures.sees c.args.condition) c.if-at_unsafe.false))) and saw-before c.current.ensures.peeks.same (saw-before c.at_fn.ensures.peeks.same (saw-before c.at.ensures.peeks.same (saw-before c.at_unsafe.ensures.peeks.same (saw-so (c.at_unsafe-in_default.ensures.sees c.args.condition) c.if-at_unsafe-2.true)))) and nothing) (where-look c.current.ensures.peeks.same (where-look c.at_fn.ensures.peeks.same (where-look c.at.ensures.peeks.same (where-look c.at_unsafe.ensures.peeks.same (where-look c.at_unsafe-in_default.ensures.peeks.same (where-any c.trait_item.ensures.completes))))))
 
-pub items::body-trait_item-requires : goal.items::body-trait_item-requires
+pub items::plain_body-trait_item-requires : goal.items::plain_body-trait_item-requires
 unfolding look_of begins_below whole rule items statements expressions patterns types paths there_at shift passes is_silent begins in_mode anew row one_of any_of no_longer longest is_longer
-items::body-trait_item-requires t c = (omega arith, (record { sees = λ d. saw-after c.at_unsafe-in_default.ensures.peeks.same (saw-so (c.at_unsafe-in_default.ensures.sees d) c.if-at_unsafe-2.true); some = omega (arith, c.current.ensures.peeks.left, c.at_fn.ensures.peeks.left, c.at.ensures.peeks.left, c.at_unsafe.ensures.peeks.left, c.at_unsafe-in_default.ensures.peeks.left, c.at_unsafe-in_default.ensures.some c.if-at_unsafe-2.true (λ e. absurd (omega (arith, e)))) }, c.at_unsafe-in_default.ensures.peeks.same.innermost _ (c.at_unsafe.ensures.peeks.same.innermost _ (c.at.ensures.peeks.same.innermost _ (c.at_fn.ensures.peeks.same.innermost _ (c.current.ensures.peeks.same.innermost _ c.requires.innermost))))))
+items::plain_body-trait_item-requires t c = (omega arith, (record { sees = λ d. saw-after c.at_unsafe-in_default.ensures.peeks.same (saw-so (c.at_unsafe-in_default.ensures.sees d) c.if-at_unsafe-2.true); some = omega (arith, c.current.ensures.peeks.left, c.at_fn.ensures.peeks.left, c.at.ensures.peeks.left, c.at_unsafe.ensures.peeks.left, c.at_unsafe-in_default.ensures.peeks.left, c.at_unsafe-in_default.ensures.some c.if-at_unsafe-2.true (λ e. absurd (omega (arith, e)))) }, c.at_unsafe-in_default.ensures.peeks.same.innermost _ (c.at_unsafe.ensures.peeks.same.innermost _ (c.at.ensures.peeks.same.innermost _ (c.at_fn.ensures.peeks.same.innermost _ (c.current.ensures.peeks.same.innermost _ c.requires.innermost))))))
 
-pub items::body-returns-then-at_path-clause-completes : goal.items::body-returns-then-at_path-clause-completes
+pub items::plain_body-returns-then-at_path-clause-completes : goal.items::plain_body-returns-then-at_path-clause-completes
 unfolding look_of begins_below whole rule items statements expressions patterns types paths there_at shift passes is_silent begins in_mode anew row one_of any_of no_longer longest is_longer
-items::body-returns-then-at_path-clause-completes t c = where-here (saw-not c.in_default.not-MOD_KW (c.current.ensures.sees c.args.condition) and saw-not c.in_default.not-USE_KW (c.current.ensures.sees c.args.condition) and saw-not c.in_default.not-STRUCT_KW (c.current.ensures.sees c.args.condition) and saw-not c.in_default.not-ENUM_KW (c.current.ensures.sees c.args.condition) and saw-not c.in_default.not-STATIC_KW (c.current.ensures.sees c.args.condition) and saw-not c.in_default.not-TYPE_KW (c.current.ensures.sees c.args.condition) and saw-before c.current.ensures.peeks.same (saw-so (c.at_fn.ensures.sees c.args.condition) c.if-at_fn.false) and saw-before c.current.ensures.peeks.same (saw-before c.at_fn.ensures.peeks.same (saw-so (c.at.ensures.sees c.args.condition) c.if-at.false)) and saw-before c.current.ensures.peeks.same (saw-before c.at_fn.ensures.peeks.same (saw-before c.at.ensures.peeks.same (saw-so (c.at_unsafe.ensures.sees c.args.condition) c.if-at_unsafe.false))) and saw-before c.current.ensures.peeks.same (saw-before c.at_fn.ensures.peeks.same (saw-before c.at.ensures.peeks.same (saw-before c.at_unsafe.ensures.peeks.same (saw-so (c.at_unsafe-in_default.ensures.sees c.args.condition) c.if-at_unsafe-2.false)))) and begun rules.path (saw-before c.current.ensures.peeks.same (saw-before c.at_fn.ensures.peeks.same (saw-before c.at.ensures.peeks.same (saw-before c.at_unsafe.ensures.peeks.same (saw-before c.at_unsafe-in_default.ensures.peeks.same (saw-so (c.at_path.ensures.sees c.args.condition) c.if-at_path.true)))))) nothing) (where-look c.current.ensures.peeks.same (where-look c.at_fn.ensures.peeks.same (where-look c.at.ensures.peeks.same (where-look c.at_unsafe.ensures.peeks.same (where-look c.at_unsafe-in_default.ensures.peeks.same (where-look c.at_path.ensures.peeks.same (where-any (c.path_item.ensures.completes c.args.condition))))))))
+items::plain_body-returns-then-at_path-clause-completes t c = where-here (saw-not c.in_default.not-MOD_KW (c.current.ensures.sees c.args.condition) and saw-not c.in_default.not-USE_KW (c.current.ensures.sees c.args.condition) and saw-not c.in_default.not-STRUCT_KW (c.current.ensures.sees c.args.condition) and saw-not c.in_default.not-ENUM_KW (c.current.ensures.sees c.args.condition) and saw-not c.in_default.not-STATIC_KW (c.current.ensures.sees c.args.condition) and saw-not c.in_default.not-TYPE_KW (c.current.ensures.sees c.args.condition) and saw-before c.current.ensures.peeks.same (saw-so (c.at_fn.ensures.sees c.args.condition) c.if-at_fn.false) and saw-before c.current.ensures.peeks.same (saw-before c.at_fn.ensures.peeks.same (saw-so (c.at.ensures.sees c.args.condition) c.if-at.false)) and saw-before c.current.ensures.peeks.same (saw-before c.at_fn.ensures.peeks.same (saw-before c.at.ensures.peeks.same (saw-so (c.at_unsafe.ensures.sees c.args.condition) c.if-at_unsafe.false))) and saw-before c.current.ensures.peeks.same (saw-before c.at_fn.ensures.peeks.same (saw-before c.at.ensures.peeks.same (saw-before c.at_unsafe.ensures.peeks.same (saw-so (c.at_unsafe-in_default.ensures.sees c.args.condition) c.if-at_unsafe-2.false)))) and begun rules.path (saw-before c.current.ensures.peeks.same (saw-before c.at_fn.ensures.peeks.same (saw-before c.at.ensures.peeks.same (saw-before c.at_unsafe.ensures.peeks.same (saw-before c.at_unsafe-in_default.ensures.peeks.same (saw-so (c.at_path.ensures.sees c.args.condition) c.if-at_path.true)))))) nothing) (where-look c.current.ensures.peeks.same (where-look c.at_fn.ensures.peeks.same (where-look c.at.ensures.peeks.same (where-look c.at_unsafe.ensures.peeks.same (where-look c.at_unsafe-in_default.ensures.peeks.same (where-look c.at_path.ensures.peeks.same (where-any (c.path_item.ensures.completes c.args.condition))))))))
 
-pub items::body-path_item-requires : goal.items::body-path_item-requires
-items::body-path_item-requires t c = record { begins = record { sees = λ d. saw-after c.at_path.ensures.peeks.same (saw-so (c.at_path.ensures.sees d) c.if-at_path.true); some = omega (arith, c.current.ensures.peeks.left, c.at_fn.ensures.peeks.left, c.at.ensures.peeks.left, c.at_unsafe.ensures.peeks.left, c.at_unsafe-in_default.ensures.peeks.left, c.at_path.ensures.peeks.left, c.at_path.ensures.some c.if-at_path.true) }; innermost = c.at_path.ensures.peeks.same.innermost _ (c.at_unsafe-in_default.ensures.peeks.same.innermost _ (c.at_unsafe.ensures.peeks.same.innermost _ (c.at.ensures.peeks.same.innermost _ (c.at_fn.ensures.peeks.same.innermost _ (c.current.ensures.peeks.same.innermost _ c.requires.innermost))))) }
+pub items::plain_body-path_item-requires : goal.items::plain_body-path_item-requires
+items::plain_body-path_item-requires t c = record { begins = record { sees = λ d. saw-after c.at_path.ensures.peeks.same (saw-so (c.at_path.ensures.sees d) c.if-at_path.true); some = omega (arith, c.current.ensures.peeks.left, c.at_fn.ensures.peeks.left, c.at.ensures.peeks.left, c.at_unsafe.ensures.peeks.left, c.at_unsafe-in_default.ensures.peeks.left, c.at_path.ensures.peeks.left, c.at_path.ensures.some c.if-at_path.true) }; innermost = c.at_path.ensures.peeks.same.innermost _ (c.at_unsafe-in_default.ensures.peeks.same.innermost _ (c.at_unsafe.ensures.peeks.same.innermost _ (c.at.ensures.peeks.same.innermost _ (c.at_fn.ensures.peeks.same.innermost _ (c.current.ensures.peeks.same.innermost _ c.requires.innermost))))) }
 
-pub items::body-returns-else-at_path-clause-completes : goal.items::body-returns-else-at_path-clause-completes
+pub items::plain_body-returns-else-at_path-clause-completes : goal.items::plain_body-returns-else-at_path-clause-completes
 unfolding look_of begins_below whole rule items statements expressions patterns types paths there_at shift passes is_silent begins in_mode anew row one_of any_of no_longer longest is_longer
-items::body-returns-else-at_path-clause-completes t c = where-here (saw-not c.in_default.not-MOD_KW (c.current.ensures.sees c.args.condition) and saw-not c.in_default.not-USE_KW (c.current.ensures.sees c.args.condition) and saw-not c.in_default.not-STRUCT_KW (c.current.ensures.sees c.args.condition) and saw-not c.in_default.not-ENUM_KW (c.current.ensures.sees c.args.condition) and saw-not c.in_default.not-STATIC_KW (c.current.ensures.sees c.args.condition) and saw-not c.in_default.not-TYPE_KW (c.current.ensures.sees c.args.condition) and saw-before c.current.ensures.peeks.same (saw-so (c.at_fn.ensures.sees c.args.condition) c.if-at_fn.false) and saw-before c.current.ensures.peeks.same (saw-before c.at_fn.ensures.peeks.same (saw-so (c.at.ensures.sees c.args.condition) c.if-at.false)) and saw-before c.current.ensures.peeks.same (saw-before c.at_fn.ensures.peeks.same (saw-before c.at.ensures.peeks.same (saw-so (c.at_unsafe.ensures.sees c.args.condition) c.if-at_unsafe.false))) and saw-before c.current.ensures.peeks.same (saw-before c.at_fn.ensures.peeks.same (saw-before c.at.ensures.peeks.same (saw-before c.at_unsafe.ensures.peeks.same (saw-so (c.at_unsafe-in_default.ensures.sees c.args.condition) c.if-at_unsafe-2.false)))) and begun rules.path (saw-before c.current.ensures.peeks.same (saw-before c.at_fn.ensures.peeks.same (saw-before c.at.ensures.peeks.same (saw-before c.at_unsafe.ensures.peeks.same (saw-before c.at_unsafe-in_default.ensures.peeks.same (saw-so (c.at_path.ensures.sees c.args.condition) c.if-at_path.false)))))) nothing) (where-look c.current.ensures.peeks.same (where-look c.at_fn.ensures.peeks.same (where-look c.at.ensures.peeks.same (where-look c.at_unsafe.ensures.peeks.same (where-look c.at_unsafe-in_default.ensures.peeks.same (where-look c.at_path.ensures.peeks.same (c.no_item.ensures.completes c.args.condition)))))))
+items::plain_body-returns-else-at_path-clause-completes t c = where-here (saw-not c.in_default.not-MOD_KW (c.current.ensures.sees c.args.condition) and saw-not c.in_default.not-USE_KW (c.current.ensures.sees c.args.condition) and saw-not c.in_default.not-STRUCT_KW (c.current.ensures.sees c.args.condition) and saw-not c.in_default.not-ENUM_KW (c.current.ensures.sees c.args.condition) and saw-not c.in_default.not-STATIC_KW (c.current.ensures.sees c.args.condition) and saw-not c.in_default.not-TYPE_KW (c.current.ensures.sees c.args.condition) and saw-before c.current.ensures.peeks.same (saw-so (c.at_fn.ensures.sees c.args.condition) c.if-at_fn.false) and saw-before c.current.ensures.peeks.same (saw-before c.at_fn.ensures.peeks.same (saw-so (c.at.ensures.sees c.args.condition) c.if-at.false)) and saw-before c.current.ensures.peeks.same (saw-before c.at_fn.ensures.peeks.same (saw-before c.at.ensures.peeks.same (saw-so (c.at_unsafe.ensures.sees c.args.condition) c.if-at_unsafe.false))) and saw-before c.current.ensures.peeks.same (saw-before c.at_fn.ensures.peeks.same (saw-before c.at.ensures.peeks.same (saw-before c.at_unsafe.ensures.peeks.same (saw-so (c.at_unsafe-in_default.ensures.sees c.args.condition) c.if-at_unsafe-2.false)))) and begun rules.path (saw-before c.current.ensures.peeks.same (saw-before c.at_fn.ensures.peeks.same (saw-before c.at.ensures.peeks.same (saw-before c.at_unsafe.ensures.peeks.same (saw-before c.at_unsafe-in_default.ensures.peeks.same (saw-so (c.at_path.ensures.sees c.args.condition) c.if-at_path.false)))))) nothing) (where-look c.current.ensures.peeks.same (where-look c.at_fn.ensures.peeks.same (where-look c.at.ensures.peeks.same (where-look c.at_unsafe.ensures.peeks.same (where-look c.at_unsafe-in_default.ensures.peeks.same (where-look c.at_path.ensures.peeks.same (c.no_item.ensures.completes c.args.condition)))))))
 
-pub items::body-no_item-requires : goal.items::body-no_item-requires
-items::body-no_item-requires t c = record { some = λ e. omega (arith, c.current.ensures.peeks.left, c.at_fn.ensures.peeks.left, c.at.ensures.peeks.left, c.at_unsafe.ensures.peeks.left, c.at_unsafe-in_default.ensures.peeks.left, c.at_path.ensures.peeks.left, c.requires.some e); innermost = c.at_path.ensures.peeks.same.innermost _ (c.at_unsafe-in_default.ensures.peeks.same.innermost _ (c.at_unsafe.ensures.peeks.same.innermost _ (c.at.ensures.peeks.same.innermost _ (c.at_fn.ensures.peeks.same.innermost _ (c.current.ensures.peeks.same.innermost _ c.requires.innermost))))) }
+pub items::plain_body-no_item-requires : goal.items::plain_body-no_item-requires
+items::plain_body-no_item-requires t c = record { some = λ e. omega (arith, c.current.ensures.peeks.left, c.at_fn.ensures.peeks.left, c.at.ensures.peeks.left, c.at_unsafe.ensures.peeks.left, c.at_unsafe-in_default.ensures.peeks.left, c.at_path.ensures.peeks.left, c.requires.some e); innermost = c.at_path.ensures.peeks.same.innermost _ (c.at_unsafe-in_default.ensures.peeks.same.innermost _ (c.at_unsafe.ensures.peeks.same.innermost _ (c.at.ensures.peeks.same.innermost _ (c.at_fn.ensures.peeks.same.innermost _ (c.current.ensures.peeks.same.innermost _ c.requires.innermost))))) }
 
-pub items::body-returns-else-at_path-clause-takes : goal.items::body-returns-else-at_path-clause-takes
-items::body-returns-else-at_path-clause-takes t c = record {
+pub items::plain_body-returns-else-at_path-clause-takes : goal.items::plain_body-returns-else-at_path-clause-takes
+items::plain_body-returns-else-at_path-clause-takes t c = record {
   takes = λ e. record {
     left = omega (arith, c.current.ensures.peeks.left, c.at_fn.ensures.peeks.left, c.at.ensures.peeks.left, c.at_unsafe.ensures.peeks.left, c.at_unsafe-in_default.ensures.peeks.left, c.at_path.ensures.peeks.left, (c.no_item.ensures.takes.takes e).left);
     looks = omega (arith, c.current.ensures.peeks.looks, c.at_fn.ensures.peeks.looks, c.at.ensures.peeks.looks, c.at_unsafe.ensures.peeks.looks, c.at_unsafe-in_default.ensures.peeks.looks, c.at_path.ensures.peeks.looks, (c.no_item.ensures.takes.takes e).looks);
@@ -306,3 +306,47 @@ items::items-turns-preserved t c = record {
 
 pub items::items-returns-clause-reads : goal.items::items-returns-clause-reads
 items::items-returns-clause-reads t c = c.turns.invariant.goes.rest _ (c.item_turn.ensures.ends c.turns-test.false)
+
+pub items::body-new_item-requires : goal.items::body-new_item-requires
+items::body-new_item-requires t c = (omega arith, (record { sees = λ d. saw-after c.at_new_item.ensures.peeks.same (saw-so (c.at_new_item.ensures.sees d) c.if-at_new_item.true); some = omega (arith, c.at_new_item.ensures.some c.if-at_new_item.true, c.at_new_item.ensures.peeks.left) }, c.at_new_item.ensures.peeks.same.innermost _ c.requires.innermost))
+
+pub items::body-returns-then-at_new_item-clause-completes : goal.items::body-returns-then-at_new_item-clause-completes
+unfolding look_of begins_below whole rule items statements expressions patterns types paths there_at shift passes is_silent begins in_mode anew row one_of any_of no_longer longest is_longer
+items::body-returns-then-at_new_item-clause-completes t c = where-here (saw-so (c.at_new_item.ensures.sees c.args.condition) c.if-at_new_item.true and nothing) (where-look c.at_new_item.ensures.peeks.same (where-any c.new_item.ensures.completes))
+
+pub items::body-returns-then-at_new_item-clause-takes : goal.items::body-returns-then-at_new_item-clause-takes
+items::body-returns-then-at_new_item-clause-takes t c = record {
+  takes = λ e. record { left = omega (arith, c.new_item.ensures.takes.left, c.at_new_item.ensures.peeks.left); looks = omega (arith, c.new_item.ensures.takes.looks, c.at_new_item.ensures.peeks.looks) };
+  left = omega (arith, c.new_item.ensures.takes.left, c.at_new_item.ensures.peeks.left);
+  looks = omega (arith, c.new_item.ensures.takes.looks, c.at_new_item.ensures.peeks.looks);
+}
+
+pub items::body-plain_body-requires : goal.items::body-plain_body-requires
+items::body-plain_body-requires t c = (omega arith, ((λ e. omega (arith, c.requires.some e, c.at_new_item.ensures.peeks.left)), c.at_new_item.ensures.peeks.same.innermost _ c.requires.innermost))
+
+pub items::body-returns-clause-completes : goal.items::body-returns-clause-completes
+unfolding look_of begins_below whole rule items statements expressions patterns types paths there_at shift passes is_silent begins in_mode anew row one_of any_of no_longer longest is_longer
+items::body-returns-clause-completes t c = where-here (saw-so (c.at_new_item.ensures.sees c.args.condition) c.if-at_new_item.false and nothing) (where-look c.at_new_item.ensures.peeks.same c.plain_body.ensures.completes)
+
+pub items::body-returns-clause-takes : goal.items::body-returns-clause-takes
+items::body-returns-clause-takes t c = record {
+  takes = λ e. record { left = omega (arith, (c.plain_body.ensures.takes.takes e).left, c.at_new_item.ensures.peeks.left); looks = omega (arith, (c.plain_body.ensures.takes.takes e).looks, c.at_new_item.ensures.peeks.looks) };
+  left = omega (arith, c.plain_body.ensures.takes.left, c.at_new_item.ensures.peeks.left);
+  looks = omega (arith, c.plain_body.ensures.takes.looks, c.at_new_item.ensures.peeks.looks);
+}
+
+pub items::opt_new_generics-returns-then-at_new-clause-reads : goal.items::opt_new_generics-returns-then-at_new-clause-reads
+unfolding look_of begins_below whole rule items statements expressions patterns types paths there_at shift passes is_silent begins in_mode anew row one_of any_of no_longer longest is_longer
+items::opt_new_generics-returns-then-at_new-clause-reads t c = λ cond. reads-here (saw-so (c.at_new.ensures.sees cond) c.if-at_new.true and nothing) (after-look cond c.at_new.ensures.peeks.same (reads-call cond (c.generic_params.ensures.gives cond)))
+
+pub items::opt_new_generics-returns-else-at_new-clause-reads : goal.items::opt_new_generics-returns-else-at_new-clause-reads
+unfolding look_of begins_below whole rule items statements expressions patterns types paths there_at shift passes is_silent begins in_mode anew row one_of any_of no_longer longest is_longer
+items::opt_new_generics-returns-else-at_new-clause-reads t c = λ cond. reads-here (saw-so (c.at_new.ensures.sees cond) c.if-at_new.false and nothing) (reads-nothing cond c.at_new.ensures.peeks.same)
+
+pub items::opt_new_where-returns-then-at_new-clause-reads : goal.items::opt_new_where-returns-then-at_new-clause-reads
+unfolding look_of begins_below whole rule items statements expressions patterns types paths there_at shift passes is_silent begins in_mode anew row one_of any_of no_longer longest is_longer
+items::opt_new_where-returns-then-at_new-clause-reads t c = λ cond. reads-here (saw-so (c.at_new.ensures.sees cond) c.if-at_new.true and nothing) (after-look cond c.at_new.ensures.peeks.same (reads-call cond (c.where_clause.ensures.gives cond)))
+
+pub items::opt_new_where-returns-else-at_new-clause-reads : goal.items::opt_new_where-returns-else-at_new-clause-reads
+unfolding look_of begins_below whole rule items statements expressions patterns types paths there_at shift passes is_silent begins in_mode anew row one_of any_of no_longer longest is_longer
+items::opt_new_where-returns-else-at_new-clause-reads t c = λ cond. reads-here (saw-so (c.at_new.ensures.sees cond) c.if-at_new.false and nothing) (reads-nothing cond c.at_new.ensures.peeks.same)

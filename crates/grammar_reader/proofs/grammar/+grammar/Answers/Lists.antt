@@ -12,7 +12,7 @@ use Rattle.rust_grammar.specs.Paths.{captured, paths, type_arg}
 use Rattle.rust_grammar.specs.Patterns.{patterns}
 use Rattle.rust_grammar.specs.Rule.{begins, in_mode, anew, is_silent, passes, shift, there_at}
 use Rattle.rust_grammar.specs.Statements.{statements}
-use Rattle.rust_grammar.specs.Types.{types}
+use Rattle.rust_grammar.specs.Types.{types, fn_ptr_param}
 use Rattle.rust_grammar.specs.Whole.{rule, whole}
 use Rattle.grammar_reader.specs.Told.{element_of, list_turn, looks_in}
 use Rattle.grammar_reader.specs.declared.grammar.lists.Element.{Element}
@@ -292,3 +292,12 @@ lists::read_element-type_arg-requires t c =
 
 pub lists::read_element-returns-in-TypeArg-clause-reads : goal.lists::read_element-returns-in-TypeArg-clause-reads
 lists::read_element-returns-in-TypeArg-clause-reads t c = subst (λ (e : Element). Reads false (element_of e) c.args.p.now c.type_arg.new.p) (sym c.in-TypeArg.is) (c.type_arg.ensures.reads false)
+
+pub lists::read_element-fn_ptr_param-requires : goal.lists::read_element-fn_ptr_param-requires
+unfolding look_of begins_below whole rule items statements expressions patterns types paths there_at shift passes is_silent begins in_mode anew row one_of any_of no_longer longest is_longer
+lists::read_element-fn_ptr_param-requires t c =
+    let seen = subst (λ (e : Element). Saw false (begins looks (element_of e)) c.args.p.now true) c.in-FnPtrParam.is c.requires.begins in
+    (omega arith, record { sees = λ d. fn-ptr-param-anywhere seen; some = word-left fn_ptr_param refl seen })
+
+pub lists::read_element-returns-in-FnPtrParam-clause-reads : goal.lists::read_element-returns-in-FnPtrParam-clause-reads
+lists::read_element-returns-in-FnPtrParam-clause-reads t c = subst (λ (e : Element). Reads false (element_of e) c.args.p.now c.fn_ptr_param.new.p) (sym c.in-FnPtrParam.is) (c.fn_ptr_param.ensures.reads false)

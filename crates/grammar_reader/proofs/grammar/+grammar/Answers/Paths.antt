@@ -25,7 +25,7 @@ use Rattle.rust_productions.specs.Reads.{Anew}
 use Rattle.rust_productions.proofs.ByHand.{after-look, completes-leave, completes-then, does-then, reads-call, reads-node, reads-nothing, reads-none, reads-opt, reads-then, reads-unless, reads-when, reads-wrap}
 use Rattle.rust_productions.proofs.Choices.{anew-after, anew-completes, gives-anew, reads-here}
 use Rattle.rust_productions.proofs.Facts.{begun, nothing, saw-so, ◌and◌}
-use Rattle.rust_productions.proofs.Seen.{ends-at-end, saw-after, saw-before, saw-inside}
+use Rattle.rust_productions.proofs.Seen.{ends-at-end, saw-after, saw-before, saw-inside, saw-left}
 use Rattle.rust_productions.proofs.Turns.{last-turn, next-turn}
 use Rattle.grammar_reader.proofs.grammar.+grammar.Goals as goal
 
@@ -105,12 +105,6 @@ pub paths::opt_generic_args-returns-else-at_generic_args-clause-reads : goal.pat
 unfolding look_of begins_below whole rule items statements expressions patterns types paths there_at shift passes is_silent begins in_mode anew row one_of any_of no_longer longest is_longer
 paths::opt_generic_args-returns-else-at_generic_args-clause-reads t c = λ cond. reads-here (begun rules.generic_args (saw-so (c.at_generic_args.ensures.sees cond) c.if-at_generic_args.false) nothing) (reads-nothing cond c.at_generic_args.ensures.peeks.same)
 
-pub paths::fn_args-paren_args-requires : goal.paths::fn_args-paren_args-requires
-paths::fn_args-paren_args-requires t c = (omega arith, c.requires.begins)
-
-pub paths::fn_args-returns-clause-reads : goal.paths::fn_args-returns-clause-reads
-paths::fn_args-returns-clause-reads t c = λ cond. reads-then _ (c.paren_args.ensures.reads cond) (c.opt_ret_type.ensures.reads cond)
-
 pub paths::paren_args-opt_colons_before_paren-requires : goal.paths::paren_args-opt_colons_before_paren-requires
 paths::paren_args-opt_colons_before_paren-requires t c = record { begins = record { sees = λ d. saw-inside c.start-list.ensures.opens (c.requires.begins.sees d); some = omega (arith, c.requires.begins.some, c.start-list.ensures.stays.left) } }
 
@@ -183,3 +177,18 @@ paths::opt_as_trait-returns-then-at-clause-reads t c = λ cond. reads-opt _ (saw
 pub paths::opt_as_trait-returns-else-at-clause-reads : goal.paths::opt_as_trait-returns-else-at-clause-reads
 unfolding look_of begins_below whole rule items statements expressions patterns types paths there_at shift passes is_silent begins in_mode anew row one_of any_of no_longer longest is_longer
 paths::opt_as_trait-returns-else-at-clause-reads t c = λ cond. reads-none _ (saw-so (c.at.ensures.sees cond) c.if-at.false) c.at.ensures.peeks.same
+
+pub paths::fn_args-returns-then-at_dots_args-clause-reads : goal.paths::fn_args-returns-then-at_dots_args-clause-reads
+unfolding look_of begins_below whole rule items statements expressions patterns types paths there_at shift passes is_silent begins in_mode anew row one_of any_of no_longer longest is_longer
+paths::fn_args-returns-then-at_dots_args-clause-reads t c = λ cond. reads-here (saw-so (c.at_dots_args.ensures.sees cond) c.if-at_dots_args.true and saw-left (saw-so (c.at_dots_args.ensures.sees cond) c.if-at_dots_args.true) and nothing) (after-look cond c.at_dots_args.ensures.peeks.same (c.dots_args.ensures.reads cond))
+
+pub paths::fn_args-returns-then-at_colons_dots_args-clause-reads : goal.paths::fn_args-returns-then-at_colons_dots_args-clause-reads
+unfolding look_of begins_below whole rule items statements expressions patterns types paths there_at shift passes is_silent begins in_mode anew row one_of any_of no_longer longest is_longer
+paths::fn_args-returns-then-at_colons_dots_args-clause-reads t c = λ cond. reads-here (saw-so (c.at_dots_args.ensures.sees cond) c.if-at_dots_args.false and saw-before c.at_dots_args.ensures.peeks.same (saw-so (c.at_colons_dots_args.ensures.sees cond) c.if-at_colons_dots_args.true) and saw-left (saw-before c.at_dots_args.ensures.peeks.same (saw-so (c.at_colons_dots_args.ensures.sees cond) c.if-at_colons_dots_args.true)) and nothing) (after-look cond c.at_dots_args.ensures.peeks.same (after-look cond c.at_colons_dots_args.ensures.peeks.same (c.colons_dots_args.ensures.reads cond)))
+
+pub paths::fn_args-returns-clause-reads : goal.paths::fn_args-returns-clause-reads
+unfolding look_of begins_below whole rule items statements expressions patterns types paths there_at shift passes is_silent begins in_mode anew row one_of any_of no_longer longest is_longer
+paths::fn_args-returns-clause-reads t c = λ cond. reads-here (saw-so (c.at_dots_args.ensures.sees cond) c.if-at_dots_args.false and saw-before c.at_dots_args.ensures.peeks.same (saw-so (c.at_colons_dots_args.ensures.sees cond) c.if-at_colons_dots_args.false) and nothing) (after-look cond c.at_dots_args.ensures.peeks.same (after-look cond c.at_colons_dots_args.ensures.peeks.same (reads-then cond (c.paren_args.ensures.reads cond) (c.opt_ret_type.ensures.reads cond))))
+
+pub paths::fn_args-paren_args-requires : goal.paths::fn_args-paren_args-requires
+paths::fn_args-paren_args-requires t c = (omega arith, record { sees = λ d. saw-after c.at_colons_dots_args.ensures.peeks.same (saw-after c.at_dots_args.ensures.peeks.same (c.requires.begins.sees d)); some = omega (arith, c.requires.begins.some, c.at_dots_args.ensures.peeks.left, c.at_colons_dots_args.ensures.peeks.left) })

@@ -1,10 +1,10 @@
 -- Patterns, arm by arm.
 use Rattle.std.proofs.Common.{Bool, true, refl, subst, arith}
 use Rattle.rust_grammar.specs.Calls.{SinglePattern}
-use Rattle.rust_grammar.specs.Notation.{◌▸◌, ◌! }
+use Rattle.rust_grammar.specs.Notation.{◌▸◌, ◌!, next, wide}
 use Rattle.rust_grammar.specs.Rule as rules
 use Rattle.rust_grammar.specs.Rule.{Look, One}
-use Rattle.rust_grammar.specs.Words.{'|'}
+use Rattle.rust_grammar.specs.Words.{'|', '<'}
 use Rattle.rust_grammar.specs.Expressions.{expressions}
 use Rattle.rust_grammar.specs.Items.{items}
 use Rattle.rust_grammar.specs.Meaning.{begins_below, look_of}
@@ -19,19 +19,13 @@ use Rattle.grammar_reader.specs.declared.grammar.paths.Mode.TheVariants as modes
 use Rattle.grammar_reader.proofs.PathArgs.{paths-begin, reads-flat}
 use Rattle.rust_productions.specs.Looks.{tokens}
 use Rattle.rust_productions.specs.Reads.{looks, Saw}
-use Rattle.rust_productions.proofs.ByHand.{after-look, completes-leave, does-then, reads-call, reads-node, reads-nothing, reads-then, reads-wrap}
+use Rattle.rust_productions.proofs.ByHand.{after-look, completes-leave, does-then, reads-call, reads-node, reads-nothing, reads-then, reads-wrap, does-nothing}
 use Rattle.rust_productions.proofs.Choices.{anew-completes, gives-anew, reads-here}
 use Rattle.rust_productions.proofs.Facts.{begun, nothing, saw-so, ◌and◌}
 use Rattle.rust_productions.proofs.Looking.{saw-arm, saw-not}
-use Rattle.rust_productions.proofs.Seen.{begins-else, ends-at-end, saw-left, saw-after, saw-before, saw-inside}
+use Rattle.rust_productions.proofs.Seen.{begins-else, ends-at-end, saw-left, saw-after, saw-before, saw-inside, saw-else}
 use Rattle.rust_productions.proofs.Turns.{last-turn, next-turn}
 use Rattle.grammar_reader.proofs.grammar.+grammar.Goals as goal
-
-pub patterns::single_pattern-inside-frame-requires : goal.patterns::single_pattern-inside-frame-requires
-patterns::single_pattern-inside-frame-requires t c = (omega arith, (record { sees = λ d. saw-inside c.start-frame.ensures.opens (c.requires.begins d); some = omega arith }, c.start-frame.ensures.marker))
-
-pub patterns::single_pattern-returns-clause-gives : goal.patterns::single_pattern-returns-clause-gives
-patterns::single_pattern-returns-clause-gives t c = λ cond. gives-anew (anew-completes c.start-frame.ensures.opens (completes-leave (c.inside-frame.ensures.reads cond) c.abandon.ensures.leaves))
 
 pub patterns::inside-returns-in-MINUS-clause-reads : goal.patterns::inside-returns-in-MINUS-clause-reads
 unfolding look_of begins_below whole rule items statements expressions patterns types paths there_at shift passes is_silent begins in_mode anew row one_of any_of no_longer longest is_longer
@@ -157,7 +151,7 @@ patterns::inside-returns-then-at_literal t c = record {
 pub patterns::inside-returns-else-at_literal : goal.patterns::inside-returns-else-at_literal
 unfolding look_of begins_below whole rule items statements expressions patterns types paths there_at shift passes is_silent begins in_mode anew row one_of any_of no_longer longest is_longer
 patterns::inside-returns-else-at_literal t c = record {
-  reads = λ cond. reads-here (saw-not c.in_default.not-MINUS (c.current.ensures.sees cond) and saw-not c.in_default.not-UNDERSCORE (c.current.ensures.sees cond) and saw-not c.in_default.not-AMP (c.current.ensures.sees cond) and saw-not c.in_default.not-L_BRACK (c.current.ensures.sees cond) and saw-not c.in_default.not-REF_KW (c.current.ensures.sees cond) and saw-not c.in_default.not-MUT_KW (c.current.ensures.sees cond) and saw-not c.in_default.not-L_PAREN (c.current.ensures.sees cond) and saw-before c.current.ensures.peeks.same (saw-so (c.at_ident_pat.ensures.sees cond) c.if-at_ident_pat.false) and saw-before c.current.ensures.peeks.same (saw-before c.at_ident_pat.ensures.peeks.same (saw-so (c.at_pair.ensures.sees cond) c.if-at_pair.false)) and begun rules.literal (saw-before c.current.ensures.peeks.same (saw-before c.at_ident_pat.ensures.peeks.same (saw-before c.at_pair.ensures.peeks.same (saw-so (c.at_literal.ensures.sees cond) c.if-at_literal.false)))) nothing) (after-look cond c.current.ensures.peeks.same (after-look cond c.at_ident_pat.ensures.peeks.same (after-look cond c.at_pair.ensures.peeks.same (after-look cond c.at_literal.ensures.peeks.same (c.path_pat.ensures.reads cond)))));
+  reads = λ cond. reads-here (saw-not c.in_default.not-L_ANGLE (c.current.ensures.sees cond) and saw-not c.in_default.not-MINUS (c.current.ensures.sees cond) and saw-not c.in_default.not-UNDERSCORE (c.current.ensures.sees cond) and saw-not c.in_default.not-AMP (c.current.ensures.sees cond) and saw-not c.in_default.not-L_BRACK (c.current.ensures.sees cond) and saw-not c.in_default.not-REF_KW (c.current.ensures.sees cond) and saw-not c.in_default.not-MUT_KW (c.current.ensures.sees cond) and saw-not c.in_default.not-L_PAREN (c.current.ensures.sees cond) and saw-before c.current.ensures.peeks.same (saw-so (c.at_ident_pat.ensures.sees cond) c.if-at_ident_pat.false) and saw-before c.current.ensures.peeks.same (saw-before c.at_ident_pat.ensures.peeks.same (saw-so (c.at_pair.ensures.sees cond) c.if-at_pair.false)) and begun rules.literal (saw-before c.current.ensures.peeks.same (saw-before c.at_ident_pat.ensures.peeks.same (saw-before c.at_pair.ensures.peeks.same (saw-so (c.at_literal.ensures.sees cond) c.if-at_literal.false)))) nothing) (after-look cond c.current.ensures.peeks.same (after-look cond c.at_ident_pat.ensures.peeks.same (after-look cond c.at_pair.ensures.peeks.same (after-look cond c.at_literal.ensures.peeks.same (c.path_pat.ensures.reads cond)))));
   takes = record {
     left = omega (arith, c.path_pat.ensures.takes.left, c.at_literal.ensures.peeks.left, c.at_pair.ensures.peeks.left, c.at_ident_pat.ensures.peeks.left, c.current.ensures.peeks.left);
     looks = omega (arith, c.path_pat.ensures.takes.looks, c.at_literal.ensures.peeks.looks, c.at_pair.ensures.peeks.looks, c.at_ident_pat.ensures.peeks.looks, c.current.ensures.peeks.looks);
@@ -168,7 +162,7 @@ patterns::inside-returns-else-at_literal t c = record {
 pub patterns::inside-path_pat-requires : goal.patterns::inside-path_pat-requires
 unfolding look_of begins_below whole rule items statements expressions patterns types paths there_at shift passes is_silent begins in_mode anew row one_of any_of no_longer longest is_longer
 patterns::inside-path_pat-requires t c =
-    let seen : (cond : Bool) → Saw cond (looks rules.expr_path) c.args.p.now true = λ cond. begins-else rules.expr_path rules.single_pattern refl (saw-not c.in_default.not-MINUS (c.current.ensures.sees cond) and saw-not c.in_default.not-UNDERSCORE (c.current.ensures.sees cond) and saw-not c.in_default.not-AMP (c.current.ensures.sees cond) and saw-not c.in_default.not-L_BRACK (c.current.ensures.sees cond) and saw-not c.in_default.not-REF_KW (c.current.ensures.sees cond) and saw-not c.in_default.not-MUT_KW (c.current.ensures.sees cond) and saw-not c.in_default.not-L_PAREN (c.current.ensures.sees cond) and saw-before c.current.ensures.peeks.same (saw-so (c.at_ident_pat.ensures.sees cond) c.if-at_ident_pat.false) and saw-before c.current.ensures.peeks.same (saw-before c.at_ident_pat.ensures.peeks.same (saw-so (c.at_pair.ensures.sees cond) c.if-at_pair.false)) and begun rules.literal (saw-before c.current.ensures.peeks.same (saw-before c.at_ident_pat.ensures.peeks.same (saw-before c.at_pair.ensures.peeks.same (saw-so (c.at_literal.ensures.sees cond) c.if-at_literal.false)))) nothing) (c.requires.begins.sees cond) refl in
+    let seen : (cond : Bool) → Saw cond (looks rules.expr_path) c.args.p.now true = λ cond. begins-else rules.expr_path rules.pattern_atom refl (saw-not c.in_default.not-L_ANGLE (c.current.ensures.sees cond) and saw-not c.in_default.not-MINUS (c.current.ensures.sees cond) and saw-not c.in_default.not-UNDERSCORE (c.current.ensures.sees cond) and saw-not c.in_default.not-AMP (c.current.ensures.sees cond) and saw-not c.in_default.not-L_BRACK (c.current.ensures.sees cond) and saw-not c.in_default.not-REF_KW (c.current.ensures.sees cond) and saw-not c.in_default.not-MUT_KW (c.current.ensures.sees cond) and saw-not c.in_default.not-L_PAREN (c.current.ensures.sees cond) and saw-before c.current.ensures.peeks.same (saw-so (c.at_ident_pat.ensures.sees cond) c.if-at_ident_pat.false) and saw-before c.current.ensures.peeks.same (saw-before c.at_ident_pat.ensures.peeks.same (saw-so (c.at_pair.ensures.sees cond) c.if-at_pair.false)) and begun rules.literal (saw-before c.current.ensures.peeks.same (saw-before c.at_ident_pat.ensures.peeks.same (saw-before c.at_pair.ensures.peeks.same (saw-so (c.at_literal.ensures.sees cond) c.if-at_literal.false)))) nothing) (c.requires.begins.sees cond) refl in
     let path : (cond : Bool) → Saw cond (looks rules.path) c.args.p.now true = λ cond. subst (λ (l : Look). Saw cond l c.args.p.now true) (paths-begin modes.Expr) (seen cond) in (
       omega arith,
       (
@@ -272,27 +266,6 @@ patterns::path_pat-after_path-requires t c = (omega arith, (c.path_with_args.ens
 pub patterns::path_pat-returns-clause-reads : goal.patterns::path_pat-returns-clause-reads
 patterns::path_pat-returns-clause-reads t c = λ cond. reads-then cond (reads-call cond (c.path_with_args.ensures.gives cond)) (c.after_path.ensures.reads cond)
 
-pub patterns::after_path-wrap-requires : goal.patterns::after_path-wrap-requires
-patterns::after_path-wrap-requires t c = (c.rest_of_list.ensures.reads true).does.innermost _ ((c.take.ensures.reads true).does.innermost _ (c.at.ensures.peeks.same.innermost _ c.requires.innermost))
-
-pub patterns::after_path-wrap-requires-then-at-2 : goal.patterns::after_path-wrap-requires-then-at-2
-patterns::after_path-wrap-requires-then-at-2 t c = (c.pattern_fields.ensures.gives true).does.innermost _ (c.at-2.ensures.peeks.same.innermost _ (c.at.ensures.peeks.same.innermost _ c.requires.innermost))
-
-pub patterns::after_path-wrap-requires-2 : goal.patterns::after_path-wrap-requires-2
-patterns::after_path-wrap-requires-2 t c = c.at-2.ensures.peeks.same.innermost _ (c.at.ensures.peeks.same.innermost _ c.requires.innermost)
-
-pub patterns::after_path-returns-then-at-clause-reads : goal.patterns::after_path-returns-then-at-clause-reads
-unfolding look_of begins_below whole rule items statements expressions patterns types paths there_at shift passes is_silent begins in_mode anew row one_of any_of no_longer longest is_longer
-patterns::after_path-returns-then-at-clause-reads t c = λ cond. reads-here (saw-so (c.at.ensures.sees cond) c.if-at.true and nothing) (after-look cond c.at.ensures.peeks.same (reads-wrap cond (reads-then cond (c.take.ensures.reads cond) (c.rest_of_list.ensures.reads cond)) c.wrap.ensures.wraps))
-
-pub patterns::after_path-returns-then-at-2-clause-reads : goal.patterns::after_path-returns-then-at-2-clause-reads
-unfolding look_of begins_below whole rule items statements expressions patterns types paths there_at shift passes is_silent begins in_mode anew row one_of any_of no_longer longest is_longer
-patterns::after_path-returns-then-at-2-clause-reads t c = λ cond. reads-here (saw-so (c.at.ensures.sees cond) c.if-at.false and saw-before c.at.ensures.peeks.same (saw-so (c.at-2.ensures.sees cond) c.if-at-2.true) and nothing) (after-look cond c.at.ensures.peeks.same (after-look cond c.at-2.ensures.peeks.same (reads-wrap cond (reads-call cond (c.pattern_fields.ensures.gives cond)) c.wrap-then-at-2.ensures.wraps)))
-
-pub patterns::after_path-returns-clause-reads : goal.patterns::after_path-returns-clause-reads
-unfolding look_of begins_below whole rule items statements expressions patterns types paths there_at shift passes is_silent begins in_mode anew row one_of any_of no_longer longest is_longer
-patterns::after_path-returns-clause-reads t c = λ cond. reads-here (saw-so (c.at.ensures.sees cond) c.if-at.false and saw-before c.at.ensures.peeks.same (saw-so (c.at-2.ensures.sees cond) c.if-at-2.false) and nothing) (reads-wrap cond (reads-nothing cond (does-then c.at.ensures.peeks.same c.at-2.ensures.peeks.same)) c.wrap-2.ensures.wraps)
-
 pub or_patterns::pattern-alternatives-frame-requires : goal.or_patterns::pattern-alternatives-frame-requires
 or_patterns::pattern-alternatives-frame-requires t c = (omega arith, (record { sees = λ d. saw-inside c.start-frame.ensures.opens (c.requires.begins d); some = omega arith }, c.start-frame.ensures.marker))
 
@@ -344,3 +317,60 @@ or_patterns::opt_further-returns-then-at-clause-reads t c = λ cond. reads-here 
 pub or_patterns::opt_further-returns-clause-reads : goal.or_patterns::opt_further-returns-clause-reads
 unfolding look_of begins_below whole rule items statements expressions patterns types paths there_at shift passes is_silent begins in_mode anew row one_of any_of no_longer longest is_longer
 or_patterns::opt_further-returns-clause-reads t c = λ cond. reads-here (saw-so (c.at.ensures.sees cond) c.if-at.false and nothing) (reads-nothing cond c.at.ensures.peeks.same)
+
+pub patterns::single_pattern-range_or_atom-frame-requires : goal.patterns::single_pattern-range_or_atom-frame-requires
+patterns::single_pattern-range_or_atom-frame-requires t c = (omega arith, (record { sees = λ d. saw-inside c.start-frame.ensures.opens (c.requires.begins d); some = omega arith }, c.start-frame.ensures.marker))
+
+pub patterns::single_pattern-returns-clause-gives : goal.patterns::single_pattern-returns-clause-gives
+patterns::single_pattern-returns-clause-gives t c = λ cond. gives-anew (anew-completes c.start-frame.ensures.opens (completes-leave (c.range_or_atom-frame.ensures.reads cond) c.abandon.ensures.leaves))
+
+pub patterns::inside-qualified_pat-requires : goal.patterns::inside-qualified_pat-requires
+patterns::inside-qualified_pat-requires t c = (omega arith, (omega (arith, c.requires.begins.some, c.current.ensures.peeks.left), c.current.ensures.peeks.same.innermost _ c.requires.innermost))
+
+pub patterns::inside-returns-in-L_ANGLE-clause-reads : goal.patterns::inside-returns-in-L_ANGLE-clause-reads
+unfolding look_of begins_below whole rule items statements expressions patterns types paths there_at shift passes is_silent begins in_mode anew row one_of any_of no_longer longest is_longer
+patterns::inside-returns-in-L_ANGLE-clause-reads t c = λ cond. reads-here (saw-arm c.in-L_ANGLE.is (c.current.ensures.sees cond) and saw-else (wide (next '<')) (looks rules.pattern_atom) (saw-arm c.in-L_ANGLE.is (c.current.ensures.sees cond) and nothing) (c.requires.begins.sees cond) refl and nothing) (after-look cond c.current.ensures.peeks.same (c.qualified_pat.ensures.reads cond))
+
+pub patterns::inside-returns-in-L_ANGLE-clause-takes : goal.patterns::inside-returns-in-L_ANGLE-clause-takes
+patterns::inside-returns-in-L_ANGLE-clause-takes t c = record {
+  left = omega (arith, c.qualified_pat.ensures.takes.left, c.current.ensures.peeks.left);
+  looks = omega (arith, c.qualified_pat.ensures.takes.looks, c.current.ensures.peeks.looks);
+  marker = c.qualified_pat.ensures.takes.marker;
+}
+
+pub patterns::qualified_pat-returns-clause-reads : goal.patterns::qualified_pat-returns-clause-reads
+patterns::qualified_pat-returns-clause-reads t c = λ cond. reads-then cond (c.qualified_path-frame.ensures.reads cond) (c.after_path.ensures.reads cond)
+
+pub patterns::qualified_pat-qualified_path-frame-requires : goal.patterns::qualified_pat-qualified_path-frame-requires
+patterns::qualified_pat-qualified_path-frame-requires t c = (omega arith, (c.requires.innermost, omega (arith, c.requires.some)))
+
+pub patterns::qualified_pat-after_path-requires : goal.patterns::qualified_pat-after_path-requires
+patterns::qualified_pat-after_path-requires t c = (omega arith, c.qualified_path-frame.ensures.takes.marker)
+
+pub patterns::after_path-returns-then-at-clause-reads : goal.patterns::after_path-returns-then-at-clause-reads
+unfolding look_of begins_below whole rule items statements expressions patterns types paths there_at shift passes is_silent begins in_mode anew row one_of any_of no_longer longest is_longer
+patterns::after_path-returns-then-at-clause-reads t c = λ cond. reads-here (saw-so (c.at.ensures.sees cond) c.if-at.true and nothing) (after-look cond c.at.ensures.peeks.same (reads-wrap cond (reads-then cond (c.take.ensures.reads cond) (c.rest_of_list.ensures.reads cond)) c.wrap.ensures.wraps))
+
+pub patterns::after_path-returns-then-at-2-clause-reads : goal.patterns::after_path-returns-then-at-2-clause-reads
+unfolding look_of begins_below whole rule items statements expressions patterns types paths there_at shift passes is_silent begins in_mode anew row one_of any_of no_longer longest is_longer
+patterns::after_path-returns-then-at-2-clause-reads t c = λ cond. reads-here (saw-so (c.at.ensures.sees cond) c.if-at.false and saw-before c.at.ensures.peeks.same (saw-so (c.at-2.ensures.sees cond) c.if-at-2.true) and nothing) (after-look cond c.at.ensures.peeks.same (after-look cond c.at-2.ensures.peeks.same (reads-wrap cond (reads-call cond (c.pattern_fields.ensures.gives cond)) c.wrap-then-at.ensures.wraps)))
+
+pub patterns::after_path-returns-then-at_new-clause-reads : goal.patterns::after_path-returns-then-at_new-clause-reads
+unfolding look_of begins_below whole rule items statements expressions patterns types paths there_at shift passes is_silent begins in_mode anew row one_of any_of no_longer longest is_longer
+patterns::after_path-returns-then-at_new-clause-reads t c = λ cond. reads-here (saw-so (c.at.ensures.sees cond) c.if-at.false and saw-before c.at.ensures.peeks.same (saw-so (c.at-2.ensures.sees cond) c.if-at-2.false) and saw-before c.at.ensures.peeks.same (saw-before c.at-2.ensures.peeks.same (saw-so (c.at_new.ensures.sees cond) c.if-at_new.true)) and nothing) (after-look cond c.at.ensures.peeks.same (after-look cond c.at-2.ensures.peeks.same (after-look cond c.at_new.ensures.peeks.same (reads-wrap cond (reads-then cond (c.take-then-at_new.ensures.reads cond) (c.expect_token_tree.ensures.reads cond)) c.wrap-then-at_new.ensures.wraps))))
+
+pub patterns::after_path-returns-clause-reads : goal.patterns::after_path-returns-clause-reads
+unfolding look_of begins_below whole rule items statements expressions patterns types paths there_at shift passes is_silent begins in_mode anew row one_of any_of no_longer longest is_longer
+patterns::after_path-returns-clause-reads t c = λ cond. reads-here (saw-so (c.at.ensures.sees cond) c.if-at.false and saw-before c.at.ensures.peeks.same (saw-so (c.at-2.ensures.sees cond) c.if-at-2.false) and saw-before c.at.ensures.peeks.same (saw-before c.at-2.ensures.peeks.same (saw-so (c.at_new.ensures.sees cond) c.if-at_new.false)) and nothing) (after-look cond c.at.ensures.peeks.same (after-look cond c.at-2.ensures.peeks.same (after-look cond c.at_new.ensures.peeks.same (reads-wrap cond (reads-nothing cond (does-nothing _)) c.wrap-2.ensures.wraps))))
+
+pub patterns::after_path-wrap-requires : goal.patterns::after_path-wrap-requires
+patterns::after_path-wrap-requires t c = (c.rest_of_list.ensures.reads true).does.innermost _ ((c.take.ensures.reads true).does.innermost _ (c.at.ensures.peeks.same.innermost _ (c.requires.innermost)))
+
+pub patterns::after_path-wrap-requires-then-at : goal.patterns::after_path-wrap-requires-then-at
+patterns::after_path-wrap-requires-then-at t c = (c.pattern_fields.ensures.gives true).does.innermost _ (c.at-2.ensures.peeks.same.innermost _ (c.at.ensures.peeks.same.innermost _ (c.requires.innermost)))
+
+pub patterns::after_path-wrap-requires-then-at_new : goal.patterns::after_path-wrap-requires-then-at_new
+patterns::after_path-wrap-requires-then-at_new t c = (c.expect_token_tree.ensures.reads true).does.innermost _ ((c.take-then-at_new.ensures.reads true).does.innermost _ (c.at_new.ensures.peeks.same.innermost _ (c.at-2.ensures.peeks.same.innermost _ (c.at.ensures.peeks.same.innermost _ (c.requires.innermost)))))
+
+pub patterns::after_path-wrap-requires-2 : goal.patterns::after_path-wrap-requires-2
+patterns::after_path-wrap-requires-2 t c = c.at_new.ensures.peeks.same.innermost _ (c.at-2.ensures.peeks.same.innermost _ (c.at.ensures.peeks.same.innermost _ (c.requires.innermost)))

@@ -227,25 +227,6 @@ pub types::expect_type_no_bounds-returns-clause-reads : goal.types::expect_type_
 unfolding look_of begins_below whole rule items statements expressions patterns types paths there_at shift passes is_silent begins in_mode anew row one_of any_of no_longer longest is_longer
 types::expect_type_no_bounds-returns-clause-reads t c = λ cond. reads-here (begun rules.type_no_bounds (saw-so (c.at_type_no_bounds.ensures.sees cond) c.if-at_type_no_bounds.false) nothing) (after-look _ c.at_type_no_bounds.ensures.peeks.same (c.error.ensures.reads cond))
 
-pub types::new_type-returns-then-at-clause-reads : goal.types::new_type-returns-then-at-clause-reads
-unfolding look_of begins_below whole rule items statements expressions patterns types paths there_at shift passes is_silent begins in_mode anew row one_of any_of no_longer longest is_longer
-types::new_type-returns-then-at-clause-reads t c = λ cond. reads-here (saw-so (c.at.ensures.sees cond) c.if-at.true and nothing) (after-look _ c.at.ensures.peeks.same (c.lifetime_bounds.ensures.reads cond))
-
-pub types::new_type-returns-then-at-clause-takes : goal.types::new_type-returns-then-at-clause-takes
-types::new_type-returns-then-at-clause-takes t c = record {
-  left = omega (arith, c.lifetime_bounds.ensures.takes.left, c.at.ensures.peeks.left);
-  looks = omega (arith, c.lifetime_bounds.ensures.takes.looks, c.at.ensures.peeks.looks);
-  marker = (c.lifetime_bounds.ensures.reads true).does.innermost _ (c.at.ensures.peeks.same.innermost _ c.requires.innermost);
-}
-
-pub types::new_type-for_or_path-frame-requires : goal.types::new_type-for_or_path-frame-requires
-unfolding look_of begins_below whole rule items statements expressions patterns types paths there_at shift passes is_silent begins in_mode anew row one_of any_of no_longer longest is_longer
-types::new_type-for_or_path-frame-requires t c = (omega arith, (record { sees = λ d. saw-after c.at.ensures.peeks.same (saw-else for_or_path_begins (wide new_type_begins) (saw-so (c.at.ensures.sees d) c.if-at.false and nothing) (c.requires.begins.sees d) refl); some = omega (arith, c.requires.begins.some, c.at.ensures.peeks.left) }, c.at.ensures.peeks.same.innermost _ c.requires.innermost))
-
-pub types::new_type-returns-clause-reads : goal.types::new_type-returns-clause-reads
-unfolding look_of begins_below whole rule items statements expressions patterns types paths there_at shift passes is_silent begins in_mode anew row one_of any_of no_longer longest is_longer
-types::new_type-returns-clause-reads t c = λ cond. reads-here (saw-so (c.at.ensures.sees cond) c.if-at.false and nothing) (after-look _ c.at.ensures.peeks.same (reads-then _ (c.for_or_path-frame.ensures.reads cond) (c.opt_plus_bounds.ensures.reads cond)))
-
 pub types::for_or_path-returns-then-at-clause-reads : goal.types::for_or_path-returns-then-at-clause-reads
 unfolding look_of begins_below whole rule items statements expressions patterns types paths there_at shift passes is_silent begins in_mode anew row one_of any_of no_longer longest is_longer
 types::for_or_path-returns-then-at-clause-reads t c = λ cond. reads-or _ (saw-so (c.at.ensures.sees cond) c.if-at.true) (after-look _ c.at.ensures.peeks.same (c.for_type.ensures.reads cond))
@@ -369,4 +350,40 @@ types::inside-returns-in-AMP-clause-takes t c = record {
   left = omega (arith, c.ref_type.ensures.takes.left, c.current.ensures.peeks.left);
   looks = omega (arith, c.ref_type.ensures.takes.looks, c.current.ensures.peeks.looks);
   marker = (c.ref_type.ensures.reads true).does.innermost _ (c.current.ensures.peeks.same.innermost _ c.requires.innermost);
+}
+
+pub types::new_type-returns-then-at-clause-reads : goal.types::new_type-returns-then-at-clause-reads
+unfolding look_of begins_below whole rule items statements expressions patterns types paths there_at shift passes is_silent begins in_mode anew row one_of any_of no_longer longest is_longer
+types::new_type-returns-then-at-clause-reads t c = λ cond. reads-here (saw-so (c.at.ensures.sees cond) c.if-at.true and nothing) (after-look cond c.at.ensures.peeks.same (c.lifetime_bounds.ensures.reads cond))
+
+pub types::new_type-returns-then-at_fn_ptr-clause-reads : goal.types::new_type-returns-then-at_fn_ptr-clause-reads
+unfolding look_of begins_below whole rule items statements expressions patterns types paths there_at shift passes is_silent begins in_mode anew row one_of any_of no_longer longest is_longer
+types::new_type-returns-then-at_fn_ptr-clause-reads t c = λ cond. reads-here (saw-so (c.at.ensures.sees cond) c.if-at.false and saw-before c.at.ensures.peeks.same (saw-so (c.at_fn_ptr.ensures.sees cond) c.if-at_fn_ptr.true) and nothing) (after-look cond c.at.ensures.peeks.same (after-look cond c.at_fn_ptr.ensures.peeks.same (c.fn_ptr_type.ensures.reads cond)))
+
+pub types::new_type-returns-clause-reads : goal.types::new_type-returns-clause-reads
+unfolding look_of begins_below whole rule items statements expressions patterns types paths there_at shift passes is_silent begins in_mode anew row one_of any_of no_longer longest is_longer
+types::new_type-returns-clause-reads t c = λ cond. reads-here (saw-so (c.at.ensures.sees cond) c.if-at.false and saw-before c.at.ensures.peeks.same (saw-so (c.at_fn_ptr.ensures.sees cond) c.if-at_fn_ptr.false) and nothing) (after-look cond c.at.ensures.peeks.same (after-look cond c.at_fn_ptr.ensures.peeks.same (reads-then cond (c.for_or_path-frame.ensures.reads cond) (c.opt_plus_bounds.ensures.reads cond))))
+
+pub types::new_type-fn_ptr_type-requires : goal.types::new_type-fn_ptr_type-requires
+types::new_type-fn_ptr_type-requires t c = (omega arith, record { sees = λ d. saw-after c.at_fn_ptr.ensures.peeks.same (saw-so (c.at_fn_ptr.ensures.sees d) c.if-at_fn_ptr.true); some = omega (arith, c.requires.begins.some, c.at_fn_ptr.ensures.some c.if-at_fn_ptr.true, c.at.ensures.peeks.left, c.at_fn_ptr.ensures.peeks.left) })
+
+pub types::new_type-for_or_path-frame-requires : goal.types::new_type-for_or_path-frame-requires
+unfolding look_of begins_below whole rule items statements expressions patterns types paths there_at shift passes is_silent begins in_mode anew row one_of any_of no_longer longest is_longer
+types::new_type-for_or_path-frame-requires t c = (omega arith, (record { sees = λ d. saw-after c.at_fn_ptr.ensures.peeks.same (saw-after c.at.ensures.peeks.same (saw-else for_or_path_begins (wide new_type_begins) (saw-so (c.at.ensures.sees d) c.if-at.false and saw-before c.at.ensures.peeks.same (saw-so (c.at_fn_ptr.ensures.sees d) c.if-at_fn_ptr.false) and nothing) (c.requires.begins.sees d) refl)); some = omega (arith, c.requires.begins.some, c.at.ensures.peeks.left, c.at_fn_ptr.ensures.peeks.left) }, c.at_fn_ptr.ensures.peeks.same.innermost _ (c.at.ensures.peeks.same.innermost _ c.requires.innermost)))
+
+pub types::new_type-opt_plus_bounds-requires : goal.types::new_type-opt_plus_bounds-requires
+types::new_type-opt_plus_bounds-requires t c = (omega arith, c.for_or_path-frame.ensures.takes.marker)
+
+pub types::new_type-returns-then-at_fn_ptr-clause-takes : goal.types::new_type-returns-then-at_fn_ptr-clause-takes
+types::new_type-returns-then-at_fn_ptr-clause-takes t c = record {
+  left = omega (arith, c.fn_ptr_type.ensures.takes.left, c.at_fn_ptr.ensures.peeks.left, c.at.ensures.peeks.left);
+  looks = omega (arith, c.fn_ptr_type.ensures.takes.looks, c.at_fn_ptr.ensures.peeks.looks, c.at.ensures.peeks.looks);
+  marker = (c.fn_ptr_type.ensures.reads true).does.innermost _ (c.at_fn_ptr.ensures.peeks.same.innermost _ (c.at.ensures.peeks.same.innermost _ c.requires.innermost));
+}
+
+pub types::new_type-returns-then-at-clause-takes : goal.types::new_type-returns-then-at-clause-takes
+types::new_type-returns-then-at-clause-takes t c = record {
+  left = omega (arith, c.lifetime_bounds.ensures.takes.left, c.at.ensures.peeks.left);
+  looks = omega (arith, c.lifetime_bounds.ensures.takes.looks, c.at.ensures.peeks.looks);
+  marker = (c.lifetime_bounds.ensures.reads true).does.innermost _ (c.at.ensures.peeks.same.innermost _ c.requires.innermost);
 }

@@ -63,6 +63,17 @@ returns-in-FieldValue-clause-peeks c = record {
   looks = subst (λ (e : Element). spent c.at_field_value.new.p ≤ spent c.args.p.now + looks_before e) (sym c.in-FieldValue.is) (omega (arith, c.at_field_value.ensures.peeks.looks));
 }
 
+pub returns-in-FnPtrParam-clause-sees : goal.returns-in-FnPtrParam-clause-sees
+unfolding look_of begins_below whole rule items statements expressions patterns types paths there_at shift passes is_silent begins in_mode anew row one_of any_of no_longer longest is_longer
+returns-in-FnPtrParam-clause-sees c = subst (λ (e : Element). Saw false (begins looks (element_of e)) c.args.p.now c.at_fn_ptr_param.result) (sym c.in-FnPtrParam.is) (c.at_fn_ptr_param.ensures.sees false)
+
+pub returns-in-FnPtrParam-clause-peeks : goal.returns-in-FnPtrParam-clause-peeks
+returns-in-FnPtrParam-clause-peeks c = record {
+  same = search rules;
+  left = omega arith;
+  looks = subst (λ (e : Element). spent c.at_fn_ptr_param.new.p ≤ spent c.args.p.now + looks_before e) (sym c.in-FnPtrParam.is) (omega (arith, c.at_fn_ptr_param.ensures.peeks.looks));
+}
+
 pub returns-in-GenericArg-clause-sees : goal.returns-in-GenericArg-clause-sees
 unfolding look_of begins_below whole rule items statements expressions patterns types paths there_at shift passes is_silent begins in_mode anew row one_of any_of no_longer longest is_longer
 returns-in-GenericArg-clause-sees c = subst (λ (e : Element). Saw false (begins looks (element_of e)) c.args.p.now c.at_generic_arg.result) (sym c.in-GenericArg.is) (c.at_generic_arg.ensures.sees false)

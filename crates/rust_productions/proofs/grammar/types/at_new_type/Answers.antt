@@ -64,9 +64,16 @@ returns-else-at_second-2-clause-sees c cond = saw-told (saw-so (c.at_whole.ensur
 pub returns-else-at_second-2-clause-peeks : goal.returns-else-at_second-2-clause-peeks
 returns-else-at_second-2-clause-peeks c = peeks-within (stays-then c.at_whole.ensures.same c.at_whole.ensures.stays (peeks-then c.at_path.ensures.peeks (peeks-then c.current.ensures.peeks (c.at_second-in-FOR_KW.ensures.peeks)))) (omega arith)
 
-pub returns-in_default-clause-sees : goal.returns-in_default-clause-sees
+pub returns-then-at_fn_ptr-clause-sees : goal.returns-then-at_fn_ptr-clause-sees
 unfolding look_of begins_below whole rule items statements expressions patterns types paths there_at shift passes is_silent begins in_mode anew row one_of any_of no_longer longest is_longer
-returns-in_default-clause-sees c cond = saw-told (saw-so (c.at_whole.ensures.sees cond) c.if-not-at_whole.false and begun rules.type_path (saw-type-path (saw-before c.at_whole.ensures.same (saw-so (c.at_path.ensures.sees cond) c.if-at_path.false))) (begun rules.expr_path (saw-expr-path (saw-before c.at_whole.ensures.same (saw-so (c.at_path.ensures.sees cond) c.if-at_path.false))) (begun rules.path (saw-before c.at_whole.ensures.same (saw-so (c.at_path.ensures.sees cond) c.if-at_path.false)) (saw-path-begins (saw-before c.at_whole.ensures.same (saw-so (c.at_path.ensures.sees cond) c.if-at_path.false)) and saw-before c.at_whole.ensures.same (saw-before c.at_path.ensures.peeks.same (saw-not c.in_default.not-L_ANGLE (c.current.ensures.sees cond))) and saw-before c.at_whole.ensures.same (saw-before c.at_path.ensures.peeks.same (saw-not c.in_default.not-LIFETIME_IDENT (c.current.ensures.sees cond))) and saw-before c.at_whole.ensures.same (saw-before c.at_path.ensures.peeks.same (saw-not c.in_default.not-FOR_KW (c.current.ensures.sees cond))) and nothing)))) refl
+returns-then-at_fn_ptr-clause-sees c cond = saw-told (saw-so (c.at_whole.ensures.sees cond) c.if-not-at_whole.false and begun rules.type_path (saw-type-path (saw-before c.at_whole.ensures.same (saw-so (c.at_path.ensures.sees cond) c.if-at_path.false))) (begun rules.expr_path (saw-expr-path (saw-before c.at_whole.ensures.same (saw-so (c.at_path.ensures.sees cond) c.if-at_path.false))) (begun rules.path (saw-before c.at_whole.ensures.same (saw-so (c.at_path.ensures.sees cond) c.if-at_path.false)) (saw-path-begins (saw-before c.at_whole.ensures.same (saw-so (c.at_path.ensures.sees cond) c.if-at_path.false)) and saw-before c.at_whole.ensures.same (saw-before c.at_path.ensures.peeks.same (saw-not c.in_default.not-L_ANGLE (c.current.ensures.sees cond))) and saw-before c.at_whole.ensures.same (saw-before c.at_path.ensures.peeks.same (saw-not c.in_default.not-LIFETIME_IDENT (c.current.ensures.sees cond))) and saw-before c.at_whole.ensures.same (saw-before c.at_path.ensures.peeks.same (saw-not c.in_default.not-FOR_KW (c.current.ensures.sees cond))) and saw-before c.at_whole.ensures.same (saw-before c.at_path.ensures.peeks.same (saw-before c.current.ensures.peeks.same (saw-so (c.at_fn_ptr.ensures.sees cond) c.if-at_fn_ptr.true))) and nothing)))) refl
 
-pub returns-in_default-clause-peeks : goal.returns-in_default-clause-peeks
-returns-in_default-clause-peeks c = peeks-within (stays-then c.at_whole.ensures.same c.at_whole.ensures.stays (peeks-then c.at_path.ensures.peeks (c.current.ensures.peeks))) (omega arith)
+pub returns-then-at_fn_ptr-clause-peeks : goal.returns-then-at_fn_ptr-clause-peeks
+returns-then-at_fn_ptr-clause-peeks c = peeks-within (stays-then c.at_whole.ensures.same c.at_whole.ensures.stays (peeks-then c.at_path.ensures.peeks (peeks-then c.current.ensures.peeks (c.at_fn_ptr.ensures.peeks)))) (omega arith)
+
+pub returns-else-at_fn_ptr-clause-sees : goal.returns-else-at_fn_ptr-clause-sees
+unfolding look_of begins_below whole rule items statements expressions patterns types paths there_at shift passes is_silent begins in_mode anew row one_of any_of no_longer longest is_longer
+returns-else-at_fn_ptr-clause-sees c cond = saw-told (saw-so (c.at_whole.ensures.sees cond) c.if-not-at_whole.false and begun rules.type_path (saw-type-path (saw-before c.at_whole.ensures.same (saw-so (c.at_path.ensures.sees cond) c.if-at_path.false))) (begun rules.expr_path (saw-expr-path (saw-before c.at_whole.ensures.same (saw-so (c.at_path.ensures.sees cond) c.if-at_path.false))) (begun rules.path (saw-before c.at_whole.ensures.same (saw-so (c.at_path.ensures.sees cond) c.if-at_path.false)) (saw-path-begins (saw-before c.at_whole.ensures.same (saw-so (c.at_path.ensures.sees cond) c.if-at_path.false)) and saw-before c.at_whole.ensures.same (saw-before c.at_path.ensures.peeks.same (saw-not c.in_default.not-L_ANGLE (c.current.ensures.sees cond))) and saw-before c.at_whole.ensures.same (saw-before c.at_path.ensures.peeks.same (saw-not c.in_default.not-LIFETIME_IDENT (c.current.ensures.sees cond))) and saw-before c.at_whole.ensures.same (saw-before c.at_path.ensures.peeks.same (saw-not c.in_default.not-FOR_KW (c.current.ensures.sees cond))) and saw-before c.at_whole.ensures.same (saw-before c.at_path.ensures.peeks.same (saw-before c.current.ensures.peeks.same (saw-so (c.at_fn_ptr.ensures.sees cond) c.if-at_fn_ptr.false))) and nothing)))) refl
+
+pub returns-else-at_fn_ptr-clause-peeks : goal.returns-else-at_fn_ptr-clause-peeks
+returns-else-at_fn_ptr-clause-peeks c = peeks-within (stays-then c.at_whole.ensures.same c.at_whole.ensures.stays (peeks-then c.at_path.ensures.peeks (peeks-then c.current.ensures.peeks (c.at_fn_ptr.ensures.peeks)))) (omega arith)

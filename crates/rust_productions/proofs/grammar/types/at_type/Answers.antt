@@ -13,7 +13,7 @@ use Rattle.rust_grammar.specs.Whole.{rule, whole}
 use Rattle.rust_grammar.specs.Rule as rules
 use Rattle.rust_productions.proofs.Begins.{saw-expr-path, saw-path-begins, saw-type-path}
 use Rattle.rust_productions.proofs.Facts.{begun, nothing, saw-so, ◌and◌}
-use Rattle.rust_productions.proofs.Looking.{left-arm, saw-arm, saw-not}
+use Rattle.rust_productions.proofs.Looking.{saw-arm, saw-not}
 use Rattle.rust_productions.proofs.Seen.{begins-row, saw-before}
 use Rattle.rust_productions.proofs.Peeking.{peeks-then, peeks-within}
 use Rattle.rust_productions.proofs.grammar.types.at_type.Goals as goal
@@ -34,7 +34,7 @@ returns-then-at_dyn_word-clause-peeks c = peeks-within (peeks-then c.at_path.ens
 
 pub returns-in-L_PAREN-clause-sees : goal.returns-in-L_PAREN-clause-sees
 unfolding look_of begins_below whole rule items statements expressions patterns types paths there_at shift passes is_silent begins in_mode anew row one_of any_of no_longer longest is_longer
-returns-in-L_PAREN-clause-sees c cond = elim c.in-L_PAREN.is [ inl a0 ↦ begins-row rules.any_type (begun rules.type_path (saw-type-path (saw-so (c.at_path.ensures.sees cond) c.if-at_path.false)) (begun rules.expr_path (saw-expr-path (saw-so (c.at_path.ensures.sees cond) c.if-at_path.false)) (begun rules.path (saw-so (c.at_path.ensures.sees cond) c.if-at_path.false) (saw-path-begins (saw-so (c.at_path.ensures.sees cond) c.if-at_path.false) and saw-before c.at_path.ensures.peeks.same (saw-so (c.at_dyn_word.ensures.sees cond) c.if-at_dyn_word.false) and saw-before c.at_path.ensures.peeks.same (saw-before c.at_dyn_word.ensures.peeks.same (left-arm a0 (c.current.ensures.end cond))) and saw-before c.at_path.ensures.peeks.same (saw-before c.at_dyn_word.ensures.peeks.same (saw-arm a0 (c.current.ensures.sees cond))) and nothing)))) refl | inr b0 ↦ elim b0 [ inl a1 ↦ begins-row rules.any_type (begun rules.type_path (saw-type-path (saw-so (c.at_path.ensures.sees cond) c.if-at_path.false)) (begun rules.expr_path (saw-expr-path (saw-so (c.at_path.ensures.sees cond) c.if-at_path.false)) (begun rules.path (saw-so (c.at_path.ensures.sees cond) c.if-at_path.false) (saw-path-begins (saw-so (c.at_path.ensures.sees cond) c.if-at_path.false) and saw-before c.at_path.ensures.peeks.same (saw-so (c.at_dyn_word.ensures.sees cond) c.if-at_dyn_word.false) and saw-before c.at_path.ensures.peeks.same (saw-before c.at_dyn_word.ensures.peeks.same (left-arm a1 (c.current.ensures.end cond))) and saw-before c.at_path.ensures.peeks.same (saw-before c.at_dyn_word.ensures.peeks.same (saw-arm a1 (c.current.ensures.sees cond))) and nothing)))) refl | inr b1 ↦ elim b1 [ inl a2 ↦ begins-row rules.any_type (begun rules.type_path (saw-type-path (saw-so (c.at_path.ensures.sees cond) c.if-at_path.false)) (begun rules.expr_path (saw-expr-path (saw-so (c.at_path.ensures.sees cond) c.if-at_path.false)) (begun rules.path (saw-so (c.at_path.ensures.sees cond) c.if-at_path.false) (saw-path-begins (saw-so (c.at_path.ensures.sees cond) c.if-at_path.false) and saw-before c.at_path.ensures.peeks.same (saw-so (c.at_dyn_word.ensures.sees cond) c.if-at_dyn_word.false) and saw-before c.at_path.ensures.peeks.same (saw-before c.at_dyn_word.ensures.peeks.same (left-arm a2 (c.current.ensures.end cond))) and saw-before c.at_path.ensures.peeks.same (saw-before c.at_dyn_word.ensures.peeks.same (saw-arm a2 (c.current.ensures.sees cond))) and nothing)))) refl | inr b2 ↦ elim b2 [ inl a3 ↦ begins-row rules.any_type (begun rules.type_path (saw-type-path (saw-so (c.at_path.ensures.sees cond) c.if-at_path.false)) (begun rules.expr_path (saw-expr-path (saw-so (c.at_path.ensures.sees cond) c.if-at_path.false)) (begun rules.path (saw-so (c.at_path.ensures.sees cond) c.if-at_path.false) (saw-path-begins (saw-so (c.at_path.ensures.sees cond) c.if-at_path.false) and saw-before c.at_path.ensures.peeks.same (saw-so (c.at_dyn_word.ensures.sees cond) c.if-at_dyn_word.false) and saw-before c.at_path.ensures.peeks.same (saw-before c.at_dyn_word.ensures.peeks.same (left-arm a3 (c.current.ensures.end cond))) and saw-before c.at_path.ensures.peeks.same (saw-before c.at_dyn_word.ensures.peeks.same (saw-arm a3 (c.current.ensures.sees cond))) and nothing)))) refl | inr b3 ↦ elim b3 [ inl a4 ↦ begins-row rules.any_type (begun rules.type_path (saw-type-path (saw-so (c.at_path.ensures.sees cond) c.if-at_path.false)) (begun rules.expr_path (saw-expr-path (saw-so (c.at_path.ensures.sees cond) c.if-at_path.false)) (begun rules.path (saw-so (c.at_path.ensures.sees cond) c.if-at_path.false) (saw-path-begins (saw-so (c.at_path.ensures.sees cond) c.if-at_path.false) and saw-before c.at_path.ensures.peeks.same (saw-so (c.at_dyn_word.ensures.sees cond) c.if-at_dyn_word.false) and saw-before c.at_path.ensures.peeks.same (saw-before c.at_dyn_word.ensures.peeks.same (left-arm a4 (c.current.ensures.end cond))) and saw-before c.at_path.ensures.peeks.same (saw-before c.at_dyn_word.ensures.peeks.same (saw-arm a4 (c.current.ensures.sees cond))) and nothing)))) refl | inr b4 ↦ elim b4 [ inl a5 ↦ begins-row rules.any_type (begun rules.type_path (saw-type-path (saw-so (c.at_path.ensures.sees cond) c.if-at_path.false)) (begun rules.expr_path (saw-expr-path (saw-so (c.at_path.ensures.sees cond) c.if-at_path.false)) (begun rules.path (saw-so (c.at_path.ensures.sees cond) c.if-at_path.false) (saw-path-begins (saw-so (c.at_path.ensures.sees cond) c.if-at_path.false) and saw-before c.at_path.ensures.peeks.same (saw-so (c.at_dyn_word.ensures.sees cond) c.if-at_dyn_word.false) and saw-before c.at_path.ensures.peeks.same (saw-before c.at_dyn_word.ensures.peeks.same (left-arm a5 (c.current.ensures.end cond))) and saw-before c.at_path.ensures.peeks.same (saw-before c.at_dyn_word.ensures.peeks.same (saw-arm a5 (c.current.ensures.sees cond))) and nothing)))) refl | inr b5 ↦ elim b5 [ inl a6 ↦ begins-row rules.any_type (begun rules.type_path (saw-type-path (saw-so (c.at_path.ensures.sees cond) c.if-at_path.false)) (begun rules.expr_path (saw-expr-path (saw-so (c.at_path.ensures.sees cond) c.if-at_path.false)) (begun rules.path (saw-so (c.at_path.ensures.sees cond) c.if-at_path.false) (saw-path-begins (saw-so (c.at_path.ensures.sees cond) c.if-at_path.false) and saw-before c.at_path.ensures.peeks.same (saw-so (c.at_dyn_word.ensures.sees cond) c.if-at_dyn_word.false) and saw-before c.at_path.ensures.peeks.same (saw-before c.at_dyn_word.ensures.peeks.same (left-arm a6 (c.current.ensures.end cond))) and saw-before c.at_path.ensures.peeks.same (saw-before c.at_dyn_word.ensures.peeks.same (saw-arm a6 (c.current.ensures.sees cond))) and nothing)))) refl | inr b6 ↦ begins-row rules.any_type (begun rules.type_path (saw-type-path (saw-so (c.at_path.ensures.sees cond) c.if-at_path.false)) (begun rules.expr_path (saw-expr-path (saw-so (c.at_path.ensures.sees cond) c.if-at_path.false)) (begun rules.path (saw-so (c.at_path.ensures.sees cond) c.if-at_path.false) (saw-path-begins (saw-so (c.at_path.ensures.sees cond) c.if-at_path.false) and saw-before c.at_path.ensures.peeks.same (saw-so (c.at_dyn_word.ensures.sees cond) c.if-at_dyn_word.false) and saw-before c.at_path.ensures.peeks.same (saw-before c.at_dyn_word.ensures.peeks.same (left-arm b6 (c.current.ensures.end cond))) and saw-before c.at_path.ensures.peeks.same (saw-before c.at_dyn_word.ensures.peeks.same (saw-arm b6 (c.current.ensures.sees cond))) and nothing)))) refl ] ] ] ] ] ] ]
+returns-in-L_PAREN-clause-sees c cond = elim c.in-L_PAREN.is [ inl a0 ↦ begins-row rules.any_type (begun rules.type_path (saw-type-path (saw-so (c.at_path.ensures.sees cond) c.if-at_path.false)) (begun rules.expr_path (saw-expr-path (saw-so (c.at_path.ensures.sees cond) c.if-at_path.false)) (begun rules.path (saw-so (c.at_path.ensures.sees cond) c.if-at_path.false) (saw-path-begins (saw-so (c.at_path.ensures.sees cond) c.if-at_path.false) and saw-before c.at_path.ensures.peeks.same (saw-so (c.at_dyn_word.ensures.sees cond) c.if-at_dyn_word.false) and saw-before c.at_path.ensures.peeks.same (saw-before c.at_dyn_word.ensures.peeks.same (saw-arm a0 (c.current.ensures.sees cond))) and nothing)))) refl | inr b0 ↦ elim b0 [ inl a1 ↦ begins-row rules.any_type (begun rules.type_path (saw-type-path (saw-so (c.at_path.ensures.sees cond) c.if-at_path.false)) (begun rules.expr_path (saw-expr-path (saw-so (c.at_path.ensures.sees cond) c.if-at_path.false)) (begun rules.path (saw-so (c.at_path.ensures.sees cond) c.if-at_path.false) (saw-path-begins (saw-so (c.at_path.ensures.sees cond) c.if-at_path.false) and saw-before c.at_path.ensures.peeks.same (saw-so (c.at_dyn_word.ensures.sees cond) c.if-at_dyn_word.false) and saw-before c.at_path.ensures.peeks.same (saw-before c.at_dyn_word.ensures.peeks.same (saw-arm a1 (c.current.ensures.sees cond))) and nothing)))) refl | inr b1 ↦ elim b1 [ inl a2 ↦ begins-row rules.any_type (begun rules.type_path (saw-type-path (saw-so (c.at_path.ensures.sees cond) c.if-at_path.false)) (begun rules.expr_path (saw-expr-path (saw-so (c.at_path.ensures.sees cond) c.if-at_path.false)) (begun rules.path (saw-so (c.at_path.ensures.sees cond) c.if-at_path.false) (saw-path-begins (saw-so (c.at_path.ensures.sees cond) c.if-at_path.false) and saw-before c.at_path.ensures.peeks.same (saw-so (c.at_dyn_word.ensures.sees cond) c.if-at_dyn_word.false) and saw-before c.at_path.ensures.peeks.same (saw-before c.at_dyn_word.ensures.peeks.same (saw-arm a2 (c.current.ensures.sees cond))) and nothing)))) refl | inr b2 ↦ elim b2 [ inl a3 ↦ begins-row rules.any_type (begun rules.type_path (saw-type-path (saw-so (c.at_path.ensures.sees cond) c.if-at_path.false)) (begun rules.expr_path (saw-expr-path (saw-so (c.at_path.ensures.sees cond) c.if-at_path.false)) (begun rules.path (saw-so (c.at_path.ensures.sees cond) c.if-at_path.false) (saw-path-begins (saw-so (c.at_path.ensures.sees cond) c.if-at_path.false) and saw-before c.at_path.ensures.peeks.same (saw-so (c.at_dyn_word.ensures.sees cond) c.if-at_dyn_word.false) and saw-before c.at_path.ensures.peeks.same (saw-before c.at_dyn_word.ensures.peeks.same (saw-arm a3 (c.current.ensures.sees cond))) and nothing)))) refl | inr b3 ↦ elim b3 [ inl a4 ↦ begins-row rules.any_type (begun rules.type_path (saw-type-path (saw-so (c.at_path.ensures.sees cond) c.if-at_path.false)) (begun rules.expr_path (saw-expr-path (saw-so (c.at_path.ensures.sees cond) c.if-at_path.false)) (begun rules.path (saw-so (c.at_path.ensures.sees cond) c.if-at_path.false) (saw-path-begins (saw-so (c.at_path.ensures.sees cond) c.if-at_path.false) and saw-before c.at_path.ensures.peeks.same (saw-so (c.at_dyn_word.ensures.sees cond) c.if-at_dyn_word.false) and saw-before c.at_path.ensures.peeks.same (saw-before c.at_dyn_word.ensures.peeks.same (saw-arm a4 (c.current.ensures.sees cond))) and nothing)))) refl | inr b4 ↦ elim b4 [ inl a5 ↦ begins-row rules.any_type (begun rules.type_path (saw-type-path (saw-so (c.at_path.ensures.sees cond) c.if-at_path.false)) (begun rules.expr_path (saw-expr-path (saw-so (c.at_path.ensures.sees cond) c.if-at_path.false)) (begun rules.path (saw-so (c.at_path.ensures.sees cond) c.if-at_path.false) (saw-path-begins (saw-so (c.at_path.ensures.sees cond) c.if-at_path.false) and saw-before c.at_path.ensures.peeks.same (saw-so (c.at_dyn_word.ensures.sees cond) c.if-at_dyn_word.false) and saw-before c.at_path.ensures.peeks.same (saw-before c.at_dyn_word.ensures.peeks.same (saw-arm a5 (c.current.ensures.sees cond))) and nothing)))) refl | inr b5 ↦ elim b5 [ inl a6 ↦ begins-row rules.any_type (begun rules.type_path (saw-type-path (saw-so (c.at_path.ensures.sees cond) c.if-at_path.false)) (begun rules.expr_path (saw-expr-path (saw-so (c.at_path.ensures.sees cond) c.if-at_path.false)) (begun rules.path (saw-so (c.at_path.ensures.sees cond) c.if-at_path.false) (saw-path-begins (saw-so (c.at_path.ensures.sees cond) c.if-at_path.false) and saw-before c.at_path.ensures.peeks.same (saw-so (c.at_dyn_word.ensures.sees cond) c.if-at_dyn_word.false) and saw-before c.at_path.ensures.peeks.same (saw-before c.at_dyn_word.ensures.peeks.same (saw-arm a6 (c.current.ensures.sees cond))) and nothing)))) refl | inr b6 ↦ begins-row rules.any_type (begun rules.type_path (saw-type-path (saw-so (c.at_path.ensures.sees cond) c.if-at_path.false)) (begun rules.expr_path (saw-expr-path (saw-so (c.at_path.ensures.sees cond) c.if-at_path.false)) (begun rules.path (saw-so (c.at_path.ensures.sees cond) c.if-at_path.false) (saw-path-begins (saw-so (c.at_path.ensures.sees cond) c.if-at_path.false) and saw-before c.at_path.ensures.peeks.same (saw-so (c.at_dyn_word.ensures.sees cond) c.if-at_dyn_word.false) and saw-before c.at_path.ensures.peeks.same (saw-before c.at_dyn_word.ensures.peeks.same (saw-arm b6 (c.current.ensures.sees cond))) and nothing)))) refl ] ] ] ] ] ] ]
 
 pub returns-in-L_PAREN-clause-peeks : goal.returns-in-L_PAREN-clause-peeks
 returns-in-L_PAREN-clause-peeks c = peeks-within (peeks-then c.at_path.ensures.peeks (peeks-then c.at_dyn_word.ensures.peeks (c.current.ensures.peeks))) (omega arith)

@@ -1,0 +1,234 @@
+//! Function pointer types.
+
+ghost use Rattle.std.specs.Prelude.{◌≤◌, Bool, false, true};
+ghost use Rattle.rust_grammar.specs.Notation.{◌! };
+ghost use Rattle.rust_grammar.specs.Rule as rules;
+ghost use Rattle.rust_grammar.specs.Rule.{begins};
+ghost use Rattle.rust_grammar.specs.Paths.{first_segment, type_args};
+ghost use Rattle.rust_grammar.specs.Types as rows;
+ghost use Rattle.rust_productions.specs.Looks.{tokens, Takes, Asks};
+ghost use Rattle.rust_productions.specs.Reads.{looks, Gives, Reads, Saw};
+ghost use Rattle.rust_productions.specs.Starts.{Starts};
+
+use crate::grammar::attributes::{attribute, outer_attributes};
+use crate::grammar::lists::{Element, rest_of_list};
+use crate::grammar::paths::{Mode, next_segments, opt_type_args};
+use crate::grammar::patterns::single_pattern;
+use crate::grammar::types::{any_type, expect_type, opt_ret_type};
+use parser_events::message::Message;
+use parser_events::parser::Parser;
+use parser_input::syntax_kind::SyntaxKind;
+use rust_productions::grammar::item_words::{opt_abi, read_abi};
+use rust_productions::grammar::pattern_ranges::take_three_dots;
+use rust_productions::grammar::types::{at_named_param, at_type};
+use rust_productions::grammar::{
+    abandon, at, at_dots_dot, at_new, complete, current, error, expect, start, take,
+};
+
+/// Parses a function pointer type.
+// unsafe extern "C" fn(u8) -> u8
+#[cycle(grammar)]
+pub(crate) fn fn_ptr_type(p: &mut Parser<'_>)
+    requires begins { Starts rows.fn_ptr_begins p.old }
+    ensures reads { (c : Bool) → Reads c rows.fn_ptr_type p.old p.new }
+    ensures takes { Takes 4000 p.old p.new }
+{
+    let node = start(p);
+    fn_ptr_words(p);
+    expect_params(p);
+    opt_ret_type(p);
+    complete(p, node, SyntaxKind::FN_PTR_TYPE);
+}
+
+/// Parses the words before the parameters.
+// unsafe extern "C" fn
+fn fn_ptr_words(p: &mut Parser<'_>)
+    requires begins { Starts rows.fn_ptr_begins p.old }
+    ensures reads { (c : Bool) → Reads c rows.fn_ptr_words p.old p.new }
+    ensures takes { Takes 4080 p.old p.new }
+{
+    match current(p) {
+        SyntaxKind::UNSAFE_KW => {
+            take(p, SyntaxKind::UNSAFE_KW);
+            opt_abi(p);
+            expect(p, SyntaxKind::FN_KW);
+        }
+        SyntaxKind::EXTERN_KW => {
+            read_abi(p);
+            expect(p, SyntaxKind::FN_KW);
+        }
+        _ => take(p, SyntaxKind::FN_KW),
+    }
+}
+
+/// Parses the parameters; emits an error if there are none.
+// (u8, b: u8)
+#[cycle(grammar)]
+fn expect_params(p: &mut Parser<'_>)
+    ensures reads { (c : Bool) → Reads c (rows.fn_ptr_params !) p.old p.new }
+    ensures asks { Asks 1 p.old p.new }
+{
+    if at(p, SyntaxKind::L_PAREN) {
+        params(p);
+        return;
+    }
+    error(p, Message::Expected(SyntaxKind::PARAM_LIST));
+}
+
+/// Parses the parameters.
+// (u8, b: u8)
+#[cycle(grammar)]
+fn params(p: &mut Parser<'_>)
+    requires some { 1 ≤ tokens p.old }
+    ensures reads { (c : Bool) → Reads c rows.fn_ptr_params p.old p.new }
+    ensures takes { Takes 3300 p.old p.new }
+{
+    let list = start(p);
+    take(p, SyntaxKind::L_PAREN);
+    rest_of_list(
+        p,
+        SyntaxKind::PARAM_LIST,
+        Element::FnPtrParam,
+        SyntaxKind::R_PAREN,
+    );
+    complete(p, list, SyntaxKind::PARAM_LIST);
+}
+
+/// Parses a parameter.
+// #[a] b: u8
+#[cycle(grammar)]
+pub(crate) fn fn_ptr_param(p: &mut Parser<'_>)
+    requires begins { Starts (begins looks rows.fn_ptr_param) p.old }
+    ensures reads { (c : Bool) → Reads c rows.fn_ptr_param p.old p.new }
+    ensures takes { Takes 2700 p.old p.new }
+{
+    let node = start(p);
+    attributed_or_bare(p);
+    complete(p, node, SyntaxKind::PARAM);
+}
+
+/// Parses a parameter with its optional attributes, within its node.
+// #[a] b: u8
+#[cycle(grammar)]
+fn attributed_or_bare(p: &mut Parser<'_>)
+    requires begins { Starts (begins looks rows.fn_ptr_param) p.old }
+    ensures reads { (c : Bool) → Reads c rows.in_fn_ptr_param p.old p.new }
+    ensures takes { Takes 2700 p.old p.new }
+{
+    if at_new(p, SyntaxKind::POUND) {
+        attribute(p);
+        outer_attributes(p);
+        dots_name_or_type(p);
+        return;
+    }
+    bare_param(p);
+}
+
+/// Parses a parameter without attributes, within its node.
+// b: u8
+#[cycle(grammar)]
+fn bare_param(p: &mut Parser<'_>)
+    requires begins { Starts (begins looks rows.dots_name_or_type) p.old }
+    ensures reads { (c : Bool) → Reads c rows.dots_name_or_type p.old p.new }
+    ensures takes { Takes 2710 p.old p.new }
+{
+    if at_dots_dot(p) {
+        take_three_dots(p);
+        return;
+    }
+    if at_named_param(p) {
+        named_param(p);
+        return;
+    }
+    any_type(p);
+}
+
+/// Parses a parameter after its attributes.
+// b: u8
+#[cycle(grammar)]
+fn dots_name_or_type(p: &mut Parser<'_>)
+    ensures reads { (c : Bool) → Reads c rows.dots_name_or_type p.old p.new }
+    ensures asks { Asks 40 p.old p.new }
+{
+    if at_dots_dot(p) {
+        take_three_dots(p);
+        return;
+    }
+    if at_named_param(p) {
+        named_param(p);
+        return;
+    }
+    if at_type(p) {
+        any_type(p);
+        return;
+    }
+    missing_type(p);
+}
+
+/// Parses the type of a parameter where none starts: emits an error within the nodes of its path.
+#[cycle(grammar)]
+fn missing_type(p: &mut Parser<'_>)
+    requires none { (c : Bool) → Saw c (looks rules.any_type) p.old false }
+    ensures gives { (c : Bool) → Gives rules.any_type c p.old p.new }
+    ensures asks { Asks 14 p.old p.new }
+{
+    let node = start(p);
+    missing_path(p);
+    complete(p, node, SyntaxKind::PATH_TYPE);
+}
+
+/// Parses the path of a type where none starts: emits an error within the nodes of the path.
+#[cycle(grammar)]
+fn missing_path(p: &mut Parser<'_>)
+    requires none { (c : Bool) → Saw c (looks rules.any_type) p.old false }
+    ensures gives { (c : Bool) → Gives rules.type_path c p.old p.new }
+    ensures asks { Asks 13 p.old p.new }
+{
+    let frame = start(p);
+    missing_segment(p);
+    let frame = next_segments(p, frame, Mode::Type);
+    abandon(p, frame);
+}
+
+/// Emits an error for the first segment of a path, within the nodes of the path, and parses the
+/// optional arguments after it.
+#[cycle(grammar)]
+fn missing_segment(p: &mut Parser<'_>)
+    requires none { (c : Bool) → Saw c (looks rules.any_type) p.old false }
+    ensures reads { (c : Bool) → Reads c (first_segment type_args) p.old p.new }
+    ensures asks { Asks 9 p.old p.new }
+{
+    let path = start(p);
+    let segment = start(p);
+    error(p, Message::Expected(SyntaxKind::NAME_REF));
+    opt_type_args(p);
+    complete(p, segment, SyntaxKind::PATH_SEGMENT);
+    complete(p, path, SyntaxKind::PATH);
+}
+
+/// Parses a parameter with a name.
+// b: u8
+#[cycle(grammar)]
+fn named_param(p: &mut Parser<'_>)
+    requires begins { Starts (looks rules.single_pattern) p.old }
+    ensures reads { (c : Bool) → Reads c rows.named_param p.old p.new }
+    ensures takes { Takes 2800 p.old p.new }
+{
+    single_pattern(p);
+    expect(p, SyntaxKind::COLON);
+    dots_or_type(p);
+}
+
+/// Parses `...` or a type; emits an error if there is neither.
+// u8
+#[cycle(grammar)]
+fn dots_or_type(p: &mut Parser<'_>)
+    ensures reads { (c : Bool) → Reads c rows.dots_or_type p.old p.new }
+    ensures asks { Asks 19 p.old p.new }
+{
+    if at_dots_dot(p) {
+        take_three_dots(p);
+        return;
+    }
+    expect_type(p);
+}

@@ -1,0 +1,254 @@
+//! Items that only the whole language has, and the words before items.
+
+ghost use Rattle.std.specs.Prelude.{◌≤◌, Bool};
+ghost use Rattle.parser_events.specs.Stack.{IsInnermost};
+ghost use Rattle.rust_grammar.specs.Calls.{RecordFields};
+ghost use Rattle.rust_grammar.specs.Items as rows;
+ghost use Rattle.rust_grammar.specs.Notation.{◌!, ◌▸◌, wide};
+ghost use Rattle.rust_productions.specs.Looks.{tokens, Takes, Asks};
+ghost use Rattle.rust_productions.specs.Reads.{Completes, Reads};
+ghost use Rattle.rust_productions.specs.Starts.{Starts};
+
+use crate::grammar::items::consts::{const_item, static_item, type_alias};
+use crate::grammar::items::functions::plain_fn;
+use crate::grammar::items::traits::{plain_impl, plain_trait};
+use crate::grammar::items::{item_list, opt_generic_params, opt_where_clause};
+use crate::grammar::lists::record_fields;
+use parser_events::message::Message;
+use parser_events::parser::{Marker, Parser};
+use parser_input::syntax_kind::SyntaxKind;
+use rust_productions::grammar::item_words::{
+    at_async_word, at_auto_word, at_const_word, at_extern_crate, at_gen_word, at_macro_rules,
+    at_safe_word, at_union, at_unsafe_word, opt_async_word, opt_auto_word, opt_default_words,
+    opt_gen_word, opt_safe_word, opt_unsafe_after_default, opt_unsafe_word, read_abi,
+};
+use rust_productions::grammar::macros::{extern_crate, macro_def, macro_rules};
+use rust_productions::grammar::names::name;
+use rust_productions::grammar::{at, complete, current, eat, error, take, take_contextual};
+
+/// Parses an item that only the whole language has, or that has words before its own there, and
+/// completes its node.
+// union U { a: u8 }
+#[cycle(grammar)]
+pub(crate) fn new_item(p: &mut Parser<'_>, item: Marker, condition: bool)
+    requires begins { Starts (wide rows.new_item_begins) p.old }
+    requires innermost { IsInnermost item p.old.nodes }
+    ensures completes { Completes condition rows.new_item p.old p.new }
+    ensures takes { Takes 3950 p.old p.new }
+{
+    if at_extern_crate(p) {
+        extern_crate(p, item);
+        return;
+    }
+    if at_union(p) {
+        union_item(p, item);
+        return;
+    }
+    if at_macro_rules(p) {
+        macro_rules(p, item);
+        return;
+    }
+    if at(p, SyntaxKind::MACRO_KW) {
+        macro_def(p, item);
+        return;
+    }
+    item_words(p, item, condition);
+}
+
+/// Parses a union, and completes its node.
+// union U<T> { a: T }
+#[cycle(grammar)]
+fn union_item(p: &mut Parser<'_>, item: Marker)
+    requires some { 2 ≤ tokens p.old }
+    requires innermost { IsInnermost item p.old.nodes }
+    ensures completes { (c : Bool) → Completes c rows.union_item p.old p.new }
+    ensures takes { Takes 4080 p.old p.new }
+{
+    take_contextual(p, SyntaxKind::UNION_KW);
+    name(p);
+    opt_generic_params(p);
+    opt_where_clause(p);
+    expect_record_fields(p);
+    complete(p, item, SyntaxKind::UNION);
+}
+
+/// Parses the fields of a union; emits an error if there are none.
+// { a: u8 }
+#[cycle(grammar)]
+fn expect_record_fields(p: &mut Parser<'_>)
+    ensures reads { (c : Bool) → Reads c (RecordFields !) p.old p.new }
+    ensures asks { Asks 1 p.old p.new }
+{
+    if at(p, SyntaxKind::L_CURLY) {
+        record_fields(p);
+        return;
+    }
+    error(p, Message::Expected(SyntaxKind::RECORD_FIELD_LIST));
+}
+
+/// Parses an item with words before its own, and completes its node.
+// const async unsafe extern "C" fn f() {}
+#[cycle(grammar)]
+fn item_words(p: &mut Parser<'_>, item: Marker, condition: bool)
+    requires begins { Starts rows.words_begin p.old }
+    requires innermost { IsInnermost item p.old.nodes }
+    ensures completes { Completes condition rows.item_words p.old p.new }
+    ensures takes { Takes 4000 p.old p.new }
+{
+    if at_const_word(p) {
+        take(p, SyntaxKind::CONST_KW);
+        words_from_async(p, item, condition);
+        return;
+    }
+    if at_async_word(p) {
+        take(p, SyntaxKind::ASYNC_KW);
+        words_from_gen(p, item, condition);
+        return;
+    }
+    if at_gen_word(p) {
+        take(p, SyntaxKind::GEN_KW);
+        words_from_unsafe(p, item, condition);
+        return;
+    }
+    if at_unsafe_word(p) {
+        take(p, SyntaxKind::UNSAFE_KW);
+        safe_or_abi(p, item, condition);
+        return;
+    }
+    contextual_words(p, item, condition);
+}
+
+/// Parses an item that starts with `safe`, an ABI, `auto` or `default`, and completes its node.
+// safe extern "C" fn f();
+#[cycle(grammar)]
+fn contextual_words(p: &mut Parser<'_>, item: Marker, condition: bool)
+    requires begins { Starts rows.contextual_words_begin p.old }
+    requires innermost { IsInnermost item p.old.nodes }
+    ensures completes { Completes condition rows.safe_or_abi p.old p.new }
+    ensures takes { Takes 4020 p.old p.new }
+{
+    if at_safe_word(p) {
+        take_contextual(p, SyntaxKind::SAFE_KW);
+        abi_or_words(p, item, condition);
+        return;
+    }
+    if at(p, SyntaxKind::EXTERN_KW) {
+        read_abi(p);
+        after_abi(p, item, condition);
+        return;
+    }
+    if at_auto_word(p) {
+        take_contextual(p, SyntaxKind::AUTO_KW);
+        opt_default_words(p);
+        item_word(p, item, condition);
+        return;
+    }
+    take_contextual(p, SyntaxKind::DEFAULT_KW);
+    eat(p, SyntaxKind::ASYNC_KW);
+    opt_unsafe_after_default(p);
+    item_word(p, item, condition);
+}
+
+/// Parses an item from its optional `async` on, and completes its node.
+// async unsafe fn f() {}
+#[cycle(grammar)]
+fn words_from_async(p: &mut Parser<'_>, item: Marker, condition: bool)
+    requires innermost { IsInnermost item p.old.nodes }
+    ensures completes { Completes condition rows.words_from_async p.old p.new }
+    ensures asks { Asks 40 p.old p.new }
+{
+    opt_async_word(p);
+    words_from_gen(p, item, condition);
+}
+
+/// Parses an item from its optional `gen` on, and completes its node.
+// gen fn f() {}
+#[cycle(grammar)]
+fn words_from_gen(p: &mut Parser<'_>, item: Marker, condition: bool)
+    requires innermost { IsInnermost item p.old.nodes }
+    ensures completes { Completes condition rows.words_from_gen p.old p.new }
+    ensures asks { Asks 36 p.old p.new }
+{
+    opt_gen_word(p);
+    words_from_unsafe(p, item, condition);
+}
+
+/// Parses an item from its optional `unsafe` on, and completes its node.
+// unsafe fn f() {}
+#[cycle(grammar)]
+fn words_from_unsafe(p: &mut Parser<'_>, item: Marker, condition: bool)
+    requires innermost { IsInnermost item p.old.nodes }
+    ensures completes { Completes condition rows.words_from_unsafe p.old p.new }
+    ensures asks { Asks 33 p.old p.new }
+{
+    opt_unsafe_word(p);
+    safe_or_abi(p, item, condition);
+}
+
+/// Parses an item from its optional `safe` on, and completes its node.
+// safe fn f();
+#[cycle(grammar)]
+fn safe_or_abi(p: &mut Parser<'_>, item: Marker, condition: bool)
+    requires innermost { IsInnermost item p.old.nodes }
+    ensures completes { Completes condition rows.safe_or_abi p.old p.new }
+    ensures asks { Asks 30 p.old p.new }
+{
+    opt_safe_word(p);
+    abi_or_words(p, item, condition);
+}
+
+/// Parses an item from its ABI or the words in its place on, and completes its node.
+// extern "C" fn f() {}
+#[cycle(grammar)]
+fn abi_or_words(p: &mut Parser<'_>, item: Marker, condition: bool)
+    requires innermost { IsInnermost item p.old.nodes }
+    ensures completes { Completes condition rows.abi_or_words p.old p.new }
+    ensures asks { Asks 28 p.old p.new }
+{
+    if at(p, SyntaxKind::EXTERN_KW) {
+        read_abi(p);
+        after_abi(p, item, condition);
+        return;
+    }
+    opt_auto_word(p);
+    opt_default_words(p);
+    item_word(p, item, condition);
+}
+
+/// Parses the items of an extern block, or an item after its ABI, and completes its node.
+// { fn f(); }
+#[cycle(grammar)]
+fn after_abi(p: &mut Parser<'_>, item: Marker, condition: bool)
+    requires innermost { IsInnermost item p.old.nodes }
+    ensures completes { Completes condition rows.after_abi p.old p.new }
+    ensures asks { Asks 12 p.old p.new }
+{
+    if at(p, SyntaxKind::L_CURLY) {
+        item_list(p, SyntaxKind::ITEM_LIST);
+        complete(p, item, SyntaxKind::EXTERN_BLOCK);
+        return;
+    }
+    item_word(p, item, condition);
+}
+
+/// Parses an item from its own word on, and completes its node; emits an error if there is none.
+// fn f() {}
+#[cycle(grammar)]
+fn item_word(p: &mut Parser<'_>, item: Marker, condition: bool)
+    requires innermost { IsInnermost item p.old.nodes }
+    ensures completes { Completes condition rows.item_word p.old p.new }
+    ensures asks { Asks 10 p.old p.new }
+{
+    match current(p) {
+        SyntaxKind::FN_KW => plain_fn(p, item),
+        SyntaxKind::TRAIT_KW => plain_trait(p, item),
+        SyntaxKind::IMPL_KW => plain_impl(p, item),
+        SyntaxKind::STATIC_KW => static_item(p, item, condition),
+        SyntaxKind::CONST_KW => const_item(p, item, condition),
+        SyntaxKind::TYPE_KW => type_alias(p, item, condition),
+        _ => {
+            error(p, Message::ExpectedItem);
+            complete(p, item, SyntaxKind::ERROR);
+        }
+    }
+}
