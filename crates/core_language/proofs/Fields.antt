@@ -5,6 +5,7 @@ use Rattle.parser_input.specs.Kinds.{L_ANGLE, COMMA, COLON, L_PAREN, R_PAREN, L_
 use Rattle.parser_events.specs.Forest.{Expected, Forest, End, Leaf, Node, ◌then◌}
 use Rattle.rust_grammar.specs.Rule.{Production, Look, Rule, One, Or, Then, Want, Star, Opt, Mode, Unless, When, Wrap, Not, Left, Call, Continue, name, visibility, attribute, any_type, ret_type, block, record_fields, params, param, pattern, item, body, source_file}
 use Rattle.rust_grammar.specs.Rule as rules
+use Rattle.rust_grammar.specs.Items.{param_type, unsafe_field}
 use Rattle.rust_grammar.specs.Meaning.{ahead, turns}
 use Rattle.rust_grammar.specs.Words.{'l_paren', 'r_paren', 'l_curly', 'r_curly'}
 use Rattle.rust_grammar.specs.Whole.{rule}
@@ -14,7 +15,7 @@ use Rattle.core_language.specs.Statements.{NamePattern, Pattern, name_tree, patt
 use Rattle.core_language.specs.Tokens.{name_token, of_kind}
 use Rattle.core_language.specs.Types.{Immutable, Mutable, type_tokens}
 use Rattle.core_language.proofs.Lists.{Element, Plain, item_of, list-reads, listed-then, parens-read}
-use Rattle.core_language.proofs.Patterns.{BeforeEnd, BeforeType, BeforeValue, After, name-reads, of_type, of_type-reads, pattern-reads, typed}
+use Rattle.core_language.proofs.Patterns.{BeforeEnd, BeforeType, BeforeValue, After, field_type, field_type-reads, name-reads, param_type-reads, pattern-reads, typed}
 use Rattle.core_language.proofs.Places.{IsNotNext}
 use Rattle.core_language.proofs.Rules.{at, begins_at, forms, gives, reads, star-reads, table, then-reads}
 use Rattle.core_language.proofs.Statements.{braces-read, pattern-longer}
@@ -27,7 +28,7 @@ visibility-reads j t ts h = whole-means visibility false _ ∙ rw h refl
 
 -- A field of a struct.
 abbrev field_rule : Rule → Rule
-field_rule a = rules.Node RECORD_FIELD (Then (Star (Call attribute)) (Then (Opt (Call visibility)) (Then (Want (Call name) (Expected NAME)) a)))
+field_rule a = rules.Node RECORD_FIELD (Then (Star (Call attribute)) (Then (Opt (Call visibility)) (Then unsafe_field (Then (Want (Call name) (Expected NAME)) a))))
 
 no-attributes : (v : Visibility) (n : Bool) (ts : List Token)
     → reads (Star (Call attribute)) (at End (visibility_tokens v (name_token n ∷ ts))) ≡ at End (visibility_tokens v (name_token n ∷ ts))
@@ -40,6 +41,10 @@ visibility-opt-reads : (v : Visibility) (n : Bool) (ts : List Token)
 unfolding table
 visibility-opt-reads Private n ts = refl
 visibility-opt-reads (Public j) n ts = rw (visibility-reads j (name_token n) ts refl) refl
+
+no-unsafe : (g : Forest) (n : Bool) (ts : List Token) → reads unsafe_field (at g (name_token n ∷ ts)) ≡ at g (name_token n ∷ ts)
+unfolding forms
+no-unsafe g n ts = refl
 
 named : (v : Visibility) (n : Bool) (ts : List Token)
     → reads (Want (Call name) (Expected NAME)) (at (visibility_tree v End) (name_token n ∷ ts)) ≡ at (visibility_tree v (name_tree End)) ts
@@ -56,19 +61,20 @@ field-head : (a : Rule) (g : Forest) (v : Visibility) (n : Bool) (ts : List Toke
     → reads a (at (visibility_tree v (name_tree End)) ts) ≡ at f more →
     reads (field_rule a) (at g (visibility_tokens v (name_token n ∷ ts))) ≡ at (g then Node RECORD_FIELD f End) more
 field-head a g v n ts f more e =
-    node-reads RECORD_FIELD (Then (Star (Call attribute)) (Then (Opt (Call visibility)) (Then (Want (Call name) (Expected NAME)) a))) g _ f more
-    (then-reads (Star (Call attribute)) (Then (Opt (Call visibility)) (Then (Want (Call name) (Expected NAME)) a)) _ (no-attributes v n ts)
-    (then-reads (Opt (Call visibility)) (Then (Want (Call name) (Expected NAME)) a) _ (visibility-opt-reads v n ts)
-    (then-reads (Want (Call name) (Expected NAME)) a _ (named v n ts) e)))
+    node-reads RECORD_FIELD (Then (Star (Call attribute)) (Then (Opt (Call visibility)) (Then unsafe_field (Then (Want (Call name) (Expected NAME)) a)))) g _ f more
+    (then-reads (Star (Call attribute)) (Then (Opt (Call visibility)) (Then unsafe_field (Then (Want (Call name) (Expected NAME)) a))) _ (no-attributes v n ts)
+    (then-reads (Opt (Call visibility)) (Then unsafe_field (Then (Want (Call name) (Expected NAME)) a)) _ (visibility-opt-reads v n ts)
+    (then-reads unsafe_field (Then (Want (Call name) (Expected NAME)) a) _ (no-unsafe _ n ts)
+    (then-reads (Want (Call name) (Expected NAME)) a _ (named v n ts) e))))
 
 field-reads : (x : Field) (g : Forest) (c : Bool) (k : ℕ) (more : List Token) → (k == COLON) ≡ false → (k == L_ANGLE) ≡ false
-    → reads (field_rule of_type) (at g (field_tokens x (of_kind k c ∷ more))) ≡ at (g then field_tree x End) (of_kind k c ∷ more)
+    → reads (field_rule field_type) (at g (field_tokens x (of_kind k c ∷ more))) ≡ at (g then field_tree x End) (of_kind k c ∷ more)
 unfolding ahead
-field-reads (NamedField Private n d t) g c k more p q = field-head of_type g Private n _ _ _ (of_type-reads (name_tree End) d t (of_kind k c ∷ more) p q refl)
+field-reads (NamedField Private n d t) g c k more p q = field-head field_type g Private n _ _ _ (field_type-reads (name_tree End) d t k c more p q)
 field-reads (NamedField (Public j) n d t) g c k more p q =
-    field-head of_type g (Public j) n _ _ _ (of_type-reads (visibility_tree (Public j) (name_tree End)) d t (of_kind k c ∷ more) p q refl)
+    field-head field_type g (Public j) n _ _ _ (field_type-reads (visibility_tree (Public j) (name_tree End)) d t k c more p q)
 
-field-there : (x : Field) (more : List Token) (g : Forest) → begins_at (field_rule of_type) (at g (field_tokens x more)) ≡ true
+field-there : (x : Field) (more : List Token) (g : Forest) → begins_at (field_rule field_type) (at g (field_tokens x more)) ≡ true
 unfolding table
 field-there (NamedField Private n c t) more g = refl
 field-there (NamedField (Public j) n c t) more g = refl
@@ -85,11 +91,11 @@ field-longer (NamedField (Public j) n c t) more = let h = type-longer t more in 
 field-joins : (x : Field) (f : Forest) → field_tree x End then f ≡ field_tree x f
 field-joins (NamedField v n c t) f = refl
 
-plain-field : Plain (field_rule of_type) R_CURLY
+plain-field : Plain (field_rule field_type) R_CURLY
 unfolding forms
 plain-field = record { passes = refl; speaks = refl; same = refl; other = refl }
 
-fields : Element field_tokens field_tree (field_rule of_type) R_CURLY
+fields : Element field_tokens field_tree (field_rule field_type) R_CURLY
 fields = record {
   plain = plain-field;
   there = field-there;
@@ -101,7 +107,7 @@ fields = record {
 }
 
 fields-rule : rule record_fields
-    ≡ rules.Node RECORD_FIELD_LIST (Then (One 'l_curly') (Then (Mode false (Star (item_of RECORD_FIELD_LIST R_CURLY (field_rule of_type)))) (Want (One 'r_curly') (Expected R_CURLY))))
+    ≡ rules.Node RECORD_FIELD_LIST (Then (One 'l_curly') (Then (Mode false (Star (item_of RECORD_FIELD_LIST R_CURLY (field_rule field_type)))) (Want (One 'r_curly') (Expected R_CURLY))))
 unfolding table
 fields-rule = refl
 
@@ -111,14 +117,14 @@ pub fields-read : (j k : Bool) (l : Listed Field) (more : List Token) →
 fields-read j k l more =
     whole-means record_fields false _
     ∙ ap (λ (a : Rule). reads a (at End (of_kind L_CURLY j ∷ listed_tokens field_tokens l (of_kind R_CURLY k ∷ more)))) fields-rule
-    ∙ braces-read RECORD_FIELD_LIST (item_of RECORD_FIELD_LIST R_CURLY (field_rule of_type)) j k _ (listed_tree field_tree l End) more
-    (star-reads (item_of RECORD_FIELD_LIST R_CURLY (field_rule of_type)) (list-reads field_tokens field_tree RECORD_FIELD_LIST R_CURLY (field_rule of_type) fields l (Leaf L_CURLY 1 End) k more))
+    ∙ braces-read RECORD_FIELD_LIST (item_of RECORD_FIELD_LIST R_CURLY (field_rule field_type)) j k _ (listed_tree field_tree l End) more
+    (star-reads (item_of RECORD_FIELD_LIST R_CURLY (field_rule field_type)) (list-reads field_tokens field_tree RECORD_FIELD_LIST R_CURLY (field_rule field_type) fields l (Leaf L_CURLY 1 End) k more))
     ∙ ap (λ (f : Forest). at (Node RECORD_FIELD_LIST (Leaf L_CURLY 1 f) End) more) (listed-then field_tree field-joins l (Leaf R_CURLY 1 End))
 
 -- A parameter of a function.
 parameter-picks : (p : Pattern) {more : List Token} → After more
     → reads (rule param) (at End (pattern_tokens p more))
-    ≡ reads (rules.Node PARAM (Then (Call pattern) of_type)) (at End (pattern_tokens p more))
+    ≡ reads (rules.Node PARAM (Then (Call pattern) param_type)) (at End (pattern_tokens p more))
 unfolding table
 parameter-picks (NamePattern Immutable n) (BeforeType c t ts h) = refl
 parameter-picks (NamePattern Immutable n) (BeforeValue j ts) = refl
@@ -139,8 +145,8 @@ parameter-reads (TypedPattern (NamePattern m n) d t) g c k more p q =
     call-after param g _ _ _
     (whole-means param false _
     ∙ parameter-picks (NamePattern m n) (typed d t _)
-    ∙ node-reads PARAM (Then (Call pattern) of_type) End _ _ _
-    (then-reads (Call pattern) of_type _ (call-after pattern End _ _ _ (pattern-reads (NamePattern m n) (typed d t _))) (of_type-reads (pattern_tree (NamePattern m n) End) d t (of_kind k c ∷ more) p q refl)))
+    ∙ node-reads PARAM (Then (Call pattern) param_type) End _ _ _
+    (then-reads (Call pattern) param_type _ (call-after pattern End _ _ _ (pattern-reads (NamePattern m n) (typed d t _))) (param_type-reads (pattern_tree (NamePattern m n) End) d t (of_kind k c ∷ more) p q refl)))
 
 parameter-begins : (p : Pattern) {more : List Token} → After more → (g : Forest)
     → begins_at (Call param) (at g (pattern_tokens p more)) ≡ true

@@ -1,17 +1,20 @@
 -- Names, patterns, and what is read with a type after a colon.
-use Rattle.std.proofs.Common.{◌≡◌, Bool, true, false, List, ◌∷◌, refl, ◌∙◌, ◌==◌, if◌then◌else◌}
+use Rattle.std.proofs.Common.{◌≡◌, ℕ, Bool, true, false, List, ◌∷◌, refl, ◌∙◌, ◌==◌, if◌then◌else◌}
 use Rattle.parser_input.specs.Input.{Token}
 use Rattle.parser_input.specs.Kinds.{COLON, EQ, SEMICOLON}
 use Rattle.parser_events.specs.Forest.{Expected, ExpectedType, Forest, End, Leaf, ◌then◌}
-use Rattle.rust_grammar.specs.Rule.{Rule, One, Then, Want, Call, name, pattern, single_pattern, any_type, type_no_bounds}
+use Rattle.rust_grammar.specs.Rule.{Rule, One, Then, Want, When, Call, name, pattern, single_pattern, pattern_atom, any_type, type_no_bounds}
+use Rattle.rust_grammar.specs.Items.{discriminant, dots_or_type, param_type}
+use Rattle.rust_grammar.specs.Notation.{wide}
+use Rattle.rust_grammar.specs.Shared.{dots_dot, three_dots}
 use Rattle.rust_grammar.specs.Words.{':'}
 use Rattle.rust_grammar.proofs.WholeTable.{whole-means}
 use Rattle.core_language.specs.Statements.{NamePattern, Pattern, name_tree, pattern_tokens, pattern_tree}
 use Rattle.core_language.specs.Tokens.{name_token, of_kind}
 use Rattle.core_language.specs.Types.{CoreType, Immutable, Mutable, PathType, ReferenceType, SliceType, type_tokens, type_tree}
 use Rattle.core_language.proofs.Paths.{NoAngle, NoColon, OfProfile}
-use Rattle.core_language.proofs.Rules.{at, begins_at, call-there, forms, gives, reads, table}
-use Rattle.core_language.proofs.Types.{bare-type-is-there, path-begins, type-is-there, type-reads}
+use Rattle.core_language.proofs.Rules.{at, begins_at, call-there, forms, gives, or-second, reads, table, then-reads}
+use Rattle.core_language.proofs.Types.{bare-type-is-there, path-begins, type-is-no-dots, type-is-there, type-reads}
 
 pub name-reads : (n : Bool) (more : List Token) → gives name (at End (name_token n ∷ more)) ≡ at (name_tree End) more
 unfolding table
@@ -23,18 +26,30 @@ pub data After : List Token → Type 0 where
   BeforeValue : (j : Bool) (ts : List Token) → After (of_kind EQ j ∷ ts)
   BeforeEnd : (k : Bool) (ts : List Token) → After (of_kind SEMICOLON k ∷ ts)
 
+atom-reads : (p : Pattern) {more : List Token} → After more
+    → gives pattern_atom (at End (pattern_tokens p more)) ≡ at (pattern_tree p End) more
+unfolding table
+atom-reads (NamePattern Immutable n) (BeforeType true t ts h) =
+    whole-means pattern_atom false _
+    ∙ rw (name-reads n (of_kind COLON true ∷ t ∷ ts)) (rw h refl)
+atom-reads (NamePattern Immutable n) (BeforeType false t ts h) = whole-means pattern_atom false _ ∙ rw (name-reads n (of_kind COLON false ∷ t ∷ ts)) refl
+atom-reads (NamePattern Immutable n) (BeforeValue j ts) = whole-means pattern_atom false _ ∙ rw (name-reads n (of_kind EQ j ∷ ts)) refl
+atom-reads (NamePattern Immutable n) (BeforeEnd k ts) = whole-means pattern_atom false _ ∙ rw (name-reads n (of_kind SEMICOLON k ∷ ts)) refl
+atom-reads (NamePattern (Mutable i) n) (BeforeType c t ts h) = whole-means pattern_atom false _ ∙ rw (name-reads n (of_kind COLON c ∷ t ∷ ts)) refl
+atom-reads (NamePattern (Mutable i) n) (BeforeValue j ts) = whole-means pattern_atom false _ ∙ rw (name-reads n (of_kind EQ j ∷ ts)) refl
+atom-reads (NamePattern (Mutable i) n) (BeforeEnd k ts) = whole-means pattern_atom false _ ∙ rw (name-reads n (of_kind SEMICOLON k ∷ ts)) refl
+
+-- no range operator follows, where the token after it is read by the profile
 single-reads : (p : Pattern) {more : List Token} → After more
     → gives single_pattern (at End (pattern_tokens p more)) ≡ at (pattern_tree p End) more
 unfolding table
-single-reads (NamePattern Immutable n) (BeforeType true t ts h) =
-    whole-means single_pattern false _
-    ∙ rw (name-reads n (of_kind COLON true ∷ t ∷ ts)) (rw h refl)
-single-reads (NamePattern Immutable n) (BeforeType false t ts h) = whole-means single_pattern false _ ∙ rw (name-reads n (of_kind COLON false ∷ t ∷ ts)) refl
-single-reads (NamePattern Immutable n) (BeforeValue j ts) = whole-means single_pattern false _ ∙ rw (name-reads n (of_kind EQ j ∷ ts)) refl
-single-reads (NamePattern Immutable n) (BeforeEnd k ts) = whole-means single_pattern false _ ∙ rw (name-reads n (of_kind SEMICOLON k ∷ ts)) refl
-single-reads (NamePattern (Mutable i) n) (BeforeType c t ts h) = whole-means single_pattern false _ ∙ rw (name-reads n (of_kind COLON c ∷ t ∷ ts)) refl
-single-reads (NamePattern (Mutable i) n) (BeforeValue j ts) = whole-means single_pattern false _ ∙ rw (name-reads n (of_kind EQ j ∷ ts)) refl
-single-reads (NamePattern (Mutable i) n) (BeforeEnd k ts) = whole-means single_pattern false _ ∙ rw (name-reads n (of_kind SEMICOLON k ∷ ts)) refl
+single-reads (NamePattern Immutable n) (BeforeType true t ts h) = whole-means single_pattern false _ ∙ rw (atom-reads (NamePattern Immutable n) (BeforeType true t ts h)) refl
+single-reads (NamePattern Immutable n) (BeforeType false t ts h) = whole-means single_pattern false _ ∙ rw (atom-reads (NamePattern Immutable n) (BeforeType false t ts h)) refl
+single-reads (NamePattern Immutable n) (BeforeValue j ts) = whole-means single_pattern false _ ∙ rw (atom-reads (NamePattern Immutable n) (BeforeValue j ts)) refl
+single-reads (NamePattern Immutable n) (BeforeEnd k ts) = whole-means single_pattern false _ ∙ rw (atom-reads (NamePattern Immutable n) (BeforeEnd k ts)) refl
+single-reads (NamePattern (Mutable i) n) (BeforeType c t ts h) = whole-means single_pattern false _ ∙ rw (atom-reads (NamePattern (Mutable i) n) (BeforeType c t ts h)) refl
+single-reads (NamePattern (Mutable i) n) (BeforeValue j ts) = whole-means single_pattern false _ ∙ rw (atom-reads (NamePattern (Mutable i) n) (BeforeValue j ts)) refl
+single-reads (NamePattern (Mutable i) n) (BeforeEnd k ts) = whole-means single_pattern false _ ∙ rw (atom-reads (NamePattern (Mutable i) n) (BeforeEnd k ts)) refl
 
 pattern-picks : (p : Pattern) {more : List Token} → After more
     → gives single_pattern (at End (pattern_tokens p more)) ≡ at (pattern_tree p End) more
@@ -69,22 +84,46 @@ typed c (PathType p) more = let b = path-begins p more in rw b.are (BeforeType c
 typed c (ReferenceType j m t) more = BeforeType c _ _ refl
 typed c (SliceType j t k) more = BeforeType c _ _ refl
 
--- a type after a colon
-abbrev pub of_type : Rule
-of_type = Then (Want (One ':') (Expected COLON)) (Want (Call any_type) ExpectedType)
-
-colon-reads : (g : Forest) (c : Bool) (ts : List Token) (f : Forest) (more : List Token)
-    → ((h : Forest) → begins_at (Call any_type) (at h ts) ≡ true) → gives any_type (at End ts) ≡ at f more →
-    reads of_type (at g (of_kind COLON c ∷ ts)) ≡ at ((g then Leaf COLON 1 End) then f) more
-unfolding forms
-colon-reads g c ts f more there e = rw (there (g then Leaf COLON 1 End)) (rw e refl)
-
 pub type-there : (t : CoreType) (more : List Token) (g : Forest) → begins_at (Call any_type) (at g (type_tokens t more)) ≡ true
 type-there t more g = call-there any_type g (type_tokens t more) (type-is-there t End more)
 
 pub bare-type-there : (t : CoreType) (more : List Token) (g : Forest) → begins_at (Call type_no_bounds) (at g (type_tokens t more)) ≡ true
 bare-type-there t more g = call-there type_no_bounds g (type_tokens t more) (bare-type-is-there t End more)
 
-pub of_type-reads : (g : Forest) (c : Bool) (t : CoreType) (more : List Token) → NoColon more → NoAngle more → OfProfile more
-    → reads of_type (at g (of_kind COLON c ∷ type_tokens t more)) ≡ at ((g then Leaf COLON 1 End) then type_tree t End) more
-of_type-reads g c t more h k o = colon-reads g c _ _ more (type-there t more) (type-reads t more h k o)
+-- what is read after a colon
+abbrev pub after_colon : Rule → Rule
+after_colon a = Then (Want (One ':') (Expected COLON)) a
+
+colon-reads : (a : Rule) (g : Forest) (c : Bool) (ts : List Token) → reads (after_colon a) (at g (of_kind COLON c ∷ ts)) ≡ reads a (at (g then Leaf COLON 1 End) ts)
+unfolding forms
+colon-reads a g c ts = refl
+
+wanted-reads : (g : Forest) (ts : List Token) (f : Forest) (more : List Token) → begins_at (Call any_type) (at g ts) ≡ true
+    → gives any_type (at End ts) ≡ at f more → reads (Want (Call any_type) ExpectedType) (at g ts) ≡ at (g then f) more
+unfolding forms
+wanted-reads g ts f more there e = rw (there, e) refl
+
+-- The type of a field: no default follows, where the token after it is read by the profile.
+no-default : (g : Forest) (k : ℕ) (c : Bool) (more : List Token) → reads discriminant (at g (of_kind k c ∷ more)) ≡ at g (of_kind k c ∷ more)
+unfolding forms
+no-default g k c more = refl
+
+abbrev pub field_type : Rule
+field_type = after_colon (Then (Want (Call any_type) ExpectedType) discriminant)
+
+pub field_type-reads : (g : Forest) (c : Bool) (t : CoreType) (k : ℕ) (j : Bool) (more : List Token)
+    → NoColon (of_kind k j ∷ more) → NoAngle (of_kind k j ∷ more) →
+    reads field_type (at g (of_kind COLON c ∷ type_tokens t (of_kind k j ∷ more))) ≡ at ((g then Leaf COLON 1 End) then type_tree t End) (of_kind k j ∷ more)
+field_type-reads g c t k j more h i =
+    colon-reads (Then (Want (Call any_type) ExpectedType) discriminant) g c _
+    ∙ then-reads (Want (Call any_type) ExpectedType) discriminant _
+    (wanted-reads _ _ _ _ (type-there t _ _) (type-reads t (of_kind k j ∷ more) h i refl))
+    (no-default _ k j more)
+
+-- The type of a parameter.
+pub param_type-reads : (g : Forest) (c : Bool) (t : CoreType) (more : List Token) → NoColon more → NoAngle more → OfProfile more
+    → reads param_type (at g (of_kind COLON c ∷ type_tokens t more)) ≡ at ((g then Leaf COLON 1 End) then type_tree t End) more
+param_type-reads g c t more h k o =
+    colon-reads dots_or_type g c _
+    ∙ or-second (When (wide dots_dot) three_dots) (Want (Call any_type) ExpectedType) _ (type-is-no-dots t more _)
+    ∙ wanted-reads _ _ _ _ (type-there t more _) (type-reads t more h k o)

@@ -3,14 +3,16 @@ use Rattle.std.proofs.Common.{◌≡◌, ◌<◌, Bool, true, false, List, ◌�
 use Rattle.parser_input.specs.Input.{Token}
 use Rattle.parser_input.specs.Kinds.{COLON, AMP, L_BRACK, R_BRACK, MUT_KW, PATH_TYPE, REF_TYPE, SLICE_TYPE}
 use Rattle.parser_events.specs.Forest.{Forest, End, Leaf, Node, ◌then◌}
-use Rattle.rust_grammar.specs.Rule.{any_type, type_no_bounds, type_path}
+use Rattle.rust_grammar.specs.Notation.{wide}
+use Rattle.rust_grammar.specs.Rule.{When, any_type, type_no_bounds, type_path}
+use Rattle.rust_grammar.specs.Shared.{dots_dot, three_dots}
 use Rattle.rust_grammar.specs.Meaning.{Reading, sees, ahead, look_of}
 use Rattle.rust_grammar.specs.Whole.{whole}
 use Rattle.rust_grammar.proofs.WholeTable.{whole-means}
 use Rattle.core_language.specs.Tokens.{name_token, of_kind}
 use Rattle.core_language.specs.Types.{Below, CoreType, Immutable, Mutable, Name, Path, PathType, ReferenceType, SliceType, mut_tokens, path_tokens, path_tree, type_tokens, type_tree}
 use Rattle.core_language.proofs.Paths.{NoAngle, NoColon, OfProfile, type_path-reads}
-use Rattle.core_language.proofs.Rules.{at, gives, table}
+use Rattle.core_language.proofs.Rules.{at, begins_at, gives, table}
 
 -- how a type begins
 data TypeStart : Type 0 where
@@ -117,6 +119,16 @@ unfolding table
 begins-bare (TypeWithName j) g ts = refl
 begins-bare (TypeWithAmpersand j) g ts = refl
 begins-bare (TypeWithBracket j) g ts = refl
+
+no-dots : (s : TypeStart) (g : Forest) (ts : List Token) → begins_at (When (wide dots_dot) three_dots) (at g (type_start_token s ∷ ts)) ≡ false
+unfolding table
+no-dots (TypeWithName j) g ts = refl
+no-dots (TypeWithAmpersand j) g ts = refl
+no-dots (TypeWithBracket j) g ts = refl
+
+-- A core type is no `...` of the whole language.
+pub type-is-no-dots : (t : CoreType) (more : List Token) (g : Forest) → begins_at (When (wide dots_dot) three_dots) (at g (type_tokens t more)) ≡ false
+type-is-no-dots t more g = let b = type-begins t more in rw b.are (no-dots b.start g b.rest)
 
 -- The same type where one without bounds is wanted.
 pub bare-type-is-there : (t : CoreType) (g : Forest) (more : List Token) → sees false (at g (type_tokens t more)) (look_of whole type_no_bounds) ≡ true
