@@ -5,6 +5,7 @@ use Rattle.parser_input.specs.Kinds.{COLON, EQ, SEMICOLON}
 use Rattle.parser_events.specs.Forest.{Expected, ExpectedType, Forest, End, Leaf, ◌then◌}
 use Rattle.rust_grammar.specs.Rule.{Rule, One, Then, Want, When, Call, name, pattern, single_pattern, pattern_atom, any_type, type_no_bounds}
 use Rattle.rust_grammar.specs.Items.{discriminant, dots_or_type, param_type}
+use Rattle.rust_grammar.specs.Meaning.{ahead}
 use Rattle.rust_grammar.specs.Notation.{wide}
 use Rattle.rust_grammar.specs.Shared.{dots_dot, three_dots}
 use Rattle.rust_grammar.specs.Words.{':'}
@@ -114,6 +115,7 @@ field_type = after_colon (Then (Want (Call any_type) ExpectedType) discriminant)
 pub field_type-reads : (g : Forest) (c : Bool) (t : CoreType) (k : ℕ) (j : Bool) (more : List Token)
     → NoColon (of_kind k j ∷ more) → NoAngle (of_kind k j ∷ more) →
     reads field_type (at g (of_kind COLON c ∷ type_tokens t (of_kind k j ∷ more))) ≡ at ((g then Leaf COLON 1 End) then type_tree t End) (of_kind k j ∷ more)
+unfolding ahead
 field_type-reads g c t k j more h i =
     colon-reads (Then (Want (Call any_type) ExpectedType) discriminant) g c _
     ∙ then-reads (Want (Call any_type) ExpectedType) discriminant _
