@@ -142,13 +142,13 @@ returns-in-Type-clause-peeks c = record {
 
 pub returns-in-RecordField-clause-sees : goal.returns-in-RecordField-clause-sees
 unfolding look_of begins_below whole rule items statements expressions patterns types paths there_at shift passes is_silent begins in_mode anew row one_of any_of no_longer longest is_longer
-returns-in-RecordField-clause-sees c = subst (λ (e : Element). Saw false (begins looks (element_of e)) c.args.p.now c.at_named_member.result) (sym c.in-RecordField.is) (c.at_named_member.ensures.sees false)
+returns-in-RecordField-clause-sees c = subst (λ (e : Element). Saw false (begins looks (element_of e)) c.args.p.now c.at_record_field.result) (sym c.in-RecordField.is) (c.at_record_field.ensures.sees false)
 
 pub returns-in-RecordField-clause-peeks : goal.returns-in-RecordField-clause-peeks
 returns-in-RecordField-clause-peeks c = record {
   same = search rules;
   left = omega arith;
-  looks = subst (λ (e : Element). spent c.at_named_member.new.p ≤ spent c.args.p.now + looks_before e) (sym c.in-RecordField.is) (omega (arith, c.at_named_member.ensures.peeks.looks));
+  looks = subst (λ (e : Element). spent c.at_record_field.new.p ≤ spent c.args.p.now + looks_before e) (sym c.in-RecordField.is) (omega (arith, c.at_record_field.ensures.peeks.looks));
 }
 
 pub returns-in-TupleField-clause-sees : goal.returns-in-TupleField-clause-sees
@@ -164,13 +164,13 @@ returns-in-TupleField-clause-peeks c = record {
 
 pub returns-in-Variant-clause-sees : goal.returns-in-Variant-clause-sees
 unfolding look_of begins_below whole rule items statements expressions patterns types paths there_at shift passes is_silent begins in_mode anew row one_of any_of no_longer longest is_longer
-returns-in-Variant-clause-sees c = subst (λ (e : Element). Saw false (begins looks (element_of e)) c.args.p.now c.at_named_member-in-Variant.result) (sym c.in-Variant.is) (c.at_named_member-in-Variant.ensures.sees false)
+returns-in-Variant-clause-sees c = subst (λ (e : Element). Saw false (begins looks (element_of e)) c.args.p.now c.at_named_member.result) (sym c.in-Variant.is) (c.at_named_member.ensures.sees false)
 
 pub returns-in-Variant-clause-peeks : goal.returns-in-Variant-clause-peeks
 returns-in-Variant-clause-peeks c = record {
   same = search rules;
   left = omega arith;
-  looks = subst (λ (e : Element). spent c.at_named_member-in-Variant.new.p ≤ spent c.args.p.now + looks_before e) (sym c.in-Variant.is) (omega (arith, c.at_named_member-in-Variant.ensures.peeks.looks));
+  looks = subst (λ (e : Element). spent c.at_named_member.new.p ≤ spent c.args.p.now + looks_before e) (sym c.in-Variant.is) (omega (arith, c.at_named_member.ensures.peeks.looks));
 }
 
 pub returns-in-TypeArg-clause-sees : goal.returns-in-TypeArg-clause-sees
