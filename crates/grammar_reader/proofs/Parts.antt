@@ -1,4 +1,4 @@
--- What reads four parts of a row and what reads the rest read the row.
+-- Parts of a row that are read together, and what reads the rest.
 use Rattle.std.proofs.Common.{Bool, refl}
 use Rattle.parser_events.specs.View.{View}
 use Rattle.rust_grammar.specs.Meaning.{read}
@@ -9,3 +9,7 @@ use Rattle.rust_productions.proofs.ByHand.{does-as, does-then}
 pub reads-four : (c : Bool) {a b d e r : Rule} {old mid new : View} → Reads c (Then a (Then b (Then d e))) old mid → Reads c r mid new → Reads c (Then a (Then b (Then d (Then e r)))) old new
 unfolding read
 reads-four c p q = record { does = does-as (λ s e. refl) (does-then p.does q.does) }
+
+pub reads-in-turn : (c : Bool) {a b d : Rule} {old new : View} → Reads c (Then (Then a b) d) old new → Reads c (Then a (Then b d)) old new
+unfolding read
+reads-in-turn c p = record { does = does-as (λ s e. refl) p.does }

@@ -2,7 +2,7 @@
 use Rattle.std.proofs.Common.{◌≡◌, ℕ, zero, suc, ◌<◌, ◌≤◌, ◌==◌, nat_lt, Bool, true, false, not, List, [], ◌∷◌, length, Option, Some, refl, sym, ap, subst, ◌∙◌, arith, if◌then◌else◌, true≢false}
 use Rattle.std.proofs.lemmas.Bool.{eqb-true, ltb-true}
 use Rattle.parser_input.specs.Input.{Token}
-use Rattle.parser_input.specs.Kinds.{DYN_KW, EOF, L_CURLY}
+use Rattle.parser_input.specs.Kinds.{DYN_KW, EOF, EXTERN_KW, FN_KW, L_CURLY, UNSAFE_KW}
 use Rattle.parser_events.specs.Forest as forest
 use Rattle.parser_events.specs.View.{View}
 use Rattle.rust_grammar.specs.Expressions.{closure_param, expressions}
@@ -12,7 +12,7 @@ use Rattle.rust_grammar.specs.Notation.{any_of, is_longer, longest, no_longer, o
 use Rattle.rust_grammar.specs.Paths.{paths}
 use Rattle.rust_grammar.specs.Patterns.{patterns}
 use Rattle.rust_grammar.specs.Statements.{statements}
-use Rattle.rust_grammar.specs.Types.{types}
+use Rattle.rust_grammar.specs.Types.{fn_ptr_begins, fn_ptr_type, types}
 use Rattle.parser_events.specs.Forest.{Message}
 use Rattle.rust_grammar.specs.Rule as rules
 use Rattle.rust_grammar.specs.Rule.{single_pattern, Production, Rule, Look, Always, Never, InCondition, Joint, Whole, Given, Both, Either, Not, Contextual, Kind, Left, Mode, Spelling, Want, begins, in_mode, is_silent, passes, shift, there_at, anew}
@@ -24,7 +24,7 @@ use Rattle.rust_productions.specs.Looks.{tokens}
 use Rattle.rust_productions.specs.Reads.{looks, Closes, Does, Gives, Reads, Saw}
 use Rattle.rust_productions.specs.Stands.{left}
 use Rattle.rust_productions.proofs.ByHand.{does-as, does-then}
-use Rattle.rust_productions.proofs.Facts.{Fact, Answers, Begins, Known, Right, is_start, starts}
+use Rattle.rust_productions.proofs.Facts.{Fact, Answers, Begins, HoldAll, Known, Right, is_start, is_told, starts, tells}
 use Rattle.rust_productions.proofs.Seen.{ends-at-end, saw-left, saw-right}
 
 -- in another mode
@@ -151,3 +151,25 @@ arm-there saw = record { at = λ s e. saw.at s e }
 pub param-left : {v : View} → Saw false (begins looks closure_param) v true → 1 ≤ tokens v
 unfolding look_of begins_below whole rule items statements expressions patterns types paths there_at shift passes is_silent begins in_mode anew row one_of any_of no_longer longest is_longer
 param-left saw = begun-left closure_param refl saw
+
+-- Where a look is there, and would not be if another one were, that other one is not.
+pub saw-without : (l m : Look) {c : Bool} {fs : List Fact} {v : View} → Known c fs v → Saw c m v true → tells (Answers l true ∷ fs) m ≡ Some false → Saw c l v false
+saw-without l m {c} {fs} {v} known saw excludes = record { at = λ s e. one s (sees c s l) refl (known.at s e) (saw.at s e) }
+  where
+    one : (s : Reading) (b : Bool) → sees c s l ≡ b → HoldAll c s fs → sees c s m ≡ true → sees c s l ≡ false
+    one s false is h there = is
+    one s true is h there =
+        let no : sees c s m ≡ false = subst (λ (o : Option Bool). Right c s m o) excludes (is_told c s (Answers l true ∷ fs) (is, h) m) in
+        absurd (let z : true ≡ false = sym there ∙ no in cc)
+
+-- where a function pointer type is next, its rule begins
+pub fn-ptr-begins : {c : Bool} {v : View} → Saw c fn_ptr_begins v true → Saw c (begins looks fn_ptr_type) v true
+unfolding begins sees one_of any_of row no_longer longest is_longer there_at is_silent passes shift
+fn-ptr-begins {c} {v} saw = record { at = λ s e. one s ((ahead 0 s.rest).kind == FN_KW) ((ahead 0 s.rest).kind == UNSAFE_KW) ((ahead 0 s.rest).kind == EXTERN_KW) refl refl refl (saw.at s e) }
+  where
+    one : (s : Reading) (f u x : Bool) → ((ahead 0 s.rest).kind == FN_KW) ≡ f → ((ahead 0 s.rest).kind == UNSAFE_KW) ≡ u → ((ahead 0 s.rest).kind == EXTERN_KW) ≡ x
+        → sees c s fn_ptr_begins ≡ true → sees c s (begins looks fn_ptr_type) ≡ true
+    one s f true x is iu ix there = rw iu refl
+    one s f false true is iu ix there = rw (iu, ix) refl
+    one s true false false is iu ix there = rw (is, iu, ix) refl
+    one s false false false is iu ix there = absurd (let z : false ≡ true = rw (is, iu, ix) at there in cc)

@@ -2661,8 +2661,8 @@ patterns::after_path-returns-clause-reads = patterns.patterns::after_path-return
 pub patterns::after_path-wrap-requires : goal.patterns::after_path-wrap-requires
 patterns::after_path-wrap-requires = patterns.patterns::after_path-wrap-requires
 
-pub patterns::after_path-wrap-requires-then-at : goal.patterns::after_path-wrap-requires-then-at
-patterns::after_path-wrap-requires-then-at = patterns.patterns::after_path-wrap-requires-then-at
+pub patterns::after_path-wrap-requires-then-at-2 : goal.patterns::after_path-wrap-requires-then-at-2
+patterns::after_path-wrap-requires-then-at-2 = patterns.patterns::after_path-wrap-requires-then-at-2
 
 pub patterns::after_path-wrap-requires-then-at_new : goal.patterns::after_path-wrap-requires-then-at_new
 patterns::after_path-wrap-requires-then-at_new = patterns.patterns::after_path-wrap-requires-then-at_new

@@ -19,6 +19,7 @@ use Rattle.rust_grammar.specs.Words.{'#'}
 use Rattle.rust_grammar.specs.Calls.{Attribute}
 use Rattle.rust_productions.proofs.Turns.{last-turn, next-turn}
 use Rattle.rust_productions.specs.Reads.{looks}
+use Rattle.rust_productions.specs.Looks.{tokens}
 use Rattle.grammar_reader.proofs.grammar.+grammar.Goals as goal
 
 pub attributes::attribute-complete-requires : goal.attributes::attribute-complete-requires
@@ -42,7 +43,7 @@ unfolding look_of begins_below whole rule items statements expressions patterns 
 attributes::opt_value-returns-else-at_token_tree-clause-reads t c = reads-here (saw-so (c.at.ensures.sees c.args.condition) c.if-at.false and begun rules.token_tree (saw-before c.at.ensures.peeks.same (saw-so (c.at_token_tree.ensures.sees c.args.condition) c.if-at_token_tree.false)) nothing) (reads-nothing _ (does-then c.at.ensures.peeks.same c.at_token_tree.ensures.peeks.same))
 
 pub attributes::outer_attributes-turns-preserved : goal.attributes::outer_attributes-turns-preserved
-unfolding look_of begins_below whole rule items statements expressions patterns types paths there_at shift passes is_silent begins in_mode anew row one_of any_of no_longer longest is_longer
+unfolding tokens look_of begins_below whole rule items statements expressions patterns types paths there_at shift passes is_silent begins in_mode anew row one_of any_of no_longer longest is_longer
 attributes::outer_attributes-turns-preserved t c = record {
   innermost = λ n i. (c.attribute.ensures.gives true).does.innermost n (c.at_new.ensures.peeks.same.innermost n (c.turns.invariant.innermost n i));
   goes = λ cond.

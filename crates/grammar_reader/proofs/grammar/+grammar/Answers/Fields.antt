@@ -86,15 +86,15 @@ fields::named_pattern-returns-clause-reads t c = λ cond. reads-node cond c.star
 
 pub fields::pattern_field-returns-then-at_pair-clause-gives : goal.fields::pattern_field-returns-then-at_pair-clause-gives
 unfolding look_of begins_below whole rule items statements expressions patterns types paths there_at shift passes is_silent begins in_mode anew row one_of any_of no_longer longest is_longer
-fields::pattern_field-returns-then-at_pair-clause-gives t c = λ cond. gives-anew (anew-after refl (reads-here (saw-so (c.at_new.ensures.sees cond) c.if-at_new.false and saw-before c.at_new.ensures.peeks.same (saw-so (c.at_pair.ensures.sees cond) c.if-at_pair.true) and nothing) (after-look cond c.at_new.ensures.peeks.same (after-look cond c.at_pair.ensures.peeks.same (c.rest_pat.ensures.reads cond)))))
+fields::pattern_field-returns-then-at_pair-clause-gives t c = λ cond. gives-anew (anew-here (saw-so (c.at_new.ensures.sees cond) c.if-at_new.false and saw-before c.at_new.ensures.peeks.same (saw-so (c.at_pair.ensures.sees cond) c.if-at_pair.true) and nothing) (anew-look c.at_new.ensures.peeks.same (anew-look c.at_pair.ensures.peeks.same (anew-after refl (c.rest_pat.ensures.reads cond)))))
 
 pub fields::pattern_field-returns-then-at_named_field-clause-gives : goal.fields::pattern_field-returns-then-at_named_field-clause-gives
 unfolding look_of begins_below whole rule items statements expressions patterns types paths there_at shift passes is_silent begins in_mode anew row one_of any_of no_longer longest is_longer
-fields::pattern_field-returns-then-at_named_field-clause-gives t c = λ cond. gives-anew (anew-after refl (reads-here (saw-so (c.at_new.ensures.sees cond) c.if-at_new.false and saw-before c.at_new.ensures.peeks.same (saw-so (c.at_pair.ensures.sees cond) c.if-at_pair.false) and saw-before c.at_new.ensures.peeks.same (saw-before c.at_pair.ensures.peeks.same (saw-so (c.at_named_field.ensures.sees cond) c.if-at_named_field.true)) and nothing) (after-look cond c.at_new.ensures.peeks.same (after-look cond c.at_pair.ensures.peeks.same (after-look cond c.at_named_field.ensures.peeks.same (c.named_pattern.ensures.reads cond))))))
+fields::pattern_field-returns-then-at_named_field-clause-gives t c = λ cond. gives-anew (anew-here (saw-so (c.at_new.ensures.sees cond) c.if-at_new.false and saw-before c.at_new.ensures.peeks.same (saw-so (c.at_pair.ensures.sees cond) c.if-at_pair.false) and saw-before c.at_new.ensures.peeks.same (saw-before c.at_pair.ensures.peeks.same (saw-so (c.at_named_field.ensures.sees cond) c.if-at_named_field.true)) and nothing) (anew-look c.at_new.ensures.peeks.same (anew-look c.at_pair.ensures.peeks.same (anew-look c.at_named_field.ensures.peeks.same (anew-after refl (c.named_pattern.ensures.reads cond))))))
 
 pub fields::pattern_field-returns-clause-gives : goal.fields::pattern_field-returns-clause-gives
 unfolding look_of begins_below whole rule items statements expressions patterns types paths there_at shift passes is_silent begins in_mode anew row one_of any_of no_longer longest is_longer
-fields::pattern_field-returns-clause-gives t c = λ cond. gives-anew (anew-after refl (reads-here (saw-so (c.at_new.ensures.sees cond) c.if-at_new.false and saw-before c.at_new.ensures.peeks.same (saw-so (c.at_pair.ensures.sees cond) c.if-at_pair.false) and saw-before c.at_new.ensures.peeks.same (saw-before c.at_pair.ensures.peeks.same (saw-so (c.at_named_field.ensures.sees cond) c.if-at_named_field.false)) and nothing) (after-look cond c.at_new.ensures.peeks.same (after-look cond c.at_pair.ensures.peeks.same (after-look cond c.at_named_field.ensures.peeks.same (c.shorthand.ensures.reads cond))))))
+fields::pattern_field-returns-clause-gives t c = λ cond. gives-anew (anew-here (saw-so (c.at_new.ensures.sees cond) c.if-at_new.false and saw-before c.at_new.ensures.peeks.same (saw-so (c.at_pair.ensures.sees cond) c.if-at_pair.false) and saw-before c.at_new.ensures.peeks.same (saw-before c.at_pair.ensures.peeks.same (saw-so (c.at_named_field.ensures.sees cond) c.if-at_named_field.false)) and nothing) (anew-look c.at_new.ensures.peeks.same (anew-look c.at_pair.ensures.peeks.same (anew-look c.at_named_field.ensures.peeks.same (anew-after refl (c.shorthand.ensures.reads cond))))))
 
 pub fields::pattern_field-returns-then-at_new-clause-gives : goal.fields::pattern_field-returns-then-at_new-clause-gives
 unfolding look_of begins_below whole rule items statements expressions patterns types paths there_at shift passes is_silent begins in_mode anew row one_of any_of no_longer longest is_longer

@@ -11,9 +11,10 @@ use Rattle.rust_grammar.specs.Types.{types, dyn_begins, new_type_begins, dots_na
 use Rattle.rust_grammar.specs.Whole.{rule, whole}
 use Rattle.rust_grammar.specs.Words.{'::', '#'}
 use Rattle.rust_productions.proofs.ByHand.{after-look, completes-leave, completes-then, reads-call, reads-node, reads-then}
-use Rattle.rust_productions.proofs.Choices.{anew-after, anew-completes, gives-anew, reads-here}
+use Rattle.rust_productions.proofs.Choices.{anew-after, anew-completes, anew-here, gives-anew, reads-here}
 use Rattle.std.proofs.Common.{arith, refl, true}
 use Rattle.rust_productions.proofs.Facts.{begun, nothing, saw-so, ◌and◌}
+use Rattle.rust_productions.specs.Looks.{tokens}
 use Rattle.rust_productions.specs.Reads.{looks}
 use Rattle.rust_productions.proofs.Given.{reads-three}
 use Rattle.rust_productions.proofs.Seen.{saw-after, saw-before, saw-inside, saw-none, ends-at-end, saw-else, saw-told}
@@ -87,7 +88,7 @@ fn_pointers::missing_type-missing_path-requires t c = (omega arith, λ d. saw-in
 
 pub fn_pointers::missing_type-returns-clause-gives : goal.fn_pointers::missing_type-returns-clause-gives
 unfolding look_of begins_below whole rule items statements expressions patterns types paths there_at shift passes is_silent begins in_mode anew row one_of any_of no_longer longest is_longer
-fn_pointers::missing_type-returns-clause-gives t c = λ cond. gives-anew (anew-after refl (reads-here (saw-none (Kind 0 kinds.L_PAREN) (looks rules.any_type) nothing (c.requires.none cond) refl and saw-none (Kind 0 kinds.BANG) (looks rules.any_type) nothing (c.requires.none cond) refl and saw-none (Kind 0 kinds.STAR) (looks rules.any_type) nothing (c.requires.none cond) refl and saw-none (Kind 0 kinds.L_BRACK) (looks rules.any_type) nothing (c.requires.none cond) refl and saw-none (Kind 0 kinds.AMP) (looks rules.any_type) nothing (c.requires.none cond) refl and saw-none (Kind 0 kinds.UNDERSCORE) (looks rules.any_type) nothing (c.requires.none cond) refl and saw-none (Kind 0 kinds.IMPL_KW) (looks rules.any_type) nothing (c.requires.none cond) refl and saw-none (Kind 0 kinds.DYN_KW) (looks rules.any_type) nothing (c.requires.none cond) refl and saw-none (dyn_begins) (looks rules.any_type) nothing (c.requires.none cond) refl and saw-none (wide new_type_begins) (looks rules.any_type) nothing (c.requires.none cond) refl and nothing) (reads-node cond c.start-node.ensures.opens (reads-call cond (c.missing_path.ensures.gives cond)) c.complete.ensures.closes)))
+fn_pointers::missing_type-returns-clause-gives t c = λ cond. gives-anew (anew-here (saw-none (Kind 0 kinds.L_PAREN) (looks rules.any_type) nothing (c.requires.none cond) refl and saw-none (Kind 0 kinds.BANG) (looks rules.any_type) nothing (c.requires.none cond) refl and saw-none (Kind 0 kinds.STAR) (looks rules.any_type) nothing (c.requires.none cond) refl and saw-none (Kind 0 kinds.L_BRACK) (looks rules.any_type) nothing (c.requires.none cond) refl and saw-none (Kind 0 kinds.AMP) (looks rules.any_type) nothing (c.requires.none cond) refl and saw-none (Kind 0 kinds.UNDERSCORE) (looks rules.any_type) nothing (c.requires.none cond) refl and saw-none (Kind 0 kinds.IMPL_KW) (looks rules.any_type) nothing (c.requires.none cond) refl and saw-none (Kind 0 kinds.DYN_KW) (looks rules.any_type) nothing (c.requires.none cond) refl and saw-none (dyn_begins) (looks rules.any_type) nothing (c.requires.none cond) refl and saw-none (wide new_type_begins) (looks rules.any_type) nothing (c.requires.none cond) refl and nothing) (anew-after refl (reads-node cond c.start-node.ensures.opens (reads-call cond (c.missing_path.ensures.gives cond)) c.complete.ensures.closes)))
 
 pub fn_pointers::named_param-returns-clause-reads : goal.fn_pointers::named_param-returns-clause-reads
 fn_pointers::named_param-returns-clause-reads t c = λ cond. reads-then cond (reads-call cond (c.single_pattern.ensures.gives cond)) (reads-then cond (c.expect.ensures.reads cond) (c.dots_or_type.ensures.reads cond))
@@ -102,6 +103,7 @@ pub fn_pointers::missing_path-next_segments-frame-requires : goal.fn_pointers::m
 fn_pointers::missing_path-next_segments-frame-requires t c = (omega arith, (c.missing_segment.ensures.reads true).does.innermost _ c.start-frame.ensures.marker)
 
 pub fn_pointers::missing_path-returns-clause-gives : goal.fn_pointers::missing_path-returns-clause-gives
+unfolding rule items statements expressions patterns types paths
 fn_pointers::missing_path-returns-clause-gives t c = λ cond. gives-anew (anew-completes c.start-frame.ensures.opens (completes-then (c.missing_segment.ensures.reads cond) (completes-leave (c.next_segments-frame.ensures.reads cond) c.abandon.ensures.leaves)))
 
 pub fn_pointers::missing_segment-returns-clause-reads : goal.fn_pointers::missing_segment-returns-clause-reads
@@ -125,7 +127,7 @@ unfolding look_of begins_below whole rule items statements expressions patterns 
 fn_pointers::fn_ptr_param-attributed_or_bare-requires t c = (omega arith, record { sees = λ d. saw-inside c.start-node.ensures.opens (c.requires.begins.sees d); some = omega (arith, c.requires.begins.some, c.start-node.ensures.stays.left) })
 
 pub fn_pointers::attributed_or_bare-returns-then-at_new-clause-reads : goal.fn_pointers::attributed_or_bare-returns-then-at_new-clause-reads
-unfolding look_of begins_below whole rule items statements expressions patterns types paths there_at shift passes is_silent begins in_mode anew row one_of any_of no_longer longest is_longer
+unfolding tokens look_of begins_below whole rule items statements expressions patterns types paths there_at shift passes is_silent begins in_mode anew row one_of any_of no_longer longest is_longer
 fn_pointers::attributed_or_bare-returns-then-at_new-clause-reads t c = λ cond.
     let first = next-turn cond (When (wide (next '#')) Attribute) (ends-at-end cond (When (wide (next '#')) Attribute) refl) _ _ _ first-turn (saw-told (saw-so (c.at_new.ensures.sees cond) c.if-at_new.true and nothing) refl) (reads-here (saw-so (c.at_new.ensures.sees cond) c.if-at_new.true and nothing) (after-look cond c.at_new.ensures.peeks.same (reads-call cond (c.attribute.ensures.gives cond)))) (omega (arith, c.attribute.ensures.takes.left, c.at_new.ensures.peeks.left)) in
     reads-then cond (first.rest _ (c.outer_attributes.ensures.reads cond)) (c.dots_name_or_type.ensures.reads cond)

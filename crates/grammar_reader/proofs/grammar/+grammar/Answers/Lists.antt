@@ -17,7 +17,7 @@ use Rattle.rust_grammar.specs.Whole.{rule, whole}
 use Rattle.grammar_reader.specs.Told.{element_of, list_turn, looks_in}
 use Rattle.grammar_reader.specs.declared.grammar.lists.Element.{Element}
 use Rattle.grammar_reader.proofs.Elements.{element-pays, ends, few-looks-before, few-looks-in, more, over, over-there, reads-element, reads-stray, said-element, stray, sure-element}
-use Rattle.grammar_reader.proofs.AnyMode.{generic-arg-anywhere, param-anywhere, pattern-anywhere, pattern-field-anywhere, type-anywhere, type-arg-anywhere}
+use Rattle.grammar_reader.proofs.AnyMode.{fn-ptr-param-anywhere, generic-arg-anywhere, param-anywhere, pattern-anywhere, pattern-field-anywhere, type-anywhere, type-arg-anywhere}
 use Rattle.grammar_reader.proofs.Seeing.{begun-left, param-left, pattern-begins, word-left}
 use Rattle.rust_productions.specs.Looks.{tokens}
 use Rattle.rust_productions.specs.Reads.{looks, Reads, Saw}

@@ -22,6 +22,7 @@ use Rattle.rust_productions.proofs.Given.{reads-three, reads-two}
 use Rattle.rust_productions.proofs.Looking.{saw-arm, saw-not}
 use Rattle.rust_productions.proofs.Seen.{saw-after, saw-else, saw-inside, saw-told}
 use Rattle.grammar_reader.proofs.AnyMode.{type-mode}
+use Rattle.grammar_reader.proofs.Parts.{reads-four}
 use Rattle.rust_grammar.specs.Words.{'unsafe'}
 use Rattle.grammar_reader.proofs.grammar.+grammar.Goals as goal
 

@@ -23,15 +23,15 @@ use Rattle.grammar_reader.proofs.grammar.+grammar.Goals as goal
 
 pub params::self_param-returns-in-AMP-clause-gives : goal.params::self_param-returns-in-AMP-clause-gives
 unfolding look_of begins_below whole rule items statements expressions patterns types paths there_at shift passes is_silent begins in_mode anew row one_of any_of no_longer longest is_longer
-params::self_param-returns-in-AMP-clause-gives t c = gives-anew (anew-after refl (reads-here (c.requires.begins c.args.condition and saw-arm c.in-AMP.is (c.current.ensures.sees c.args.condition) and nothing) (after-look _ c.current.ensures.peeks.same c.self_after_ref.ensures.reads)))
+params::self_param-returns-in-AMP-clause-gives t c = gives-anew (anew-here (c.requires.begins c.args.condition and saw-arm c.in-AMP.is (c.current.ensures.sees c.args.condition) and nothing) (anew-look c.current.ensures.peeks.same (anew-after refl c.self_after_ref.ensures.reads)))
 
 pub params::self_param-returns-in-MUT_KW-clause-gives : goal.params::self_param-returns-in-MUT_KW-clause-gives
 unfolding look_of begins_below whole rule items statements expressions patterns types paths there_at shift passes is_silent begins in_mode anew row one_of any_of no_longer longest is_longer
-params::self_param-returns-in-MUT_KW-clause-gives t c = gives-anew (anew-after refl (reads-here (c.requires.begins c.args.condition and saw-arm c.in-MUT_KW.is (c.current.ensures.sees c.args.condition) and nothing) (after-look _ c.current.ensures.peeks.same c.self_after_mut.ensures.reads)))
+params::self_param-returns-in-MUT_KW-clause-gives t c = gives-anew (anew-here (c.requires.begins c.args.condition and saw-arm c.in-MUT_KW.is (c.current.ensures.sees c.args.condition) and nothing) (anew-look c.current.ensures.peeks.same (anew-after refl c.self_after_mut.ensures.reads)))
 
 pub params::self_param-returns-in_default-clause-gives : goal.params::self_param-returns-in_default-clause-gives
 unfolding look_of begins_below whole rule items statements expressions patterns types paths there_at shift passes is_silent begins in_mode anew row one_of any_of no_longer longest is_longer
-params::self_param-returns-in_default-clause-gives t c = gives-anew (anew-after refl (reads-here (c.requires.begins c.args.condition and saw-not c.in_default.not-AMP (c.current.ensures.sees c.args.condition) and saw-not c.in_default.not-MUT_KW (c.current.ensures.sees c.args.condition) and saw-else (Kind 0 kinds.SELF_KW) self_begins (saw-not c.in_default.not-AMP (c.current.ensures.sees c.args.condition) and saw-not c.in_default.not-MUT_KW (c.current.ensures.sees c.args.condition) and nothing) (c.requires.begins c.args.condition) refl and nothing) (after-look _ c.current.ensures.peeks.same c.self_alone.ensures.reads)))
+params::self_param-returns-in_default-clause-gives t c = gives-anew (anew-here (c.requires.begins c.args.condition and saw-not c.in_default.not-AMP (c.current.ensures.sees c.args.condition) and saw-not c.in_default.not-MUT_KW (c.current.ensures.sees c.args.condition) and saw-else (Kind 0 kinds.SELF_KW) self_begins (saw-not c.in_default.not-AMP (c.current.ensures.sees c.args.condition) and saw-not c.in_default.not-MUT_KW (c.current.ensures.sees c.args.condition) and nothing) (c.requires.begins c.args.condition) refl and nothing) (anew-look c.current.ensures.peeks.same (anew-after refl c.self_alone.ensures.reads)))
 
 pub params::self_after_ref-complete-requires : goal.params::self_after_ref-complete-requires
 params::self_after_ref-complete-requires t c = c.opt_type.ensures.reads.does.innermost _ ((c.expect_self.ensures.reads true).does.innermost _ ((c.eat.ensures.reads true).does.innermost _ ((c.opt_lifetime.ensures.reads true).does.innermost _ ((c.take.ensures.reads true).does.innermost _ c.start-node.ensures.marker))))
@@ -63,7 +63,7 @@ params::param-self_param-requires t c = (omega arith, ((λ d. saw-after c.at_sel
 
 pub params::param-returns-then-at_self-clause-gives : goal.params::param-returns-then-at_self-clause-gives
 unfolding look_of begins_below whole rule items statements expressions patterns types paths there_at shift passes is_silent begins in_mode anew row one_of any_of no_longer longest is_longer
-params::param-returns-then-at_self-clause-gives t c = gives-anew (anew-after refl (reads-here (saw-so (c.at_new_param.ensures.sees c.args.condition) c.if-at_new_param.false and saw-before c.at_new_param.ensures.peeks.same (saw-so (c.at_self.ensures.sees c.args.condition) c.if-at_self.true) and nothing) (after-look _ c.at_new_param.ensures.peeks.same (after-look _ c.at_self.ensures.peeks.same c.self_param.ensures.reads))))
+params::param-returns-then-at_self-clause-gives t c = record { does = does-then c.at_new_param.ensures.peeks.same (does-then c.at_self.ensures.peeks.same c.self_param.ensures.gives.does) }
 
 pub params::param-pattern_param-requires : goal.params::param-pattern_param-requires
 unfolding look_of begins_below whole rule items statements expressions patterns types paths there_at shift passes is_silent begins in_mode anew row one_of any_of no_longer longest is_longer
@@ -71,7 +71,7 @@ params::param-pattern_param-requires t c = (omega arith, ((λ d. saw-after c.at_
 
 pub params::param-returns-clause-gives : goal.params::param-returns-clause-gives
 unfolding look_of begins_below whole rule items statements expressions patterns types paths there_at shift passes is_silent begins in_mode anew row one_of any_of no_longer longest is_longer
-params::param-returns-clause-gives t c = gives-anew (anew-after refl (reads-here (saw-so (c.at_new_param.ensures.sees c.args.condition) c.if-at_new_param.false and saw-before c.at_new_param.ensures.peeks.same (saw-so (c.at_self.ensures.sees c.args.condition) c.if-at_self.false) and nothing) (after-look _ c.at_new_param.ensures.peeks.same (after-look _ c.at_self.ensures.peeks.same c.pattern_param.ensures.reads))))
+params::param-returns-clause-gives t c = gives-anew (anew-here (saw-so (c.at_new_param.ensures.sees c.args.condition) c.if-at_new_param.false and saw-before c.at_new_param.ensures.peeks.same (saw-so (c.at_self.ensures.sees c.args.condition) c.if-at_self.false) and nothing) (anew-look c.at_new_param.ensures.peeks.same (anew-look c.at_self.ensures.peeks.same (anew-after refl c.pattern_param.ensures.reads))))
 
 pub params::new_param-dots_param-requires : goal.params::new_param-dots_param-requires
 params::new_param-dots_param-requires t c = omega (arith, c.at_dots_dot.ensures.some c.if-at_dots_dot.true, c.at_dots_dot.ensures.peeks.left)

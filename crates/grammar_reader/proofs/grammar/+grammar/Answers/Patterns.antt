@@ -25,6 +25,7 @@ use Rattle.rust_productions.proofs.Facts.{begun, nothing, saw-so, ◌and◌}
 use Rattle.rust_productions.proofs.Looking.{saw-arm, saw-not}
 use Rattle.rust_productions.proofs.Seen.{begins-else, ends-at-end, saw-left, saw-after, saw-before, saw-inside, saw-else}
 use Rattle.rust_productions.proofs.Turns.{last-turn, next-turn}
+use Rattle.grammar_reader.proofs.Parts.{reads-in-turn}
 use Rattle.grammar_reader.proofs.grammar.+grammar.Goals as goal
 
 pub patterns::inside-returns-in-MINUS-clause-reads : goal.patterns::inside-returns-in-MINUS-clause-reads
@@ -329,7 +330,7 @@ patterns::inside-qualified_pat-requires t c = (omega arith, (omega (arith, c.req
 
 pub patterns::inside-returns-in-L_ANGLE-clause-reads : goal.patterns::inside-returns-in-L_ANGLE-clause-reads
 unfolding look_of begins_below whole rule items statements expressions patterns types paths there_at shift passes is_silent begins in_mode anew row one_of any_of no_longer longest is_longer
-patterns::inside-returns-in-L_ANGLE-clause-reads t c = λ cond. reads-here (saw-arm c.in-L_ANGLE.is (c.current.ensures.sees cond) and saw-else (wide (next '<')) (looks rules.pattern_atom) (saw-arm c.in-L_ANGLE.is (c.current.ensures.sees cond) and nothing) (c.requires.begins.sees cond) refl and nothing) (after-look cond c.current.ensures.peeks.same (c.qualified_pat.ensures.reads cond))
+patterns::inside-returns-in-L_ANGLE-clause-reads t c = λ cond. reads-here (saw-arm c.in-L_ANGLE.is (c.current.ensures.sees cond) and saw-else (wide (next '<')) (looks rules.pattern_atom) (saw-arm c.in-L_ANGLE.is (c.current.ensures.sees cond) and nothing) (c.requires.begins.sees cond) refl and nothing) (after-look cond c.current.ensures.peeks.same (reads-in-turn cond (c.qualified_pat.ensures.reads cond)))
 
 pub patterns::inside-returns-in-L_ANGLE-clause-takes : goal.patterns::inside-returns-in-L_ANGLE-clause-takes
 patterns::inside-returns-in-L_ANGLE-clause-takes t c = record {
@@ -353,7 +354,7 @@ patterns::after_path-returns-then-at-clause-reads t c = λ cond. reads-here (saw
 
 pub patterns::after_path-returns-then-at-2-clause-reads : goal.patterns::after_path-returns-then-at-2-clause-reads
 unfolding look_of begins_below whole rule items statements expressions patterns types paths there_at shift passes is_silent begins in_mode anew row one_of any_of no_longer longest is_longer
-patterns::after_path-returns-then-at-2-clause-reads t c = λ cond. reads-here (saw-so (c.at.ensures.sees cond) c.if-at.false and saw-before c.at.ensures.peeks.same (saw-so (c.at-2.ensures.sees cond) c.if-at-2.true) and nothing) (after-look cond c.at.ensures.peeks.same (after-look cond c.at-2.ensures.peeks.same (reads-wrap cond (reads-call cond (c.pattern_fields.ensures.gives cond)) c.wrap-then-at.ensures.wraps)))
+patterns::after_path-returns-then-at-2-clause-reads t c = λ cond. reads-here (saw-so (c.at.ensures.sees cond) c.if-at.false and saw-before c.at.ensures.peeks.same (saw-so (c.at-2.ensures.sees cond) c.if-at-2.true) and nothing) (after-look cond c.at.ensures.peeks.same (after-look cond c.at-2.ensures.peeks.same (reads-wrap cond (reads-call cond (c.pattern_fields.ensures.gives cond)) c.wrap-then-at-2.ensures.wraps)))
 
 pub patterns::after_path-returns-then-at_new-clause-reads : goal.patterns::after_path-returns-then-at_new-clause-reads
 unfolding look_of begins_below whole rule items statements expressions patterns types paths there_at shift passes is_silent begins in_mode anew row one_of any_of no_longer longest is_longer
@@ -366,8 +367,8 @@ patterns::after_path-returns-clause-reads t c = λ cond. reads-here (saw-so (c.a
 pub patterns::after_path-wrap-requires : goal.patterns::after_path-wrap-requires
 patterns::after_path-wrap-requires t c = (c.rest_of_list.ensures.reads true).does.innermost _ ((c.take.ensures.reads true).does.innermost _ (c.at.ensures.peeks.same.innermost _ (c.requires.innermost)))
 
-pub patterns::after_path-wrap-requires-then-at : goal.patterns::after_path-wrap-requires-then-at
-patterns::after_path-wrap-requires-then-at t c = (c.pattern_fields.ensures.gives true).does.innermost _ (c.at-2.ensures.peeks.same.innermost _ (c.at.ensures.peeks.same.innermost _ (c.requires.innermost)))
+pub patterns::after_path-wrap-requires-then-at-2 : goal.patterns::after_path-wrap-requires-then-at-2
+patterns::after_path-wrap-requires-then-at-2 t c = (c.pattern_fields.ensures.gives true).does.innermost _ (c.at-2.ensures.peeks.same.innermost _ (c.at.ensures.peeks.same.innermost _ (c.requires.innermost)))
 
 pub patterns::after_path-wrap-requires-then-at_new : goal.patterns::after_path-wrap-requires-then-at_new
 patterns::after_path-wrap-requires-then-at_new t c = (c.expect_token_tree.ensures.reads true).does.innermost _ ((c.take-then-at_new.ensures.reads true).does.innermost _ (c.at_new.ensures.peeks.same.innermost _ (c.at-2.ensures.peeks.same.innermost _ (c.at.ensures.peeks.same.innermost _ (c.requires.innermost)))))

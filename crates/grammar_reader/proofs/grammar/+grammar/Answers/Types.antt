@@ -1,7 +1,8 @@
 -- Types, arm by arm.
 use Rattle.std.proofs.Common.{true, refl, subst, arith}
 use Rattle.rust_grammar.specs.Rule as rules
-use Rattle.rust_grammar.specs.Rule.{Look}
+use Rattle.parser_input.specs.Kinds as kinds
+use Rattle.rust_grammar.specs.Rule.{Kind, Look}
 use Rattle.rust_grammar.specs.Expressions.{expressions}
 use Rattle.rust_grammar.specs.Items.{items}
 use Rattle.rust_grammar.specs.Meaning.{begins_below, look_of}
@@ -10,17 +11,18 @@ use Rattle.rust_grammar.specs.Paths.{path_begins, paths}
 use Rattle.rust_grammar.specs.Patterns.{patterns}
 use Rattle.rust_grammar.specs.Rule.{begins, in_mode, anew, is_silent, passes, shift, there_at}
 use Rattle.rust_grammar.specs.Statements.{statements}
-use Rattle.rust_grammar.specs.Types.{for_or_path_begins, front_path_begins, new_type_begins, types}
+use Rattle.rust_grammar.specs.Types.{fn_ptr_begins, for_or_path_begins, front_path_begins, new_type_begins, types}
 use Rattle.rust_grammar.specs.Whole.{rule, whole}
 use Rattle.grammar_reader.specs.declared.grammar.paths.Mode.TheVariants as modes
 use Rattle.grammar_reader.proofs.PathArgs.{as-word, paths-begin}
+use Rattle.grammar_reader.proofs.Seeing.{fn-ptr-begins, saw-without}
 use Rattle.rust_productions.specs.Reads.{looks, Saw}
 use Rattle.rust_productions.proofs.Begins.{saw-begun-path}
 use Rattle.rust_productions.proofs.ByHand.{after-look, completes-leave, does-nothing, goes, reads-call, reads-mode, reads-more, reads-node, reads-none, reads-nothing, reads-opt, reads-or, reads-then, reads-wrap}
 use Rattle.rust_productions.proofs.Choices.{anew-after, anew-completes, gives-anew, reads-here}
 use Rattle.rust_productions.proofs.Facts.{begun, nothing, saw-so, ◌and◌}
 use Rattle.rust_productions.proofs.Looking.{saw-arm, saw-not}
-use Rattle.rust_productions.proofs.Seen.{begins-else, saw-after, saw-before, saw-else, saw-inside}
+use Rattle.rust_productions.proofs.Seen.{begins-else, saw-after, saw-before, saw-else, saw-inside, saw-none}
 use Rattle.grammar_reader.proofs.grammar.+grammar.Goals as goal
 
 pub types::any_type-returns-clause-gives : goal.types::any_type-returns-clause-gives
@@ -358,11 +360,13 @@ types::new_type-returns-then-at-clause-reads t c = λ cond. reads-here (saw-so (
 
 pub types::new_type-returns-then-at_fn_ptr-clause-reads : goal.types::new_type-returns-then-at_fn_ptr-clause-reads
 unfolding look_of begins_below whole rule items statements expressions patterns types paths there_at shift passes is_silent begins in_mode anew row one_of any_of no_longer longest is_longer
-types::new_type-returns-then-at_fn_ptr-clause-reads t c = λ cond. reads-here (saw-so (c.at.ensures.sees cond) c.if-at.false and saw-before c.at.ensures.peeks.same (saw-so (c.at_fn_ptr.ensures.sees cond) c.if-at_fn_ptr.true) and nothing) (after-look cond c.at.ensures.peeks.same (after-look cond c.at_fn_ptr.ensures.peeks.same (c.fn_ptr_type.ensures.reads cond)))
+types::new_type-returns-then-at_fn_ptr-clause-reads t c = λ cond. reads-or cond (fn-ptr-begins (saw-before c.at.ensures.peeks.same (saw-so (c.at_fn_ptr.ensures.sees cond) c.if-at_fn_ptr.true))) (after-look cond c.at.ensures.peeks.same (after-look cond c.at_fn_ptr.ensures.peeks.same (c.fn_ptr_type.ensures.reads cond)))
 
 pub types::new_type-returns-clause-reads : goal.types::new_type-returns-clause-reads
 unfolding look_of begins_below whole rule items statements expressions patterns types paths there_at shift passes is_silent begins in_mode anew row one_of any_of no_longer longest is_longer
-types::new_type-returns-clause-reads t c = λ cond. reads-here (saw-so (c.at.ensures.sees cond) c.if-at.false and saw-before c.at.ensures.peeks.same (saw-so (c.at_fn_ptr.ensures.sees cond) c.if-at_fn_ptr.false) and nothing) (after-look cond c.at.ensures.peeks.same (after-look cond c.at_fn_ptr.ensures.peeks.same (reads-then cond (c.for_or_path-frame.ensures.reads cond) (c.opt_plus_bounds.ensures.reads cond))))
+types::new_type-returns-clause-reads t c = λ cond.
+    let none = saw-before c.at.ensures.peeks.same (saw-so (c.at_fn_ptr.ensures.sees cond) c.if-at_fn_ptr.false) in
+    reads-here (saw-so (c.at.ensures.sees cond) c.if-at.false and saw-none (Kind 0 kinds.FN_KW) fn_ptr_begins nothing none refl and saw-none (Kind 0 kinds.EXTERN_KW) fn_ptr_begins nothing none refl and saw-without (Kind 0 kinds.UNSAFE_KW) (wide new_type_begins) (none and nothing) (c.requires.begins.sees cond) refl and nothing) (after-look cond c.at.ensures.peeks.same (after-look cond c.at_fn_ptr.ensures.peeks.same (reads-then cond (c.for_or_path-frame.ensures.reads cond) (c.opt_plus_bounds.ensures.reads cond))))
 
 pub types::new_type-fn_ptr_type-requires : goal.types::new_type-fn_ptr_type-requires
 types::new_type-fn_ptr_type-requires t c = (omega arith, record { sees = λ d. saw-after c.at_fn_ptr.ensures.peeks.same (saw-so (c.at_fn_ptr.ensures.sees d) c.if-at_fn_ptr.true); some = omega (arith, c.requires.begins.some, c.at_fn_ptr.ensures.some c.if-at_fn_ptr.true, c.at.ensures.peeks.left, c.at_fn_ptr.ensures.peeks.left) })
