@@ -38,6 +38,8 @@ MADE_BY = {
     "rust_source::Source::payload_item": "rust_document::payload",
     "rust_source::Source::payload_node": "rust_document::payload",
     "rust_source::Source::payload_statement": "rust_document::payload",
+    "rust_source::Source::rename": "rust_document::Document::commit",
+    "rust_source::ancestor_below": "syntax_tree::SyntaxNode::parent",
     "syntax_tree::Element::syntax_element": "syntax_tree::SyntaxNode::syntax_element",
     "syntax_tree::elements::node": "syntax_tree::SyntaxToken::detached",
     "tree_rewrite::Change::into_tree_change": "syntax_editor::SyntaxEditor::rewritten",
@@ -61,6 +63,19 @@ MADE_BY = {
     "tree_rewrite::sheet::push_slot": "syntax_editor::SyntaxEditor::rewritten",
     "tree_rewrite::way_map::put": "syntax_editor::SyntaxEditor::rewritten",
 }
+# The calls of typed nodes, by the call of `SyntaxNode` that each is.
+PARTS = {
+    "child": "AttrParts::meta EnumParts::variant_list FnParts::body FnParts::param_list FnParts::ret_type HasArgList::arg_list"
+    " HasGenericParams::generic_param_list HasGenericParams::where_clause HasName::name HasVisibility::visibility"
+    " ImplParts::assoc_item_list LetParts::let_else MethodCallParts::generic_arg_list MethodCallParts::name_ref"
+    " StructParts::record_field_list StructParts::tuple_field_list UseParts::use_tree",
+    "children": "HasElements::elements",
+    "children_of": "HasAttributes::attributes",
+    "children_with_tokens": "LetParts::initializer after::node_after",
+    "clone": "Attr::clone Call::clone Enum::clone Impl::clone Let::clone MethodCall::clone",
+    "first_child": "CallParts::callee LetParts::pattern MethodCallParts::receiver",
+}
+MADE_BY.update((f"typed_nodes::{name}", f"syntax_tree::SyntaxNode::{call}") for call, names in PARTS.items() for name in names.split())
 COMMENT = re.compile(r"//.*")
 MODULE = re.compile(r"^(pub )?mod (\w+);", re.M)
 PUBLIC_USE = re.compile(r"^pub use (\w+)::(?:\{([^}]*)\}|(\w+));", re.M)

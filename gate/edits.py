@@ -4,9 +4,11 @@
     gate/edits.py              of all crates, but for those whose functions call one another (grammar_reader)
     gate/edits.py NAME ..      of these crates
     gate/edits.py --anew ..    the edits that a ledger has, too
+    gate/edits.py --alone ..   of such a crate also those that no check of several refuses
 
 It works in a copy of the tree, over the libraries that checks have built here from the same sources. Edits of different functions
-are tried by one check (together.py), the others one by one. A crate's ledger is written as soon as its edits were tried.
+are tried by one check (together.py), the others one by one, but of a crate whose functions call one another only if --alone asks for
+it: each takes minutes. A crate's ledger is written as soon as its edits were tried.
 """
 import argparse
 import os
@@ -63,11 +65,12 @@ def try_alone(at, name, tried):
     return repository.refused_in(lines, tried)
 
 
-def try_crate(at, name, tried):
+def try_crate(at, name, tried, alone):
     """Tries edits of a crate. Returns those that are refused, each with how that was seen."""
     with Heartbeat(f"{name}: {len(tried)} edits are being tried"):
         both = try_together(at, name, tried)
-        single = try_alone(at, name, {*tried} - both) if both != {*tried} else set()
+        left = {*tried} - both
+        single = try_alone(at, name, left) if left and (alone or name not in CYCLES) else set()
     return {edit: ledger.TOGETHER if edit in both else ledger.ALONE for edit in both | single}
 
 
@@ -82,13 +85,13 @@ def edits_to_try(sums, rows, asked):
     return {name: edits for name, edits in wanted.items() if edits}
 
 
-def run(copied, sums, wanted):
+def run(copied, sums, wanted, alone):
     """Tries and records the edits of each crate. Returns how many were refused, and how many not."""
     passed, failed = 0, 0
     for edit in {*sums} - {edit for edits in wanted.values() for edit in edits}:
         os.remove(f"{copied}/{edit}")
     for name, edits in wanted.items():
-        refused = try_crate(copied, name, edits)
+        refused = try_crate(copied, name, edits, alone)
         ledger.record(repository.TOP, name, edits, {edit: (sums[edit], how) for edit, how in refused.items()})
         passed, failed = passed + len(refused), failed + len(edits) - len(refused)
         write(f"edits: {name}: {len(refused)} of {len(edits)} refused and recorded")
@@ -98,6 +101,7 @@ def run(copied, sums, wanted):
 def arguments():
     parser = argparse.ArgumentParser(prog="gate/edits.py", description=__doc__, formatter_class=argparse.RawDescriptionHelpFormatter, allow_abbrev=False)
     parser.add_argument("--anew", action="store_true")
+    parser.add_argument("--alone", action="store_true")
     parser.add_argument("names", nargs="*", metavar="NAME")
     return parser.parse_args()
 
@@ -112,7 +116,7 @@ def main():
             fail(f"the sums of the edits cannot be computed: {error!r}")
         wanted = edits_to_try(sums, rows, asked)
         write(f"edits: {len(sums)} must-fail edits: {sum(map(len, wanted.values()))} to be tried, of {len(wanted)} crates")
-        passed, failed = run(copied, sums, wanted)
+        passed, failed = run(copied, sums, wanted, asked.alone)
     print(f"{passed} passed, {failed} failed")
     return int(failed > 0)
 

@@ -55,7 +55,7 @@ class Selection(Repository):
         tried = self.run_gate()
         self.assertEqual((ALL <= tried, len(tried & edits)), (True, 1))
         self.assertEqual(self.run_edits(), ALL)
-        self.assertEqual(self.run_edits("grammar_reader"), edits)
+        self.assertEqual(self.run_edits("--alone", "grammar_reader"), edits)
 
     def test_list_counts_and_runs_nothing(self):
         write(self.path("crates/low/must-fail/e0.edit"), "file: specs/Lib.antt\nold: low\nnew: 0\n")

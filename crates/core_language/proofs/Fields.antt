@@ -64,9 +64,9 @@ field-head a g v n ts f more e =
 field-reads : (x : Field) (g : Forest) (c : Bool) (k : ℕ) (more : List Token) → (k == COLON) ≡ false → (k == L_ANGLE) ≡ false
     → reads (field_rule of_type) (at g (field_tokens x (of_kind k c ∷ more))) ≡ at (g then field_tree x End) (of_kind k c ∷ more)
 unfolding ahead
-field-reads (NamedField Private n d t) g c k more p q = field-head of_type g Private n _ _ _ (of_type-reads (name_tree End) d t (of_kind k c ∷ more) p q)
+field-reads (NamedField Private n d t) g c k more p q = field-head of_type g Private n _ _ _ (of_type-reads (name_tree End) d t (of_kind k c ∷ more) p q refl)
 field-reads (NamedField (Public j) n d t) g c k more p q =
-    field-head of_type g (Public j) n _ _ _ (of_type-reads (visibility_tree (Public j) (name_tree End)) d t (of_kind k c ∷ more) p q)
+    field-head of_type g (Public j) n _ _ _ (of_type-reads (visibility_tree (Public j) (name_tree End)) d t (of_kind k c ∷ more) p q refl)
 
 field-there : (x : Field) (more : List Token) (g : Forest) → begins_at (field_rule of_type) (at g (field_tokens x more)) ≡ true
 unfolding table
@@ -140,7 +140,7 @@ parameter-reads (TypedPattern (NamePattern m n) d t) g c k more p q =
     (whole-means param false _
     ∙ parameter-picks (NamePattern m n) (typed d t _)
     ∙ node-reads PARAM (Then (Call pattern) of_type) End _ _ _
-    (then-reads (Call pattern) of_type _ (call-after pattern End _ _ _ (pattern-reads (NamePattern m n) (typed d t _))) (of_type-reads (pattern_tree (NamePattern m n) End) d t (of_kind k c ∷ more) p q)))
+    (then-reads (Call pattern) of_type _ (call-after pattern End _ _ _ (pattern-reads (NamePattern m n) (typed d t _))) (of_type-reads (pattern_tree (NamePattern m n) End) d t (of_kind k c ∷ more) p q refl)))
 
 parameter-begins : (p : Pattern) {more : List Token} → After more → (g : Forest)
     → begins_at (Call param) (at g (pattern_tokens p more)) ≡ true

@@ -3,7 +3,7 @@ use Rattle.std.proofs.Common.{◌≡◌, ℕ, ◌<◌, ◌≤◌, Bool, true, fa
 use Rattle.parser_input.specs.Input.{Token}
 use Rattle.parser_input.specs.Kinds.{COMMA, SEMICOLON, L_PAREN, R_PAREN, L_CURLY, R_CURLY, MINUS, R_ANGLE, THIN_ARROW, STRUCT_KW, MOD_KW, FN_KW, SHEBANG, FRONTMATTER, NAME, PARAM_LIST, RET_TYPE, STRUCT, MODULE, ITEM_LIST, FN, SOURCE_FILE}
 use Rattle.parser_events.specs.Forest.{Expected, ExpectedType, Forest, End, Leaf, Node, ◌then◌}
-use Rattle.rust_grammar.specs.Rule.{Production, Look, Rule, One, Or, Then, Want, Star, Opt, Mode, Unless, When, Wrap, Not, Left, Call, Continue, name, visibility, attribute, any_type, ret_type, block, record_fields, params, param, pattern, item, body, source_file}
+use Rattle.rust_grammar.specs.Rule.{Production, Look, Rule, One, Or, Then, Want, Star, Opt, Mode, Unless, When, Wrap, Not, Left, Call, Continue, name, visibility, attribute, type_no_bounds, ret_type, block, record_fields, params, param, pattern, item, body, source_file}
 use Rattle.rust_grammar.specs.Rule as rules
 use Rattle.rust_grammar.specs.Meaning.{Reading, ahead, turns}
 use Rattle.rust_grammar.specs.Notation.{until, ◌before◌}
@@ -16,12 +16,12 @@ use Rattle.core_language.specs.Tokens.{name_token, of_kind}
 use Rattle.core_language.specs.Types.{CoreType, type_tokens, type_tree}
 use Rattle.core_language.proofs.Fields.{field-longer, fields-read, node-reads, parameters-read, visibility-reads, parameter-longer}
 use Rattle.core_language.proofs.Layers.{expression-longer}
-use Rattle.core_language.proofs.Patterns.{name-reads, type-there}
+use Rattle.core_language.proofs.Patterns.{name-reads, bare-type-there}
 use Rattle.core_language.proofs.Places.{IsNotNext}
 use Rattle.core_language.proofs.Postfix.{some-left, then-assoc, then-end}
 use Rattle.core_language.proofs.Rules.{StarReads, Stop, Turn, at, begins_at, forms, gives, opt-skips, or-first, reads, star-reads, table, then-reads}
 use Rattle.core_language.proofs.Statements.{block-reads, braces-read-in, statement-longer}
-use Rattle.core_language.proofs.Types.{type-longer, type-reads}
+use Rattle.core_language.proofs.Types.{type-longer, bare-type-reads}
 
 -- The word that an item begins with.
 data ItemWord : Type 0 where
@@ -128,13 +128,13 @@ mod-items v j n l ts f more e =
     (then-reads (Want (Call name) (Expected NAME)) (Or items_node (Want (One 'semi') (Expected SEMICOLON))) _ (mod-name v n _)
     (or-first items_node (Want (One 'semi') (Expected SEMICOLON)) _ (braces-there _ l ts) ∙ e _ ∙ ap (λ (x : Forest). at x more) (visibility-then v End f))))
 
-ret-reads : (a : Bool) (t : CoreType) (more : List Token) → ((g : Forest) → begins_at (Call any_type) (at g (type_tokens t more)) ≡ true)
-    → gives any_type (at End (type_tokens t more)) ≡ at (type_tree t End) more →
-    reads (rules.Node RET_TYPE (Then (One '->') (Want (Call any_type) ExpectedType))) (at End (of_kind MINUS true ∷ of_kind R_ANGLE a ∷ type_tokens t more)) ≡ at (Node RET_TYPE (Leaf THIN_ARROW 2 (type_tree t End)) End) more
+ret-reads : (a : Bool) (t : CoreType) (more : List Token) → ((g : Forest) → begins_at (Call type_no_bounds) (at g (type_tokens t more)) ≡ true)
+    → gives type_no_bounds (at End (type_tokens t more)) ≡ at (type_tree t End) more →
+    reads (rules.Node RET_TYPE (Then (One '->') (Want (Call type_no_bounds) ExpectedType))) (at End (of_kind MINUS true ∷ of_kind R_ANGLE a ∷ type_tokens t more)) ≡ at (Node RET_TYPE (Leaf THIN_ARROW 2 (type_tree t End)) End) more
 unfolding forms
 ret-reads a t more there e = rw (there (Leaf THIN_ARROW 2 End)) (rw e refl)
 
-ret-rule : rule ret_type ≡ rules.Node RET_TYPE (Then (One '->') (Want (Call any_type) ExpectedType))
+ret-rule : rule ret_type ≡ rules.Node RET_TYPE (Then (One '->') (Want (Call type_no_bounds) ExpectedType))
 unfolding table
 ret-rule = refl
 
@@ -145,7 +145,7 @@ unfolding ahead
 ret_type-reads a t j more =
     whole-means ret_type false _
     ∙ ap (λ (r : Rule). reads r (at End (of_kind MINUS true ∷ of_kind R_ANGLE a ∷ type_tokens t (of_kind L_CURLY j ∷ more)))) ret-rule
-    ∙ ret-reads a t (of_kind L_CURLY j ∷ more) (type-there t _) (type-reads t _ refl refl)
+    ∙ ret-reads a t (of_kind L_CURLY j ∷ more) (bare-type-there t _) (bare-type-reads t _ refl refl refl)
 
 function-plain : (v : Visibility) (j n l : Bool) (ts : List Token) (f : Forest) (c : Bool) (us : List Token) (h : Forest) (more : List Token) →
     gives params (at End (of_kind L_PAREN l ∷ ts)) ≡ at (Node PARAM_LIST f End) (of_kind L_CURLY c ∷ us)

@@ -4,7 +4,7 @@ use native.Mathlib.Nat.{eq-or-lt_of_le}
 use Rattle.parser_input.specs.Input.{Token}
 use Rattle.parser_input.specs.Kinds.{DOT, COLON, R_PAREN, L_PAREN, COMMA, BIN_EXPR, CAST_EXPR}
 use Rattle.parser_events.specs.Forest.{ExpectedType, Forest, End, Leaf, Node, ◌then◌}
-use Rattle.rust_grammar.specs.Rule.{Rule, One, Wrap, Then, Want, Star, Call, cast, prefixed, any_type}
+use Rattle.rust_grammar.specs.Rule.{Rule, One, Wrap, Then, Want, Star, Call, cast, prefixed, type_no_bounds}
 use Rattle.rust_grammar.specs.Meaning.{Reading}
 use Rattle.rust_grammar.specs.Words.{'as'}
 use Rattle.rust_grammar.specs.Whole.{rule}
@@ -169,12 +169,12 @@ climb e h (suc d) p q r = elim (eq-or-lt_of_le p) [
 ]
 
 -- below the layers: casts, which the core language has none of
-cast-rule : rule cast ≡ Then (Call prefixed) (Star (Wrap CAST_EXPR (Then (One 'as') (Want (Call any_type) ExpectedType))))
+cast-rule : rule cast ≡ Then (Call prefixed) (Star (Wrap CAST_EXPR (Then (One 'as') (Want (Call type_no_bounds) ExpectedType))))
 unfolding table
 cast-rule = refl
 
 no-cast : (g : Forest) (more : List Token) → Base more
-    → begins_at (Wrap CAST_EXPR (Then (One 'as') (Want (Call any_type) ExpectedType))) (at g more) ≡ false
+    → begins_at (Wrap CAST_EXPR (Then (One 'as') (Want (Call type_no_bounds) ExpectedType))) (at g more) ≡ false
 unfolding forms
 no-cast g more b = b.cast
 
@@ -186,4 +186,4 @@ pub reads-cast : (e : Expression) → ReadsPrefixed e → ReadsAt 0 e
 reads-cast e r more calm base =
     whole-means cast false _
     ∙ ap (λ (a : Rule). reads a (at End (expression_tokens e more))) cast-rule
-    ∙ then-reads (Call prefixed) (Star (Wrap CAST_EXPR (Then (One 'as') (Want (Call any_type) ExpectedType)))) _ (call-reads prefixed _ _ more (r more calm base)) (star-reads (Wrap CAST_EXPR (Then (One 'as') (Want (Call any_type) ExpectedType))) (Stop (no-cast _ more base)))
+    ∙ then-reads (Call prefixed) (Star (Wrap CAST_EXPR (Then (One 'as') (Want (Call type_no_bounds) ExpectedType)))) _ (call-reads prefixed _ _ more (r more calm base)) (star-reads (Wrap CAST_EXPR (Then (One 'as') (Want (Call type_no_bounds) ExpectedType))) (Stop (no-cast _ more base)))

@@ -3,47 +3,48 @@ use Rattle.std.proofs.Common.{◌≡◌, ◌<◌, Bool, true, false, List, [], �
 use Rattle.parser_input.specs.Input.{Token}
 use Rattle.parser_input.specs.Kinds.{COLON, L_ANGLE, NAME_REF, PATH, PATH_SEGMENT, IDENT}
 use Rattle.parser_events.specs.Forest.{Expected, Forest, End, Leaf, Node}
-use Rattle.rust_grammar.specs.Rule.{Production, type_path, expr_path, name_ref, Look, Either, Rule, One, Star, Opt, Want, Then, When, Unless, Call, begins, passes, is_silent, shift, in_mode, anew, there_at}
+use Rattle.rust_grammar.specs.Rule.{Production, type_path, expr_path, name_ref, Rule, One, Star, Opt, Or, Want, Then, When, Unless, Call}
 use Rattle.rust_grammar.specs.Rule as rules
 use Rattle.rust_grammar.specs.Meaning.{Reading, sees, ahead}
 use Rattle.rust_grammar.specs.Words.{'::', '<', '='}
 use Rattle.rust_grammar.specs.Calls.{Ref, GenericArgs}
 use Rattle.rust_grammar.specs.Shared.{colons_before_more}
-use Rattle.rust_grammar.specs.Notation.{row, one_of, any_of, ◌before◌, ◌not_before◌}
+use Rattle.rust_grammar.specs.Notation.{wide, ◌before◌}
+use Rattle.rust_grammar.specs.Paths.{angle_args_begin, fn_args, fn_args_begin}
 use Rattle.rust_grammar.proofs.WholeTable.{whole-means}
 use Rattle.core_language.specs.Tokens.{name_token, of_kind}
 use Rattle.core_language.specs.Types.{Below, Name, Path, path_tokens, path_tree}
 use Rattle.core_language.proofs.Rules.{StarReads, Stop, Turn, at, begins_at, forms, gives, reads, rows, star-reads, table, then-reads}
 
--- the first segment, with arguments where `l` looks
-abbrev pub first_part : Look → Rule
-first_part l = rules.Node PATH (rules.Node PATH_SEGMENT (Then (Opt (One '::')) (Then (Want Ref (Expected NAME_REF)) (Opt (When l GenericArgs)))))
+-- the first segment, with these arguments or none
+abbrev pub first_part : Rule → Rule
+first_part args = rules.Node PATH (rules.Node PATH_SEGMENT (Then (Opt (One '::')) (Then (Want Ref (Expected NAME_REF)) (Opt args))))
 
--- one more segment, with arguments where `l` looks
-abbrev pub next_part : Look → Rule
-next_part l =
-    Unless colons_before_more (rules.Wrap PATH (Then (One '::') (Want (rules.Node PATH_SEGMENT (Then Ref (Opt (When l GenericArgs)))) (Expected PATH_SEGMENT))))
+-- one more segment, with these arguments or none
+abbrev pub next_part : Rule → Rule
+next_part args =
+    Unless colons_before_more (rules.Wrap PATH (Then (One '::') (Want (rules.Node PATH_SEGMENT (Then Ref (Opt args))) (Expected PATH_SEGMENT))))
 
 pub name_ref-reads : (j : Bool) (more : List Token)
     → gives name_ref (at End (name_token j ∷ more)) ≡ at (Node NAME_REF (Leaf IDENT 1 End) End) more
 unfolding table
 name_ref-reads j more = whole-means name_ref false _ ∙ refl
 
--- no arguments are looked for here
-abbrev pub NoArgs : Look → List Token → Type 0
-NoArgs l more = (g : Forest) → sees false (at g more) l ≡ false
+-- no arguments begin here
+abbrev pub NoArgs : Rule → List Token → Type 0
+NoArgs args more = (g : Forest) → begins_at args (at g more) ≡ false
 
-first-reads : (l : Look) (j : Bool) (more : List Token) → NoArgs l more
+first-reads : (l : Rule) (j : Bool) (more : List Token) → NoArgs l more
     → reads (first_part l) (at End (name_token j ∷ more)) ≡ at (path_tree (Name j) End) more
 unfolding table
 first-reads l j more none = rw (name_ref-reads j more) (rw (none _) refl)
 
-next-begins : (l : Look) (c j : Bool) (g : Forest) (more : List Token)
+next-begins : (l : Rule) (c j : Bool) (g : Forest) (more : List Token)
     → begins_at (next_part l) (at g (of_kind COLON true ∷ of_kind COLON c ∷ name_token j ∷ more)) ≡ true
 unfolding forms
 next-begins l c j g more = refl
 
-next-reads : (l : Look) (p : Path) (c j : Bool) (more : List Token) → NoArgs l more →
+next-reads : (l : Rule) (p : Path) (c j : Bool) (more : List Token) → NoArgs l more →
     reads (next_part l) (at (path_tree p End) (of_kind COLON true ∷ of_kind COLON c ∷ name_token j ∷ more))
     ≡ at (path_tree (Below p c j) End) more
 unfolding table
@@ -52,11 +53,11 @@ next-reads l p c j more none = rw (name_ref-reads j more) (rw (none _) refl)
 three-fewer : (a b c : Token) (more : List Token) → length more < length (a ∷ b ∷ c ∷ more)
 three-fewer a b c more = omega arith
 
--- where the arguments are not looked for before a `::` with a name after it
-abbrev pub Apart : Look → Type 0
+-- these arguments do not begin at a `::` with a name after it
+abbrev pub Apart : Rule → Type 0
 Apart l = (c j : Bool) (more : List Token) → NoArgs l (of_kind COLON true ∷ of_kind COLON c ∷ name_token j ∷ more)
 
-pub path-goes-on : (l : Look) → Apart l → (p : Path) (more : List Token) (t : Reading) → NoArgs l more
+pub path-goes-on : (l : Rule) → Apart l → (p : Path) (more : List Token) (t : Reading) → NoArgs l more
     → StarReads (next_part l) (at (path_tree p End) more) t →
     reads (Then (first_part l) (Star (next_part l))) (at End (path_tokens p more)) ≡ t
 path-goes-on l apart (Name j) more t none stars = then-reads (first_part l) (Star (next_part l)) _ (first-reads l j more none) (star-reads (next_part l) stars)
@@ -67,28 +68,28 @@ path-goes-on l apart (Below p c j) more t none stars =
 abbrev pub NoColon : List Token → Type 0
 NoColon more = ((ahead 0 more).kind == COLON) ≡ false
 
-pub no-next : (l : Look) (g : Forest) (more : List Token) → NoColon more → begins_at (next_part l) (at g more) ≡ false
+pub no-next : (l : Rule) (g : Forest) (more : List Token) → NoColon more → begins_at (next_part l) (at g more) ≡ false
 unfolding forms
 no-next l g more h = rw h refl
 
--- where arguments begin in a type
-abbrev pub type_arguments : Look
-type_arguments = Either ('::' before '<') ('<' not_before ('=' ∷ []))
+-- the arguments of a type's path
+abbrev pub type_arguments : Rule
+type_arguments = Or (When (wide fn_args_begin) fn_args) (When angle_args_begin GenericArgs)
 
--- where they begin in an expression
-abbrev pub expression_arguments : Look
-expression_arguments = '::' before '<'
+-- those of an expression's path
+abbrev pub expression_arguments : Rule
+expression_arguments = When ('::' before '<') GenericArgs
 
 pub apart-type : Apart type_arguments
-unfolding sees ahead there_at row one_of any_of
+unfolding forms
 apart-type c j more g = refl
 
 pub apart-expr : Apart expression_arguments
-unfolding sees ahead there_at row one_of any_of
+unfolding forms
 apart-expr c j more g = refl
 
 no-args-expr : (more : List Token) → NoColon more → NoArgs expression_arguments more
-unfolding sees ahead there_at row one_of any_of
+unfolding forms
 no-args-expr more h g = rw h refl
 
 pub expression_path-reads : (p : Path) (more : List Token) → NoColon more
@@ -102,13 +103,17 @@ expression_path-reads p more h =
 abbrev pub NoAngle : List Token → Type 0
 NoAngle more = ((ahead 0 more).kind == L_ANGLE) ≡ false
 
-no-args-type : (more : List Token) → NoColon more → NoAngle more → NoArgs type_arguments more
-unfolding sees ahead there_at row one_of any_of
-no-args-type more h k g = rw (h, k) refl
+-- the next token, if there is one, is read by the profile
+abbrev pub OfProfile : List Token → Type 0
+OfProfile more = (ahead 0 more).whole ≡ false
 
-pub type_path-reads : (p : Path) (more : List Token) → NoColon more → NoAngle more
+no-args-type : (more : List Token) → NoColon more → NoAngle more → OfProfile more → NoArgs type_arguments more
+unfolding forms
+no-args-type more h k o g = rw (h, k, o) refl
+
+pub type_path-reads : (p : Path) (more : List Token) → NoColon more → NoAngle more → OfProfile more
     → gives type_path (at End (path_tokens p more)) ≡ at (path_tree p End) more
 unfolding rows
-type_path-reads p more h k =
+type_path-reads p more h k o =
     whole-means type_path false _
-    ∙ path-goes-on type_arguments apart-type p more _ (no-args-type more h k) (Stop (no-next type_arguments _ more h))
+    ∙ path-goes-on type_arguments apart-type p more _ (no-args-type more h k o) (Stop (no-next type_arguments _ more h))

@@ -3,15 +3,15 @@ use Rattle.std.proofs.Common.{◌≡◌, Bool, true, false, List, ◌∷◌, ref
 use Rattle.parser_input.specs.Input.{Token}
 use Rattle.parser_input.specs.Kinds.{COLON, EQ, SEMICOLON}
 use Rattle.parser_events.specs.Forest.{Expected, ExpectedType, Forest, End, Leaf, ◌then◌}
-use Rattle.rust_grammar.specs.Rule.{Rule, One, Then, Want, Call, name, pattern, single_pattern, any_type}
+use Rattle.rust_grammar.specs.Rule.{Rule, One, Then, Want, Call, name, pattern, single_pattern, any_type, type_no_bounds}
 use Rattle.rust_grammar.specs.Words.{':'}
 use Rattle.rust_grammar.proofs.WholeTable.{whole-means}
 use Rattle.core_language.specs.Statements.{NamePattern, Pattern, name_tree, pattern_tokens, pattern_tree}
 use Rattle.core_language.specs.Tokens.{name_token, of_kind}
 use Rattle.core_language.specs.Types.{CoreType, Immutable, Mutable, PathType, ReferenceType, SliceType, type_tokens, type_tree}
-use Rattle.core_language.proofs.Paths.{NoAngle, NoColon}
+use Rattle.core_language.proofs.Paths.{NoAngle, NoColon, OfProfile}
 use Rattle.core_language.proofs.Rules.{at, begins_at, call-there, forms, gives, reads, table}
-use Rattle.core_language.proofs.Types.{path-begins, type-is-there, type-reads}
+use Rattle.core_language.proofs.Types.{bare-type-is-there, path-begins, type-is-there, type-reads}
 
 pub name-reads : (n : Bool) (more : List Token) → gives name (at End (name_token n ∷ more)) ≡ at (name_tree End) more
 unfolding table
@@ -82,6 +82,9 @@ colon-reads g c ts f more there e = rw (there (g then Leaf COLON 1 End)) (rw e r
 pub type-there : (t : CoreType) (more : List Token) (g : Forest) → begins_at (Call any_type) (at g (type_tokens t more)) ≡ true
 type-there t more g = call-there any_type g (type_tokens t more) (type-is-there t End more)
 
-pub of_type-reads : (g : Forest) (c : Bool) (t : CoreType) (more : List Token) → NoColon more → NoAngle more
+pub bare-type-there : (t : CoreType) (more : List Token) (g : Forest) → begins_at (Call type_no_bounds) (at g (type_tokens t more)) ≡ true
+bare-type-there t more g = call-there type_no_bounds g (type_tokens t more) (bare-type-is-there t End more)
+
+pub of_type-reads : (g : Forest) (c : Bool) (t : CoreType) (more : List Token) → NoColon more → NoAngle more → OfProfile more
     → reads of_type (at g (of_kind COLON c ∷ type_tokens t more)) ≡ at ((g then Leaf COLON 1 End) then type_tree t End) more
-of_type-reads g c t more h k = colon-reads g c _ _ more (type-there t more) (type-reads t more h k)
+of_type-reads g c t more h k o = colon-reads g c _ _ more (type-there t more) (type-reads t more h k o)

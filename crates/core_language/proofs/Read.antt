@@ -38,7 +38,7 @@ file-of is w = file-entry (items_tokens is []) (file_tree is) (file-reads is w)
 
 type-of : (t : CoreType) → entry whole any_type (type_tokens t []) ≡ type_tree t End
 unfolding ahead
-type-of t = type-entry (type_tokens t []) (type_tree t End) (type-there t [] End) (type-reads t [] refl refl)
+type-of t = type-entry (type_tokens t []) (type_tree t End) (type-there t [] End) (type-reads t [] refl refl refl)
 
 closed-end : Closed []
 unfolding table

@@ -370,14 +370,14 @@ mutual
       ∙ let-bare j _ _ _ k more (pattern-is-there (NamePattern m n) (BeforeEnd k more)) (pattern-reads (NamePattern m n) (BeforeEnd k more))
   statement-reads (Let j (NamePattern m n) (AnnotatedBy c t) NoInitializer k) more i =
       whole-means statement false _ ∙ let-picks j _
-      ∙ let-typed j _ _ _ c (type_tokens t (of_kind SEMICOLON k ∷ more)) (type_kind t) (inside_type t) k more (pattern-is-there (NamePattern m n) (typed c t _)) (pattern-reads (NamePattern m n) (typed c t _)) (type-there t _) (type-reads t _ refl refl)
+      ∙ let-typed j _ _ _ c (type_tokens t (of_kind SEMICOLON k ∷ more)) (type_kind t) (inside_type t) k more (pattern-is-there (NamePattern m n) (typed c t _)) (pattern-reads (NamePattern m n) (typed c t _)) (type-there t _) (type-reads t _ refl refl refl)
   statement-reads (Let j (NamePattern m n) NoAnnotation (InitializedBy d e) k) more i =
       whole-means statement false _ ∙ let-picks j _
       ∙ let-valued j _ _ _ d (expression_tokens e (of_kind SEMICOLON k ∷ more)) (expression_kind e) (inside_expression e) k more (pattern-is-there (NamePattern m n) (BeforeValue d _)) (pattern-reads (NamePattern m n) (BeforeValue d _)) (expression-is-there e _) (core-expression-reads e i _ (closed-semi k more))
   statement-reads (Let j (NamePattern m n) (AnnotatedBy c t) (InitializedBy d e) k) more i =
       whole-means statement false _ ∙ let-picks j _
       ∙ let-both j _ _ _ c (type_tokens t (of_kind EQ d ∷ expression_tokens e (of_kind SEMICOLON k ∷ more))) (type_kind t) (inside_type t) d (expression_tokens e (of_kind SEMICOLON k ∷ more)) (expression_kind e) (inside_expression e) k more
-      (pattern-is-there (NamePattern m n) (typed c t _)) (pattern-reads (NamePattern m n) (typed c t _)) (type-there t _) (type-reads t _ refl refl) (expression-is-there e _) (core-expression-reads e i _ (closed-semi k more))
+      (pattern-is-there (NamePattern m n) (typed c t _)) (pattern-reads (NamePattern m n) (typed c t _)) (type-there t _) (type-reads t _ refl refl refl) (expression-is-there e _) (core-expression-reads e i _ (closed-semi k more))
   statement-reads (Run e k) more i = run-reads e (of_kind SEMICOLON k ∷ more) _ i (closed-semi k more) (end-semi (expression_kind e) (inside_expression e) k more)
   statement-reads (Defer j (Braces k ss m)) more i =
       whole-means statement false _ ∙ defer-picks j _

@@ -87,7 +87,7 @@ abbrev mutual
 abbrev pub expression_tree : Expression → Forest → Forest
 expression_tree e f = Node (expression_kind e) (inside_expression e) f
 
--- How tightly an expression holds together: an operation as its operator's power says, an assignment least of all.
+-- The binding power of an expression: an operation has its operator's, an assignment has the least.
 abbrev pub level : Expression → ℕ
 level (Literal l literal) = 15
 level (Named p) = 15
@@ -120,7 +120,7 @@ abbrev pub is_bit_and : Operator → Bool
 is_bit_and BitAnd = true
 is_bit_and o = false
 
--- The conditions on an expression: operands hold together as tightly as the place asks, the callee is no field access, and the
+-- The conditions on an expression: operands bind at least as tightly as their place asks, the callee is no field access, and the
 -- operator `&` does not touch an `&` after it.
 abbrev mutual
   pub IsWellFormed : Expression → Type 0

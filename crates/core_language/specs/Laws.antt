@@ -21,11 +21,11 @@ is_clean (Float ends_in_dot receiver f) = false
 abbrev pub CoreFilesAreRead : Type 0
 CoreFilesAreRead = (tokens : List Token) (tree : Forest) → IsCoreFile tokens tree → entry whole source_file tokens ≡ tree
 
--- The same of a text that is asked to be a type.
+-- Where the input is a core type, the grammar's entry for types gives its tree.
 abbrev pub CoreTypesAreRead : Type 0
 CoreTypesAreRead = (tokens : List Token) (tree : Forest) → IsCoreType tokens tree → entry whole any_type tokens ≡ tree
 
--- The same of a text that is asked to be an expression.
+-- Where the input is a core expression, the grammar's entry for expressions gives its tree.
 abbrev pub CoreExpressionsAreRead : Type 0
 CoreExpressionsAreRead = (tokens : List Token) (tree : Forest) → IsCoreExpression tokens tree → entry whole expression tokens ≡ tree
 
@@ -70,15 +70,15 @@ CoreTypesAreClean = (tokens : List Token) (tree : Forest) → IsCoreType tokens 
 abbrev pub CoreExpressionsAreClean : Type 0
 CoreExpressionsAreClean = (tokens : List Token) (tree : Forest) → IsCoreExpression tokens tree → is_clean tree ≡ true
 
--- The leaves of a core tree, parted by white space, are a core list of that tree, whatever its floats are.
+-- The leaves of a core file's tree, with whitespace between them, are a core list of that tree, whatever its floats are.
 abbrev pub SpacedCoreFilesAreCore : Type 0
 SpacedCoreFilesAreCore = (tokens : List Token) (tree : Forest) (floats : List Bool) → IsCoreFile tokens tree → IsCoreFile (spaced tree floats) tree
 
--- The same of a core type's tree.
+-- The leaves of a core type's tree, with whitespace between them, are a core list of that tree, whatever its floats are.
 abbrev pub SpacedCoreTypesAreCore : Type 0
 SpacedCoreTypesAreCore = (tokens : List Token) (tree : Forest) (floats : List Bool) → IsCoreType tokens tree → IsCoreType (spaced tree floats) tree
 
--- The same of a core expression's tree.
+-- The leaves of a core expression's tree, with whitespace between them, are a core list of that tree, whatever its floats are.
 abbrev pub SpacedCoreExpressionsAreCore : Type 0
 SpacedCoreExpressionsAreCore =
     (tokens : List Token) (tree : Forest) (floats : List Bool)

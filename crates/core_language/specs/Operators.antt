@@ -63,7 +63,7 @@ pub data Operator : Type 0 where
   Divide : Operator
   Remainder : Operator
 
--- how tightly it holds its operands together
+-- its binding power
 abbrev pub power : Operator → ℕ
 power Pipe = 2
 power LogicalOr = 4
@@ -134,7 +134,7 @@ abbrev pub operator_tokens : Operator → Bool → List Token → List Token
 operator_tokens Pipe last more = pipe_tokens last more
 operator_tokens o last more = joint_tokens (operator_characters o) last more
 
--- how many tokens its leaf stands over: one a character
+-- how many tokens its leaf covers: one a character
 abbrev pub operator_count : Operator → ℕ
 operator_count o = length (operator_characters o)
 
@@ -188,7 +188,7 @@ assigner_kind AssignShiftRight = SHREQ
 abbrev pub assigner_tokens : Assigner → Bool → List Token → List Token
 assigner_tokens o last more = joint_tokens (assigner_characters o) last more
 
--- how many tokens its leaf stands over: one a character
+-- how many tokens its leaf covers: one a character
 abbrev pub assigner_count : Assigner → ℕ
 assigner_count o = length (assigner_characters o)
 

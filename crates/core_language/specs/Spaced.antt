@@ -1,4 +1,4 @@
--- The leaves of a tree as the input tokens of a text in which white space parts them: no token touches the next, but inside
+-- The leaves of a tree as the input tokens of a text with whitespace between them: no token touches the next, but inside
 -- punctuation of several characters. Of a float's token the input has, in place of this, whether its text does not end in a dot;
 -- a tree does not know that, so it is given.
 use Rattle.std.specs.Prelude.{ℕ, ◌==◌, Bool, false, not, List, [], ◌∷◌, if◌then◌else◌}
@@ -52,7 +52,7 @@ leaf_tokens kind more =
     let other = joint_tokens (characters_in composites kind) false more in
     if kind == IDENT then name else if kind == PIPE_GT then pipe else other
 
--- the first of these; a float of which nothing is told does not touch the next token
+-- the first of these; a float that has none does not touch the next token
 abbrev pub first_float : List Bool → Bool
 first_float [] = false
 first_float (float ∷ floats) = float

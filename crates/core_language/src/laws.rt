@@ -31,7 +31,7 @@ pub fn core_trees_are_clean()
     ensures expressions { CoreExpressionsAreClean }
 {}
 
-/// The leaves of a core tree, parted by white space, are a core list of that tree, whatever its
+/// The leaves of a core tree, with whitespace between them, are a core list of that tree, whatever its
 /// floats are.
 pub fn spaced_core_trees_are_core()
     ensures files { SpacedCoreFilesAreCore }

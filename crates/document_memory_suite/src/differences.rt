@@ -1,7 +1,8 @@
-//! Differences of rewritten trees from their readings; indents of lines.
+//! Differences of rewritten trees from their readings; indents of lines; inputs of the whole language.
 use crate::documents::{Changes, range, recorded};
 use anyhow::bail;
-use parser_input::{Edition, SyntaxKind};
+use parser_input::{Edition, LexedStr, SyntaxKind};
+use ra_parser::Grammar;
 use rust_document::Document;
 use rust_source::Source;
 use std::alloc::Global;
@@ -39,4 +40,12 @@ pub(crate) fn line_indent(alloc: Global) -> anyhow::Result<String> {
         Some(function) => Ok(source.line_indent(&function)?),
         None => bail!("not found"),
     }
+}
+
+/// Returns the number of tokens of a text that is read as the whole language.
+pub(crate) fn whole_input(alloc: Global) -> anyhow::Result<String> {
+    let lexed = LexedStr::new(alloc, Edition::Edition2021, "struct S;")?;
+    let input = Grammar::Whole.input(alloc, &lexed)?;
+    let count = input.len();
+    Ok(format!(in alloc; "{count}")?)
 }

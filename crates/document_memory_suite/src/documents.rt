@@ -1,5 +1,5 @@
 //! Documents that are opened, edited and committed.
-use crate::differences::{difference, line_indent};
+use crate::differences::{difference, line_indent, whole_input};
 use anyhow::bail;
 use memory_table::row::{Ask, Row};
 use memory_table::shown::all_shown;
@@ -30,6 +30,7 @@ pub(crate) enum DocumentCall {
     Find,
     Editor,
     LineIndent,
+    WholeInput,
 }
 
 /// The changes of one commit.
@@ -348,6 +349,7 @@ impl Ask for DocumentCall {
         match self {
             DocumentCall::Payload => payload_read(alloc),
             DocumentCall::LineIndent => line_indent(alloc),
+            DocumentCall::WholeInput => whole_input(alloc),
             DocumentCall::Open(edition, text) => {
                 let document = open(alloc, (edition, text), &mut ids, refused)?;
                 Ok(state(alloc, &document)?)
@@ -493,4 +495,5 @@ pub(crate) const ROWS: &[Row<DocumentCall>] = &[
         DocumentCall::LineIndent,
         " \t",
     ),
+    ("ra_parser::Grammar::input", DocumentCall::WholeInput, "3"),
 ];

@@ -3,10 +3,14 @@ use anyhow::bail;
 use document_requests::apply::apply;
 use document_requests::run::run;
 use document_requests::serve::{Outcome, serve_bytes};
-use document_requests::{Change, Command, Entry, Op, Refusal, Reply, Target, Watched};
+use document_requests::{
+    Change, Command, CommitRule, Entry, Op, Refusal, Reply, Target, Watched, answer_by,
+    commands_of, serve_lines,
+};
 use memory_table::row::{Ask, Row};
 use parser_input::{Edition, SyntaxKind};
 use rust_document::Document;
+use serde_json::Value;
 use std::alloc::{AllocError, Global};
 use syntax_tree::TreeIds;
 
@@ -14,9 +18,16 @@ use syntax_tree::TreeIds;
 #[derive(Clone, Copy)]
 pub(crate) enum RequestCall {
     Apply,
+    AnswerBy,
+    CommandsOf,
     Serve,
+    ServeLines,
     Run,
 }
+
+/// The answer to the request on a line.
+const LINE: &str = "{\"status\":0,\"replies\":[{\"changed\":[[7,10]],\"ok\":\"commit\"},\
+    {\"err\":\"Unfaithful\"}],\"text\":\"struct Tee;\"}\n";
 
 /// Renames a struct, and then has a comment swallow it.
 const REQUEST: &str =
@@ -90,6 +101,61 @@ fn applied(alloc: Global, refused: &mut u32) -> anyhow::Result<String> {
     told(alloc, &document, &replies)
 }
 
+/// Answers a command, a second time if that runs out of memory: the document is as before then.
+fn answered_by(
+    alloc: Global,
+    document: &mut Document,
+    command: &Command<'_>,
+    ids: &mut TreeIds,
+    refused: &mut u32,
+) -> anyhow::Result<Reply> {
+    let before = format!(in alloc; "{}", document.text())?;
+    let rule = CommitRule::WithoutMessages;
+    match answer_by(alloc, rule, document, command, ids) {
+        Ok(reply) => Ok(reply),
+        Err(AllocError) => {
+            *refused = refused.saturating_add(1);
+            if document.text() != before.as_str() {
+                bail!("the document is not as before");
+            }
+            Ok(answer_by(alloc, rule, document, command, ids)?)
+        }
+    }
+}
+
+/// Answers all commands, one by one.
+fn all_answered_by(alloc: Global, refused: &mut u32) -> anyhow::Result<String> {
+    let mut ids = TreeIds::new();
+    let mut document = Document::open(alloc, Edition::Edition2021, "struct S;", &mut ids)?;
+    let commands = commands(alloc)?;
+    let mut replies = Vec::new(alloc);
+    for command in commands.as_slice() {
+        let reply = answered_by(alloc, &mut document, command, &mut ids, refused)?;
+        replies.push(reply)?;
+    }
+    told(alloc, &document, &replies)
+}
+
+/// How many commands a list in JSON has.
+fn commands_read(alloc: Global) -> anyhow::Result<String> {
+    let value = Value::from_str(alloc, "[{\"do\":\"tree\"},{\"do\":\"errors\"}]")?;
+    match commands_of(alloc, &value)? {
+        Some(commands) => Ok(format!(in alloc; "{}", commands.len())?),
+        None => bail!("no commands"),
+    }
+}
+
+/// The answer to the request on a line. The output has its room before.
+fn lines_answered(alloc: Global) -> anyhow::Result<String> {
+    let mut output = Vec::with_capacity(alloc, 256)?;
+    let mut writer = Watched::new(&mut output);
+    serve_lines(alloc, REQUEST.as_bytes(), &mut writer)?;
+    match str::from_utf8(&output) {
+        Ok(text) => Ok(format!(in alloc; "{text}")?),
+        Err(_) => bail!("no text"),
+    }
+}
+
 /// The text of a document, and what its commands were answered.
 fn told(alloc: Global, document: &Document, replies: &[Reply]) -> anyhow::Result<String> {
     let mut out = format!(in alloc; "{}", document.text())?;
@@ -132,7 +198,10 @@ impl Ask for RequestCall {
     fn answer(self, alloc: Global, refused: &mut u32) -> anyhow::Result<String> {
         match self {
             RequestCall::Apply => applied(alloc, refused),
+            RequestCall::AnswerBy => all_answered_by(alloc, refused),
+            RequestCall::CommandsOf => commands_read(alloc),
             RequestCall::Serve => served(alloc),
+            RequestCall::ServeLines => lines_answered(alloc),
             RequestCall::Run => answered(alloc),
         }
     }
@@ -148,6 +217,21 @@ pub(crate) const ROWS: &[Row<RequestCall>] = &[
         "document_requests::serve::serve_bytes",
         RequestCall::Serve,
         "struct Tee; 7..10 Unfaithful",
+    ),
+    (
+        "document_requests::answer_by",
+        RequestCall::AnswerBy,
+        "struct Tee; 7..10 Unfaithful",
+    ),
+    (
+        "document_requests::commands_of",
+        RequestCall::CommandsOf,
+        "2",
+    ),
+    (
+        "document_requests::serve_lines",
+        RequestCall::ServeLines,
+        LINE,
     ),
     ("document_requests::run::run", RequestCall::Run, OUTPUT),
 ];

@@ -23,3 +23,7 @@ reply_no_float (Changed ranges) = rw (ranges_no_float ranges) refl
 reply_no_float (Tree lines) = rw (lines_no_float lines) refl
 reply_no_float (Errors messages) = rw (messages_no_float messages) refl
 reply_no_float (Refused refusal) = refl
+
+pub replies_no_float : (rs : List Reply) → items_have_float (items_of (map reply_data rs)) ≡ false
+replies_no_float [] = refl
+replies_no_float (r ∷ rs) = rw (reply_no_float r) (replies_no_float rs)

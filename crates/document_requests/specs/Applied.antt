@@ -3,6 +3,8 @@ use Rattle.std.specs.Prelude.{◌≡◌, ◌<◌, ◌≤◌, ℕ, ◌+◌, List,
 use Rattle.rust_document.specs.Step.{State}
 use Rattle.rust_document.specs.declared.error.CommitError.{CommitError}
 use Rattle.rust_document.specs.declared.error.CommitError.TheVariants as commits
+use Rattle.rust_document.specs.declared.error.WithoutMessagesError.{WithoutMessagesError}
+use Rattle.rust_document.specs.declared.error.WithoutMessagesError.TheVariants as cleans
 use Rattle.rust_document.specs.declared.error.EditError.{EditError}
 use Rattle.rust_document.specs.declared.error.EditError.TheVariants as edits
 use Rattle.rust_document.specs.declared.error.PayloadError.{PayloadError}
@@ -82,3 +84,7 @@ stop_of_commit commits.TooLong = Refused refusals.TooLong
 stop_of_commit commits.Unfaithful = Refused refusals.Unfaithful
 stop_of_commit commits.NoTreeNumber = Refused refusals.NoTreeNumber
 stop_of_commit commits.NoMemory = NoMemory
+
+abbrev pub stop_of_clean_commit : WithoutMessagesError → Stop
+stop_of_clean_commit cleans.Messages = Refused refusals.Messages
+stop_of_clean_commit (cleans.Refused error) = stop_of_commit error

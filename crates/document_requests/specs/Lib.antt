@@ -12,3 +12,6 @@ pub mod Session
 pub mod Applied
 pub mod Output
 pub mod Outcome
+pub mod LineAnswers
+pub mod Serving
+pub mod Rules

@@ -1,11 +1,13 @@
 -- What becomes of a request in code.
 use Rattle.std.specs.Prelude.{map}
 use Rattle.document_requests.specs.Answered.{reply}
-use Rattle.document_requests.specs.Output.{Output, not_run, ended}
+use Rattle.document_requests.specs.Output.{Output, Ran, Rejected, Completed, output_of}
 use Rattle.document_requests.specs.declared.serve.Outcome.{Outcome}
 use Rattle.document_requests.specs.declared.serve.Outcome.TheVariants.{NotRun, Run}
 
--- the number of the next tree plays no part in what is written
+abbrev pub ran_of : Outcome → Ran
+ran_of (NotRun refusal) = Rejected refusal
+ran_of (Run document replies) = Completed (map reply replies.items) document.text
+
 abbrev pub output : Outcome → Output
-output (NotRun refusal) = not_run refusal
-output (Run document replies) = ended (record { replies = map reply replies.items; after = record { document = document; next = 0 } })
+output o = output_of (ran_of o)

@@ -7,7 +7,7 @@ use Rattle.serde_json.specs.Written.{has_float}
 use Rattle.document_requests.specs.Floats.{writes_float}
 use Rattle.parser_input.specs.declared.edition.Edition.{Edition}
 use Rattle.rust_document.specs.Step.{MAX_TEXT}
-use Rattle.document_requests.specs.Reply.{Refused, line, lines}
+use Rattle.document_requests.specs.Reply.{Reply, Refused, line, lines}
 use Rattle.document_requests.specs.Request.{Request, request_of}
 use Rattle.document_requests.specs.Session.{Session, Run, run}
 use Rattle.document_requests.specs.declared.reply.Refusal.{Refusal}
@@ -17,37 +17,46 @@ pub record Output : Type 0 where
   pub written : List ℕ
   pub status : ℕ
 
--- a request that is not run: one line
-abbrev pub not_run : Refusal → Output
-not_run refusal = record { written = line (Refused refusal); status = 1 }
+-- The result of a request: why it is not run; or the replies to its commands, and the text after them.
+pub data Ran : Type 0 where
+  Rejected : Refusal → Ran
+  Completed : List Reply → List ℕ → Ran
 
--- a request that was run: a line for each command, and the text as it is then
-abbrev pub ended : Run → Output
-ended r = record { written = lines r.replies ++ r.after.document.text; status = 0 }
+-- one line for a request that is not run; else a line for each command, and the text
+abbrev pub output_of : Ran → Output
+output_of (Rejected refusal) = record { written = line (Refused refusal); status = 1 }
+output_of (Completed replies text) = record { written = lines replies ++ text; status = 0 }
+
+abbrev pub ended : Run → Ran
+ended r = Completed r.replies r.after.document.text
 
 -- The first tree has the number 1.
 abbrev pub first_session : Edition → List ℕ → Session
 first_session edition text = record { document = record { edition = edition; text = text; number = 1 }; next = 2 }
 
-abbrev pub served : Request → Output
+abbrev pub served : Request → Ran
 served r =
-    if nat_lt MAX_TEXT (length r.text) then not_run refusals.TooLong
+    if nat_lt MAX_TEXT (length r.text) then Rejected refusals.TooLong
     else ended (run r.commands (first_session r.edition r.text))
 
 -- a value that is a request
-abbrev pub served_if_any : Option Request → Output
-served_if_any None = not_run refusals.Request
+abbrev pub served_if_any : Option Request → Ran
+served_if_any None = Rejected refusals.Request
 served_if_any (Some r) = served r
 
 -- A value that is written with a number with a point or an exponent is refused before its shape is looked at. (`-0` and whole numbers
 -- past 64 bits are read as floats too; they are no whole numbers, and where nobody looks at them they change nothing.)
-abbrev pub of_value : List ℕ → Data → Output
-of_value text d = if has_float d && writes_float text then not_run refusals.Float else served_if_any (request_of d)
+abbrev pub of_value : List ℕ → Data → Ran
+of_value text d = if has_float d && writes_float text then Rejected refusals.Float else served_if_any (request_of d)
 
-abbrev pub of_value_if_any : List ℕ → Option Data → Output
-of_value_if_any text None = not_run refusals.Request
+abbrev pub of_value_if_any : List ℕ → Option Data → Ran
+of_value_if_any text None = Rejected refusals.Request
 of_value_if_any text (Some d) = of_value text d
 
--- what is written for these bytes: they are to be UTF-8, JSON, and of a request's shape
+-- the result of these bytes: they are to be UTF-8, JSON, and of a request's shape
+abbrev pub ran : List ℕ → Ran
+ran bytes = if is_utf8 bytes then of_value_if_any bytes (read bytes) else Rejected refusals.Request
+
+-- what is written for these bytes
 abbrev pub replies : List ℕ → Output
-replies bytes = if is_utf8 bytes then of_value_if_any bytes (read bytes) else not_run refusals.Request
+replies bytes = output_of (ran bytes)

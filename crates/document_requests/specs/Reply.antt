@@ -5,7 +5,7 @@ use Rattle.serde_json.specs.Data.{Data, number, unsigned, string, array, object,
 use Rattle.serde_json.specs.View.{items_of}
 use Rattle.serde_json.specs.Written.{compact_text}
 use Rattle.document_requests.specs.declared.reply.Refusal.{Refusal}
-use Rattle.document_requests.specs.declared.reply.Refusal.TheVariants.{Request, Float, Range, TooLong, NoTarget, Payload, NoParent, BadTarget, Intersecting, MissingMapping, Unfaithful, NoTreeNumber}
+use Rattle.document_requests.specs.declared.reply.Refusal.TheVariants.{Request, Float, Range, TooLong, NoTarget, Payload, NoParent, BadTarget, Intersecting, MissingMapping, Unfaithful, NoTreeNumber, Messages}
 
 -- an edit was made; the ranges of the new text that a commit put in; the tree's lines; messages, each with its place; why nothing was
 -- done
@@ -29,6 +29,7 @@ refusal_name Intersecting = codes "Intersecting"
 refusal_name MissingMapping = codes "MissingMapping"
 refusal_name Unfaithful = codes "Unfaithful"
 refusal_name NoTreeNumber = codes "NoTreeNumber"
+refusal_name Messages = codes "Messages"
 
 abbrev pub range_data : ℕ × ℕ → Data
 range_data range = array (item (number (unsigned range.0)) (item (number (unsigned range.1)) no_items))

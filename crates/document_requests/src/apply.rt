@@ -165,7 +165,7 @@ fn prepare(
 }
 
 /// Records the changes of a commit in order, up to the first that is refused.
-fn prepare_all(
+pub(crate) fn prepare_all(
     alloc: Global,
     document: &Document,
     editor: &mut SyntaxEditor,
@@ -280,7 +280,7 @@ fn done(
 }
 
 /// Does a command, and gives its answer.
-fn answer(
+pub(crate) fn answer(
     alloc: Global,
     document: &mut Document,
     command: &Command<'_>,

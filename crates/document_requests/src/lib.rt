@@ -4,6 +4,7 @@
 //! `run` reads a request as JSON from any reader, and writes its answer to any writer.
 #![tactic(auto)]
 
+mod answer_line;
 pub mod apply;
 mod device;
 pub mod fault;
@@ -12,6 +13,8 @@ mod lines;
 mod print;
 pub mod reply;
 pub mod request;
+mod request_lines;
+mod rule;
 pub mod run;
 pub mod serve;
 mod shape;
@@ -21,4 +24,7 @@ pub mod watched;
 pub use fault::Fault;
 pub use reply::{Refusal, Reply};
 pub use request::{Change, Command, Entry, Op, Request, Target};
+pub use request_lines::serve_lines;
+pub use rule::{CommitRule, answer_by};
+pub use shape::commands_of;
 pub use watched::Watched;

@@ -1,6 +1,6 @@
 //! Replies as lines of JSON.
 ghost use Rattle.std.specs.Prelude.{◌≡◌, ◌++◌, map, string_bytes, IfOk};
-ghost use Rattle.serde_json.specs.View.{view, items_view};
+ghost use Rattle.serde_json.specs.View.{view, items_of, items_view};
 ghost use Rattle.rust_document.specs.Seen.{message_of_error};
 ghost use Rattle.document_requests.specs.Messages.{worded};
 ghost use Rattle.document_requests.specs.Answered.{ends_of, reply as answered};
@@ -98,6 +98,18 @@ fn reply_value(alloc: Global, reply: &Reply) -> Result<Value, AllocError>
         Reply::Errors { list } => errors_value(alloc, list),
         Reply::Refused(refusal) => refusal_value(alloc, *refusal),
     }
+}
+
+/// Returns the values of replies.
+pub fn reply_values(alloc: Global, replies: &[Reply]) -> Result<Vec<Value>, AllocError>
+    ensures { IfOk result (λ values. items_view values.items
+        ≡ items_of (map reply_data (map answered replies.now))) }
+{
+    let mut values = Vec::with_capacity(alloc, replies.len())?;
+    for reply in replies {
+        values.push(reply_value(alloc, reply)?)?;
+    }
+    Ok(values)
 }
 
 /// The line of a reply, with its line feed.

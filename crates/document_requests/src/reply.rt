@@ -45,6 +45,8 @@ pub enum Refusal {
     Unfaithful,
     /// Each tree number was given.
     NoTreeNumber,
+    /// The present or the new text has messages, and the commit is to leave none.
+    Messages,
 }
 
 impl Refusal {
@@ -68,6 +70,7 @@ impl Refusal {
             Refusal::MissingMapping => "MissingMapping",
             Refusal::Unfaithful => "Unfaithful",
             Refusal::NoTreeNumber => "NoTreeNumber",
+            Refusal::Messages => "Messages",
         }
     }
 }

@@ -1,8 +1,8 @@
 //! A request's bytes, and what becomes of them.
 ghost use Rattle.std.specs.Prelude.{◌≡◌, map, option_map, IfOk};
 ghost use Rattle.document_requests.specs.Asked.{request as request_asked};
-ghost use Rattle.document_requests.specs.Outcome.{output};
-ghost use Rattle.document_requests.specs.Output.{of_value, replies, served};
+ghost use Rattle.document_requests.specs.Outcome.{output, ran_of};
+ghost use Rattle.document_requests.specs.Output.{of_value, ran, replies, served};
 ghost use Rattle.serde_json.specs.View.{view};
 
 use crate::apply::apply;
@@ -29,7 +29,7 @@ pub enum Outcome {
 
 /// Runs a request.
 fn serve(alloc: Global, request: &Request<'_>) -> Result<Outcome, AllocError>
-    ensures { IfOk result (λ outcome. output outcome ≡ served (request_asked request.now)) }
+    ensures { IfOk result (λ outcome. ran_of outcome ≡ served (request_asked request.now)) }
 {
     let mut ids = TreeIds::new();
     let mut document = match Document::open(alloc, request.edition, request.text, &mut ids) {
@@ -51,7 +51,7 @@ fn serve(alloc: Global, request: &Request<'_>) -> Result<Outcome, AllocError>
 
 /// Runs the request that a text holds as a value, if it holds one.
 fn serve_value(alloc: Global, text: &str, value: &Value) -> Result<Outcome, AllocError>
-    ensures { IfOk result (λ outcome. output outcome ≡ of_value text.now (view value.now)) }
+    ensures { IfOk result (λ outcome. ran_of outcome ≡ of_value text.now (view value.now)) }
 {
     if has_float(value) && writes_float(text) {
         return Ok(Outcome::NotRun(Refusal::Float));
@@ -64,7 +64,8 @@ fn serve_value(alloc: Global, text: &str, value: &Value) -> Result<Outcome, Allo
 
 /// Runs the request that is in these bytes, if there is one.
 pub fn serve_bytes(alloc: Global, bytes: &[u8]) -> Result<Outcome, AllocError>
-    ensures { IfOk result (λ outcome. output outcome ≡ replies bytes.now) }
+    ensures output { IfOk result (λ outcome. output outcome ≡ replies bytes.now) }
+    ensures ran { IfOk result (λ outcome. ran_of outcome ≡ ran bytes.now) }
 {
     let Ok(text) = str::from_utf8(bytes) else {
         return Ok(Outcome::NotRun(Refusal::Request));

@@ -1,6 +1,6 @@
 //! The request that a JSON value holds.
-ghost use Rattle.std.specs.Prelude.{◌≡◌, map, option_map, IfOk};
-ghost use Rattle.serde_json.specs.Find.{as_str};
+ghost use Rattle.std.specs.Prelude.{◌≡◌, map, option_and_then, option_map, IfOk};
+ghost use Rattle.serde_json.specs.Find.{as_array, as_str};
 ghost use Rattle.serde_json.specs.View.{view, items_view};
 ghost use Rattle.parser_input.specs.Kind.{raw_of};
 ghost use Rattle.document_requests.specs.Words.{edition_named, op_named, entry_named, is_of_whole_language, kind_named};
@@ -185,6 +185,17 @@ fn commands_in(alloc: Global, values: &[Value]) -> Result<Option<Vec<Command<'_>
         commands.push(command)?;
     }
     Ok(Some(commands))
+}
+
+/// Returns the commands that a value is a list of; `None` if it is no list of commands.
+pub fn commands_of(alloc: Global, value: &Value) -> Result<Option<Vec<Command<'_>>>, AllocError>
+    ensures { IfOk result (λ found. option_map (λ commands. map command commands.items) found
+        ≡ option_and_then (all_in command_of) (as_array (view value.now))) }
+{
+    match value.as_array() {
+        Some(values) => commands_in(alloc, values),
+        None => Ok(None),
+    }
 }
 
 /// The request that a value is, if it is one; further members are not looked at.

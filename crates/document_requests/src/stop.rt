@@ -2,7 +2,7 @@
 ghost use Rattle.std.specs.Prelude.{◌≡◌};
 
 use crate::reply::Refusal;
-use rust_document::{CommitError, EditError, PayloadError, RecordError};
+use rust_document::{CommitError, EditError, PayloadError, RecordError, WithoutMessagesError};
 use std::alloc::AllocError;
 use syntax_tree::PositionError;
 
@@ -96,6 +96,19 @@ impl From<CommitError> for Stop {
             CommitError::Unfaithful => Stop::Refused(Refusal::Unfaithful),
             CommitError::NoTreeNumber => Stop::Refused(Refusal::NoTreeNumber),
             CommitError::NoMemory => Stop::NoMemory,
+        }
+    }
+}
+
+impl From<WithoutMessagesError> for Stop {
+    ghost use Rattle.document_requests.specs.Applied.{stop_of_clean_commit};
+
+    ghost from_gives = { λ error stop. stop ≡ stop_of_clean_commit error };
+
+    fn from(error: WithoutMessagesError) -> Stop {
+        match error {
+            WithoutMessagesError::Messages => Stop::Refused(Refusal::Messages),
+            WithoutMessagesError::Refused(error) => Stop::from(error),
         }
     }
 }

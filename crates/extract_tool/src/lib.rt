@@ -2,28 +2,33 @@
 #![tactic(auto)]
 
 ghost use Rattle.std.specs.Prelude.{◌≡◌, IfErr, IfOk};
-ghost use Rattle.extract_tool.specs.Extracts.{Answers};
+ghost use Rattle.extract_tool.specs.Extracts.{Answers, argument_of, is_argument};
 
-use rust_source::{Source, SourceError, SyntaxElement, SyntaxKind, SyntaxNode, TopEntryPoint};
+use rust_source::{
+    Source, SourceError, SyntaxElement, SyntaxKind, SyntaxNode, TopEntryPoint, ancestor_below,
+    is_of_kind,
+};
 use std::alloc::{AllocError, Global};
 
-/// What became of an extraction.
+/// The outcome of an extraction.
 #[derive(Clone, Copy, Debug, PartialEq, Eq)]
 pub enum Extraction {
     Done,
     /// There is no such argument in a statement.
     NoArgument,
-    /// The name is in the text already.
+    /// The name is an identifier of the text already.
     NameIsUsed,
 }
 
-/// Returns `true` if a node is a binary expression, and an argument.
-fn is_argument(node: &SyntaxNode) -> Result<bool, AllocError> {
-    if node.kind() != SyntaxKind::BIN_EXPR {
+/// Returns `true` if `node` is a binary expression and an argument.
+fn is_argument(node: &SyntaxNode) -> Result<bool, AllocError>
+    ensures { IfOk result (λ b. b ≡ is_argument node.now) }
+{
+    if !is_of_kind(node, SyntaxKind::BIN_EXPR) {
         return Ok(false);
     }
     match node.parent()? {
-        Some(parent) => Ok(parent.kind() == SyntaxKind::ARG_LIST),
+        Some(parent) => Ok(is_of_kind(&parent, SyntaxKind::ARG_LIST)),
         None => Ok(false),
     }
 }
@@ -33,67 +38,43 @@ fn argument(
     alloc: Global,
     root: &SyntaxNode,
     number: usize,
-) -> Result<Option<SyntaxNode>, AllocError> {
-    let mut before = 0usize;
-    for element in root.descendants_with_tokens(alloc)? {
-        if let SyntaxElement::Node(node) = element? {
-            if is_argument(&node)? {
-                if before == number {
-                    return Ok(Some(node));
-                }
-                before = before.saturating_add(1);
-            }
-        }
-    }
-    Ok(None)
-}
-
-/// Returns the child of a block's list that an expression is in.
-fn statement(expression: &SyntaxNode) -> Result<Option<SyntaxNode>, AllocError> {
-    let mut below = expression.clone()?;
-    for node in expression.ancestors()? {
+) -> Result<Option<SyntaxNode>, AllocError>
+    ensures { IfOk result (λ n. n ≡ argument_of root.now number) }
+{
+    let mut left = number;
+    for node in root.descendants(alloc)? {
         let node = node?;
-        if node.kind() == SyntaxKind::STMT_LIST {
-            return Ok(Some(below));
+        if is_argument(&node)? {
+            if left == 0 {
+                return Ok(Some(node));
+            }
+            left -= 1;
         }
-        below = node;
     }
     Ok(None)
-}
-
-/// Returns `true` if an identifier with this name is in a tree.
-fn is_used(alloc: Global, root: &SyntaxNode, name: &str) -> Result<bool, AllocError> {
-    for element in root.descendants_with_tokens(alloc)? {
-        if let SyntaxElement::Token(token) = element? {
-            if token.kind() == SyntaxKind::IDENT && token.text() == name {
-                return Ok(true);
-            }
-        }
-    }
-    Ok(false)
 }
 
 /// Replaces the argument of this number with `name`, and puts `let name = argument;` before its
-/// statement.
+/// statement, on a line of its own. Nothing else changes.
 ///
 /// # Errors
 ///
 /// As of the calls of [`Source`]. On error, the document is unchanged.
 pub fn extract(source: &mut Source, number: usize, name: &str) -> Result<Extraction, SourceError>
-    ensures answers { IfOk result (Answers source.old.document source.new.document) }
+    ensures answers { IfOk result (Answers source.old number name.now source.new.document) }
     ensures kept { IfErr result (λ _. source.new.document ≡ source.old.document) }
 {
     let alloc = source.alloc();
-    if is_used(alloc, source.root(), name)? {
+    if source.has_identifier(name) {
         return Ok(Extraction::NameIsUsed);
     }
     let Some(argument) = argument(alloc, source.root(), number)? else {
         return Ok(Extraction::NoArgument);
     };
-    let Some(statement) = statement(&argument)? else {
+    let Some(statement) = ancestor_below(&argument, SyntaxKind::STMT_LIST)? else {
         return Ok(Extraction::NoArgument);
     };
-    let text = format!(in alloc; "let {name} = {};", argument.cursor().text()?)?;
+    let text = format!(in alloc; "let {name} = {};", argument.cursor())?;
     let binding = SyntaxElement::Node(source.payload_statement(text.as_str())?);
     let path = source.payload_node(TopEntryPoint::Expr, SyntaxKind::PATH_EXPR, name)?;
     let path = SyntaxElement::Node(path);

@@ -1,11 +1,11 @@
--- Where patterns, their fields and parameters begin does not go by the mode.
+-- Where patterns, their fields, parameters, types and generic arguments begin does not go by the mode.
 use Rattle.std.proofs.Common.{Bool, false}
 use Rattle.parser_events.specs.View.{View}
 use Rattle.rust_grammar.specs.Expressions.{expressions}
 use Rattle.rust_grammar.specs.Items.{items}
 use Rattle.rust_grammar.specs.Meaning.{begins_below, look_of, sees}
 use Rattle.rust_grammar.specs.Notation.{any_of, is_longer, no_longer, longest, one_of, row}
-use Rattle.rust_grammar.specs.Paths.{paths}
+use Rattle.rust_grammar.specs.Paths.{paths, type_arg}
 use Rattle.rust_grammar.specs.Patterns.{patterns}
 use Rattle.rust_grammar.specs.Rule as rules
 use Rattle.rust_grammar.specs.Rule.{Call, begins, in_mode, anew, is_silent, passes, shift, there_at}
@@ -29,3 +29,19 @@ param-anywhere saw = record { at = λ s e. saw.at s e }
 pub pattern-mode : {c d b : Bool} {v : View} → Saw c (looks rules.pattern) v b → Saw d (looks rules.pattern) v b
 unfolding look_of begins_below whole rule items statements expressions patterns types paths there_at shift passes is_silent begins in_mode anew row one_of any_of no_longer longest is_longer sees
 pattern-mode saw = record { at = λ s e. saw.at s e }
+
+pub type-anywhere : {c b : Bool} {v : View} → Saw false (begins looks (Call rules.any_type)) v b → Saw c (looks rules.any_type) v b
+unfolding look_of begins_below whole rule items statements expressions patterns types paths there_at shift passes is_silent begins in_mode anew row one_of any_of no_longer longest is_longer sees
+type-anywhere saw = record { at = λ s e. saw.at s e }
+
+pub type-mode : {c b : Bool} {v : View} → Saw false (looks rules.any_type) v b → Saw c (looks rules.any_type) v b
+unfolding look_of begins_below whole rule items statements expressions patterns types paths there_at shift passes is_silent begins in_mode anew row one_of any_of no_longer longest is_longer sees
+type-mode saw = record { at = λ s e. saw.at s e }
+
+pub type-arg-anywhere : {c b : Bool} {v : View} → Saw false (begins looks type_arg) v b → Saw c (looks rules.any_type) v b
+unfolding look_of begins_below whole rule items statements expressions patterns types paths there_at shift passes is_silent begins in_mode anew row one_of any_of no_longer longest is_longer sees
+type-arg-anywhere saw = record { at = λ s e. saw.at s e }
+
+pub generic-arg-anywhere : {c b : Bool} {v : View} → Saw false (begins looks (Call rules.generic_arg)) v b → Saw c (looks rules.generic_arg) v b
+unfolding look_of begins_below whole rule items statements expressions patterns types paths there_at shift passes is_silent begins in_mode anew row one_of any_of no_longer longest is_longer sees
+generic-arg-anywhere saw = record { at = λ s e. saw.at s e }

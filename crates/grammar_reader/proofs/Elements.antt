@@ -75,6 +75,7 @@ module _ (list : ℕ) (r : Rule) (close : ℕ) {v : View} where
 
 pub said-element : (e : Element) → is_silent (element_of e) ≡ false
 unfolding is_silent
+said-element elements.Captured = refl
 said-element elements.ClosureParam = refl
 said-element elements.Expression = refl
 said-element elements.FieldValue = refl
@@ -86,10 +87,12 @@ said-element elements.PatternField = refl
 said-element elements.RecordField = refl
 said-element elements.TupleField = refl
 said-element elements.Type = refl
+said-element elements.TypeArg = refl
 said-element elements.Variant = refl
 
 pub sure-element : (e : Element) → passes (element_of e) ≡ false
 unfolding passes
+sure-element elements.Captured = refl
 sure-element elements.ClosureParam = refl
 sure-element elements.Expression = refl
 sure-element elements.FieldValue = refl
@@ -101,6 +104,7 @@ sure-element elements.PatternField = refl
 sure-element elements.RecordField = refl
 sure-element elements.TupleField = refl
 sure-element elements.Type = refl
+sure-element elements.TypeArg = refl
 sure-element elements.Variant = refl
 
 pub ends : (list : ℕ) (r : Rule) (close : ℕ) → EndsAtEnd false (list_turn list r close)
@@ -119,6 +123,7 @@ element-pays old mid new n few first cost fewer left little pays less = elim (ca
 ]
 
 pub few-looks-in : (e : Element) → looks_in e ≤ 600
+few-looks-in elements.Captured = omega arith
 few-looks-in elements.ClosureParam = omega arith
 few-looks-in elements.Expression = omega arith
 few-looks-in elements.FieldValue = omega arith
@@ -130,9 +135,11 @@ few-looks-in elements.PatternField = omega arith
 few-looks-in elements.RecordField = omega arith
 few-looks-in elements.TupleField = omega arith
 few-looks-in elements.Type = omega arith
+few-looks-in elements.TypeArg = omega arith
 few-looks-in elements.Variant = omega arith
 
-pub few-looks-before : (e : Element) → looks_before e ≤ 14
+pub few-looks-before : (e : Element) → looks_before e ≤ 30
+few-looks-before elements.Captured = omega arith
 few-looks-before elements.ClosureParam = omega arith
 few-looks-before elements.Expression = omega arith
 few-looks-before elements.FieldValue = omega arith
@@ -144,4 +151,5 @@ few-looks-before elements.PatternField = omega arith
 few-looks-before elements.RecordField = omega arith
 few-looks-before elements.TupleField = omega arith
 few-looks-before elements.Type = omega arith
+few-looks-before elements.TypeArg = omega arith
 few-looks-before elements.Variant = omega arith

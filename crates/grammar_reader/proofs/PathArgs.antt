@@ -58,7 +58,7 @@ unfolding look_of begins_below whole rule items statements expressions patterns 
 paths-begin modes.Expr = refl
 paths-begin modes.Type = refl
 
--- what stands in the place of nothing at the end of two parts
+-- a part that replaces nothing at the end of two parts
 pub reads-in-place : {c : Bool} {a b d : Rule} {old mid new : View} → Reads c (Then a (Then b Nothing)) old mid → Reads c d mid new → Reads c (Then a (Then b d)) old new
 unfolding read
 reads-in-place p q = record { does = does-as (λ s e. refl) (does-then p.does q.does) }

@@ -21,9 +21,9 @@ use Rattle.rust_grammar.specs.Meaning.{Reading, ahead, fresh, look_of, read, say
 use Rattle.rust_grammar.specs.Whole.{rule, whole}
 use Rattle.rust_grammar.specs.Words.{'ident', 'l_curly', '!'}
 use Rattle.rust_productions.specs.Looks.{tokens}
-use Rattle.rust_productions.specs.Reads.{looks, Closes, Reads, Saw}
+use Rattle.rust_productions.specs.Reads.{looks, Closes, Does, Gives, Reads, Saw}
 use Rattle.rust_productions.specs.Stands.{left}
-use Rattle.rust_productions.proofs.ByHand.{does-as}
+use Rattle.rust_productions.proofs.ByHand.{does-as, does-then}
 use Rattle.rust_productions.proofs.Facts.{Fact, Answers, Begins, Known, Right, is_start, starts}
 use Rattle.rust_productions.proofs.Seen.{ends-at-end, saw-left, saw-right}
 
@@ -56,6 +56,10 @@ unfolding read begins
 reads-expected c {d} {a} {m} p = record {
   does = does-as (λ s e. ap (λ (b : Bool). if b then reads d a s else say m s) (sym (mode-seen c d s (begins (look_of whole) a)))) p.does;
 }
+
+-- a production that is read after a look
+pub gives-look : {x : Production} {c : Bool} {old mid new : View} → Does (λ (s : Reading). s) old mid → Gives x c mid new → Gives x c old new
+gives-look p q = record { does = does-then p q.does }
 
 -- after a node was closed
 pub saw-closed : {c b : Bool} {l : Look} {kind : ℕ} {old new : View} → Closes kind old new → Saw c l old b → Saw c l new b

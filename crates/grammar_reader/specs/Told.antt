@@ -1,11 +1,12 @@
--- What a function that reads several things is told to read.
+-- The argument of a function that reads one of several things.
 use Rattle.std.specs.Prelude.{ℕ, [], ◌∷◌}
-use Rattle.rust_grammar.specs.Calls.{Attribute, GenericArgs, Item}
-use Rattle.rust_grammar.specs.Notation.{◌or◌, ⁅◌⁆, ◌before◌, ◌not_before◌, list_element, until}
+use Rattle.rust_grammar.specs.Calls.{Attribute, Item}
+use Rattle.rust_grammar.specs.Notation.{◌or◌, ◌before◌, ◌not_before◌, list_element, until}
 use Rattle.rust_grammar.specs.Rule as rules
 use Rattle.rust_grammar.specs.Rule.{Look, Either, Rule, Call, Unless, When}
 use Rattle.rust_grammar.specs.Statements.{Listing, after_block, in_block, in_macro}
 use Rattle.rust_grammar.specs.Words.{one, '::', '<', '=', '#', '!'}
+use Rattle.rust_grammar.specs.Paths.{captured, expr_args, type_arg, type_args}
 use Rattle.rust_grammar.specs.Expressions.{closure_param}
 use Rattle.rust_grammar.specs.Items.{record_field, tuple_field, variant}
 use Rattle.grammar_reader.specs.declared.grammar.expressions.Level.{Level}
@@ -27,6 +28,7 @@ level_of levels.Prefixed = rules.prefixed
 
 -- what the elements of a list are
 abbrev pub element_of : Element → Rule
+element_of elements.Captured = captured
 element_of elements.ClosureParam = closure_param
 element_of elements.Expression = Call rules.expression
 element_of elements.FieldValue = Call rules.field_value
@@ -38,13 +40,14 @@ element_of elements.PatternField = Call rules.pattern_field
 element_of elements.RecordField = record_field
 element_of elements.TupleField = tuple_field
 element_of elements.Type = Call rules.any_type
+element_of elements.TypeArg = type_arg
 element_of elements.Variant = variant
 
 -- how many looks tell at most whether an element is next, and how many one takes that takes no token
 abbrev pub looks_before : Element → ℕ
 looks_before elements.ClosureParam = 8
 looks_before elements.Expression = 14
-looks_before x = 9
+looks_before x = 30
 
 abbrev pub looks_in : Element → ℕ
 looks_in elements.ClosureParam = 0
@@ -63,7 +66,8 @@ args_look modes.Expr = '::' before '<'
 args_look modes.Type = Either ('::' before '<') angle
 
 abbrev pub args_of : Mode → Rule
-args_of mode = ⁅ When (args_look mode) GenericArgs ⁆
+args_of modes.Expr = expr_args
+args_of modes.Type = type_args
 
 abbrev pub path_of : Mode → rules.Production
 path_of modes.Expr = rules.expr_path

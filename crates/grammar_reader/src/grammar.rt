@@ -2,6 +2,7 @@
 //! nodes.
 
 pub mod attributes;
+pub(crate) mod const_args;
 pub mod entries;
 pub mod expressions;
 pub(crate) mod fields;
@@ -10,6 +11,8 @@ pub(crate) mod generic_params;
 pub(crate) mod items;
 pub(crate) mod list_end;
 pub(crate) mod lists;
+pub(crate) mod new_bounds;
+pub(crate) mod new_params;
 pub mod or_patterns;
 pub(crate) mod params;
 pub(crate) mod paths;

@@ -4,7 +4,10 @@
 ghost use Rattle.std.specs.Prelude.{◌≡◌, IfErr, OnOk};
 ghost use Rattle.rust_source.specs.Changes.{OnlyAdds, OnlyInserts};
 
-use rust_source::{Source, SourceError, SyntaxEditor, SyntaxElement, SyntaxKind, SyntaxNode};
+use rust_source::{
+    AstNode, Fn, FnParts, HasAttributes, HasVisibility, Source, SourceError, SyntaxEditor,
+    SyntaxElement, SyntaxKind, SyntaxNode,
+};
 use std::alloc::{AllocError, Global};
 
 /// Returns `true` if an attribute is a `must_use`, with or without a reason.
@@ -20,53 +23,42 @@ fn is_must_use(alloc: Global, attribute: &SyntaxNode) -> Result<bool, AllocError
 }
 
 /// Returns the `pub` of a function that is to have the attribute.
-fn visibility(alloc: Global, function: &SyntaxNode) -> Result<Option<SyntaxNode>, AllocError> {
-    let mut visibility = None;
-    let mut returns = false;
-    for child in function.children(alloc)? {
-        let child = child?;
-        match child.kind() {
-            SyntaxKind::ATTR if is_must_use(alloc, &child)? => return Ok(None),
-            SyntaxKind::RET_TYPE => returns = true,
-            // (`pub(crate)` has more than the one token)
-            SyntaxKind::VISIBILITY if child.cursor().green().children().len() == 1 => {
-                visibility = Some(child);
-            }
-            _ => {}
+fn visibility(alloc: Global, function: &Fn) -> Result<Option<SyntaxNode>, AllocError> {
+    if function.ret_type(alloc)?.is_none() {
+        return Ok(None);
+    }
+    for attribute in function.attributes(alloc)? {
+        if is_must_use(alloc, &attribute?)? {
+            return Ok(None);
         }
     }
-    Ok(if returns { visibility } else { None })
-}
-
-/// Returns what the attribute is to come before, if the element is such a function.
-fn place(alloc: Global, element: &SyntaxElement) -> Result<Option<SyntaxElement>, AllocError> {
-    let Some(node) = element.as_node() else {
+    let Some(visibility) = function.visibility(alloc)? else {
         return Ok(None);
     };
-    if node.kind() != SyntaxKind::FN {
-        return Ok(None);
-    }
-    match visibility(alloc, node)? {
-        Some(visibility) => Ok(Some(SyntaxElement::Node(visibility))),
-        None => Ok(None),
-    }
+    // (`pub(crate)` is more than the word)
+    let is_plain = visibility.text()?.eq_str("pub");
+    Ok(if is_plain { Some(visibility) } else { None })
 }
 
-/// Records that the attribute comes before `element`, on a line of its own, if the element is such a
-/// function. Returns the number of attributes.
+/// Records that the attribute comes before the visibility of `node`, on a line of its own, if `node` is
+/// such a function. Returns the number of attributes.
 fn put(
     source: &mut Source,
     editor: &mut SyntaxEditor,
-    element: &SyntaxElement,
+    node: SyntaxNode,
     attribute: &SyntaxElement,
 ) -> Result<usize, SourceError>
     requires { OnlyInserts editor.old }
     ensures only { OnOk result (OnlyInserts editor.new) }
     ensures document { source.new.document ≡ source.old.document }
 {
-    let Some(place) = place(source.alloc(), element)? else {
+    let Some(function) = Fn::cast(node) else {
         return Ok(0);
     };
+    let Some(visibility) = visibility(source.alloc(), &function)? else {
+        return Ok(0);
+    };
+    let place = SyntaxElement::Node(visibility);
     source.insert_on_line_before(editor, &place, attribute)?;
     Ok(1)
 }
@@ -83,8 +75,8 @@ pub fn add_must_use(source: &mut Source) -> Result<usize, SourceError>
     let attribute = SyntaxElement::Node(source.payload_attribute("#[must_use]")?);
     let mut editor = source.editor()?;
     let mut count = 0usize;
-    for element in source.root().descendants_with_tokens(source.alloc())? {
-        let more = put(source, &mut editor, &element?, &attribute)?;
+    for node in source.root().descendants(source.alloc())? {
+        let more = put(source, &mut editor, node?, &attribute)?;
         count = count.saturating_add(more);
     }
     source.commit_without_messages(editor)?;

@@ -22,6 +22,6 @@ is-top tops.Expr = refl
 is-top tops.MetaItem = refl
 
 pub fit-every : (top : TopEntryPoint) (tokens : List Token) (ss : List Step) → ss ≡ steps (entry whole (production_of top) tokens) → FitEveryText tokens ss
-fit-every top tokens ss are = λ edition leaves same.
+fit-every top tokens ss are = λ wide edition leaves same.
     ap (λ (l : List Step). fits l leaves) (are ∙ ap (λ (ts : List Token). steps (entry whole (production_of top) ts)) same)
-    ∙ entry-fits (production_of top) edition leaves (is-top top)
+    ∙ entry-fits (production_of top) wide edition leaves (is-top top)

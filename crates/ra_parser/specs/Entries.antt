@@ -1,5 +1,5 @@
 -- Entries: what a text is asked to be.
-use Rattle.std.specs.Prelude.{◌≡◌, ℕ, ◌<◌, ◌≤◌, true, false, List, [], length, codes}
+use Rattle.std.specs.Prelude.{◌≡◌, ℕ, ◌<◌, ◌≤◌, Bool, true, List, [], length, codes}
 use Rattle.parser_input.specs.Kinds.{ERROR}
 use Rattle.parser_input.specs.Input.{Token, input}
 use Rattle.parser_input.specs.Leaf.{Leaf}
@@ -34,11 +34,11 @@ single_of singles.Meta = meta
 single_of singles.Pattern = pattern
 single_of singles.Type = any_type
 
--- so many tokens are read at most
+-- the largest number of tokens of an input that is read
 abbrev pub most_tokens : ℕ
 most_tokens = 16777216
 
--- Why an input is not read: it is too long, or memory was refused for one that is not.
+-- Why an input is not read: it is too long, or it is not and an allocation failed.
 abbrev pub RefusesParse : List Token → ParseError → Type 0
 RefusesParse ts TooLong = most_tokens < length ts
 RefusesParse ts NoMemory = length ts ≤ most_tokens
@@ -47,9 +47,9 @@ abbrev pub message_of : ParseError → List ℕ
 message_of TooLong = codes "too long"
 message_of NoMemory = codes "out of memory"
 
--- the steps fit every text with this input
+-- the steps fit every text with this input, by whichever grammar that is read
 abbrev pub FitEveryText : List Token → List Step → Type 0
-FitEveryText tokens ss = (edition : Edition) (leaves : List Leaf) → tokens ≡ input false edition leaves → fits ss leaves ≡ true
+FitEveryText tokens ss = (whole : Bool) (edition : Edition) (leaves : List Leaf) → tokens ≡ input whole edition leaves → fits ss leaves ≡ true
 
 -- the tokens that are left, taken as leaves
 unfoldable pub with_leaves : Reading → Reading

@@ -91,7 +91,7 @@ fn begins(p: &mut Parser<'_>, single: Single) -> bool
     ensures some { IsTrue result → 1 ≤ tokens p.old }
     ensures same { Does (λ s. s) p.old p.new }
     ensures left { tokens p.new ≡ tokens p.old }
-    ensures looks { spent p.new ≤ spent p.old + 14 }
+    ensures looks { spent p.new ≤ spent p.old + 16 }
 {
     match single {
         Single::Expression => at_expression(p, false),
@@ -112,7 +112,7 @@ fn read(p: &mut Parser<'_>, single: Single)
         Single::Expression => expression(p, false),
         Single::Meta => meta(p, false),
         Single::Pattern => pattern(p),
-        Single::Type => any_type(p, false),
+        Single::Type => any_type(p),
     }
 }
 
@@ -120,7 +120,7 @@ fn read(p: &mut Parser<'_>, single: Single)
 fn read_single(p: &mut Parser<'_>, single: Single)
     requires nodes { p.old.nodes ≡ Some (End ∷ []) }
     ensures tree { Holds p.new.nodes (marked (entry whole (single_of single) (left p.old)) ∷ []) }
-    ensures looks { spent p.new ≤ spent p.old + 16 }
+    ensures looks { spent p.new ≤ spent p.old + 18 }
 {
     let frame = start(p);
     if !begins(p, single) {

@@ -16,10 +16,10 @@ use std::alloc::{AllocError, Global};
 use std::error::Error;
 use std::fmt;
 
-/// So many tokens of an input are read at most.
+/// The largest number of tokens of an input that is read.
 pub const MOST_TOKENS: usize = 16_777_216;
 
-/// So many looks are made at most for each token of an input, and for its end.
+/// The largest number of looks that are made for each token of an input, and for its end.
 pub const STEPS_PER_TOKEN: u64 = 4096;
 
 /// What a text is read as.

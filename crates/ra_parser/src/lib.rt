@@ -7,5 +7,7 @@
 
 mod entries;
 pub mod entry_points;
+mod grammar;
 
 pub use entry_points::{ParseError, TopEntryPoint};
+pub use grammar::Grammar;

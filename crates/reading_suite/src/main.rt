@@ -1,11 +1,12 @@
 //! Reads cases: each line of the input is a JSON object with an edition, what the text is read as, the text, the lines of its tree, and
-//! the messages, each as its offset and its words. Prints the cases that are read otherwise, and how many there are of both.
+//! the messages, each as its offset and its words; the grammar `whole`, if it is not read by the profile. Prints the cases that are read otherwise, and how many there are of both.
 //!
 //! Of the cases that lie beside it, those with a name were worked by hand; the others were computed by a slow, plain reader of the rules
 //! that shares no code with these crates.
 #![tactic(auto)]
 
-use anyhow::Context;
+use anyhow::{Context, bail};
+use ra_parser::Grammar;
 use serde_json::Value;
 use std::alloc::Global;
 use std::io;
@@ -20,6 +21,18 @@ fn text_at<'a>(case: &'a Value, name: &str) -> anyhow::Result<&'a str> {
     case.get(name)
         .and_then(Value::as_str)
         .context("a case lacks a text")
+}
+
+/// The grammar that a case is read by: the profile, if it names none.
+fn grammar_of(case: &Value) -> anyhow::Result<Grammar> {
+    let Some(name) = case.get("grammar") else {
+        return Ok(Grammar::Profile);
+    };
+    match name.as_str() {
+        Some("whole") => Ok(Grammar::Whole),
+        Some("profile") => Ok(Grammar::Profile),
+        _ => bail!("no such grammar"),
+    }
 }
 
 /// A list of a case.
@@ -53,7 +66,7 @@ fn is_met(alloc: Global, line: &str) -> anyhow::Result<bool> {
     let mut expected = Vec::new(alloc);
     write_expected(&mut expected, &case)?;
     let text = text_at(&case, "text")?;
-    let Ok(reading) = Reading::new(alloc, edition, entry_point, text) else {
+    let Ok(reading) = Reading::new(alloc, edition, grammar_of(&case)?, entry_point, text) else {
         return Ok(false);
     };
     let mut found = Vec::new(alloc);

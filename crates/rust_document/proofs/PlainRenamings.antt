@@ -154,7 +154,7 @@ present-few d u o =
     let dressed_tree = dress_root (old_forest d.edition d.text) ls in
     let own : forest_count (node (present d).kind (present d).forest empty) ≡ forest_count (dressed_forest encode_utf8 dressed_tree) = ap forest_count (sym (present-one d.edition d.text)) in
     let steps = elements-steps encode_utf8 dressed_tree in
-    let short : length (text_steps dressed_tree) ≤ 65 * length ls + 67 = entry-short source_file d.edition ls refl in
+    let short : length (text_steps dressed_tree) ≤ 65 * length ls + 67 = entry-short source_file false d.edition ls refl in
     let leaves = length-map (lexed d.edition (chars d.text)) (λ (l : Lexed). l.leaf) in
     let few = count-all d.edition d.text u in
     omega (arith, own, steps, short, leaves, few, o)

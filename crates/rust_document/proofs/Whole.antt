@@ -43,7 +43,7 @@ steps-are : (top : TopEntryPoint) (edition : Edition) (ls : List Leaf) → AreSt
 steps-are top edition ls = record {
   are = refl;
   rooted = entry-rooted (production_of top) (input false edition ls) (is-top top);
-  fit = entry-fits (production_of top) edition ls (is-top top);
+  fit = entry-fits (production_of top) false edition ls (is-top top);
 }
 
 -- and not too many
@@ -56,7 +56,7 @@ are-tree top edition ls ss are bytes count =
       forest = forest_by (production_of top) edition own;
       steps_of = record { are = are; rooted = all.rooted; fit = all.fit };
       bytes = bytes;
-      few = omega (arith, entry-short (production_of top) edition own (is-top top), length-map ls (λ (l : Lexed). l.leaf), count);
+      few = omega (arith, entry-short (production_of top) false edition own (is-top top), length-map ls (λ (l : Lexed). l.leaf), count);
     }
 
 -- the tree that was built of a text's leaves

@@ -76,7 +76,7 @@ entry-rooted x ts e =
 
 -- the second
 pub entry-fits : EntriesFit
-entry-fits x edition ls e = rooted-fits false edition ls (entry_of x edition ls) (entry-rooted x (input false edition ls) e) (entries-in-order x (input false edition ls))
+entry-fits x wide edition ls e = rooted-fits wide edition ls (entry_of x wide edition ls) (entry-rooted x (input wide edition ls) e) (entries-in-order x (input wide edition ls))
 
 pub productions-take-in-order : ProductionsTakeInOrder
 unfolding tokens_after

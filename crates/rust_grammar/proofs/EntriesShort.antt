@@ -195,11 +195,11 @@ leaves-take (forest.Float b c f) ts us e =
     omega (arith, inside, more, count, ap (λ (vs : List Token). length vs) taken.1)
 
 -- The third fact of an entry that a document is built on: its dressed tree has at most 65 steps for each leaf, and 67.
-pub entry-short : (x : Production) (edition : Edition) (ls : List Leaf) → is_entry x ≡ true → length (text_steps (dress_root (entry_of x edition ls) ls)) ≤ 65 * length ls + 67
-entry-short x edition ls e =
-    let f = entry_of x edition ls in
-    let dressed = dressed-most f ls (entry-rooted x (input false edition ls) e) (entry-fits x edition ls e) in
-    let few = entry-steps x (input false edition ls) in
-    let taken = leaves-take f (input false edition ls) [] (entries-in-order x (input false edition ls)) in
-    let most = input-most false edition ls in
+pub entry-short : (x : Production) (wide : Bool) (edition : Edition) (ls : List Leaf) → is_entry x ≡ true → length (text_steps (dress_root (entry_of x wide edition ls) ls)) ≤ 65 * length ls + 67
+entry-short x wide edition ls e =
+    let f = entry_of x wide edition ls in
+    let dressed = dressed-most f ls (entry-rooted x (input wide edition ls) e) (entry-fits x wide edition ls e) in
+    let few = entry-steps x (input wide edition ls) in
+    let taken = leaves-take f (input wide edition ls) [] (entries-in-order x (input wide edition ls)) in
+    let most = input-most wide edition ls in
     omega (arith, dressed, few, taken, most)

@@ -1,13 +1,13 @@
 -- What the profile reads is kept.
-use Rattle.std.proofs.Common.{◌≡◌, Bool, true, false, List, [], ◌∷◌, refl, sym, ◌∙◌, inl, inr}
+use Rattle.std.proofs.Common.{◌≡◌, Bool, true, false, List, [], ◌∷◌, refl, sym, ap, ◌∙◌, inl, inr, if◌then◌else◌, true≢false}
 use Rattle.std.proofs.lemmas.Bool.{cases_Bool}
 use Rattle.parser_input.specs.Input.{input, token_of}
 use Rattle.parser_input.specs.Leaf.{Leaf, is_trivia}
 use Rattle.parser_input.specs.declared.edition.Edition.{Edition}
 use Rattle.parser_events.specs.Forest as forest
-use Rattle.rust_grammar.specs.Rule.{Production, source_file, macro_items, macro_statements, item, body, assoc_items, variants, record_fields, tuple_fields, visibility, attribute, meta, token_tree, use_tree, use_list, params, param, name, lifetime, name_ref, path, type_path, expr_path, generic_args, generic_arg, generic_params, generic_param, bounds, bound, where_clause, where_pred, any_type, ret_type, pattern, single_pattern, pattern_fields, pattern_field, literal, statement_list, block, statement, macro_statement, statement_end, macro_statement_end, expression, operation, operation_tail, pipe_tail, disjunction, conjunction, comparison, bit_or, bit_xor, bit_and, bit_shift, sum, product, cast, prefixed, postfix, after_dot, arguments, atom, field_values, field_value, block_like, if_expr, match_arms, match_arm, begins, passes, is_silent, shift, in_mode, anew, there_at}
+use Rattle.rust_grammar.specs.Rule.{Production, Rule, Continue, source_file, macro_items, macro_statements, item, body, assoc_items, variants, record_fields, tuple_fields, visibility, attribute, meta, token_tree, use_tree, use_list, params, param, name, lifetime, name_ref, path, type_path, expr_path, generic_args, generic_arg, generic_params, generic_param, bounds, bound, where_clause, where_pred, any_type, ret_type, pattern, single_pattern, pattern_fields, pattern_field, literal, statement_list, block, statement, macro_statement, statement_end, macro_statement_end, expression, operation, operation_tail, pipe_tail, disjunction, conjunction, comparison, bit_or, bit_xor, bit_and, bit_shift, sum, product, cast, prefixed, postfix, after_dot, arguments, atom, field_values, field_value, block_like, if_expr, match_arms, match_arm, type_no_bounds, begins, passes, is_silent, shift, in_mode, anew, there_at}
 use Rattle.rust_grammar.specs.Notation.{row, one_of, any_of, is_longer, no_longer, longest}
-use Rattle.rust_grammar.specs.Meaning.{Reading, Calls, meaning, look_of, begins_below}
+use Rattle.rust_grammar.specs.Meaning.{Reading, Calls, read, sees, meaning, look_of, begins_below}
 use Rattle.rust_grammar.specs.Paths.{paths}
 use Rattle.rust_grammar.specs.Types.{types}
 use Rattle.rust_grammar.specs.Patterns.{patterns}
@@ -17,18 +17,18 @@ use Rattle.rust_grammar.specs.Items.{items}
 use Rattle.rust_grammar.specs.Whole.{rule, rank, whole}
 use Rattle.rust_grammar.specs.Profile.{profile_paths, profile_types, profile_patterns, profile_expressions, profile_statements, profile_items, profile_rule, profile_rank, profile}
 use Rattle.rust_grammar.specs.Entry.{entry}
-use Rattle.rust_grammar.specs.Kept.{say_nothing, ProfileBeginsAsBefore, ProfileReadsAsBefore, ProfileEntriesAreKept}
+use Rattle.rust_grammar.specs.Kept.{say_nothing, is_profile, ProfileBeginsAsBefore, ProfileReadsAsBefore, ProfileEntriesAreKept}
 use Rattle.rust_grammar.proofs.Known.{same_look, is_never}
 use Rattle.rust_grammar.proofs.Spelling.{same_parts}
 use Rattle.rust_grammar.proofs.Quiet.{both_quiet, either_quiet, not_quiet, quiet, alike, alike-seen, is_new}
-use Rattle.rust_grammar.proofs.KeptRules.{same_message, same_spelling, same_mode, is_left_out, kept, Silent, stays-silent, kept-so}
+use Rattle.rust_grammar.proofs.KeptRules.{stands_for, stands, same_message, same_spelling, same_call, same_mode, is_left_out, kept, Silent, stays-silent, kept-so}
 use Rattle.rust_grammar.proofs.ProfileTable.{profile_fine, profile-means}
 use Rattle.rust_grammar.proofs.WholeTable.{claim}
 use Rattle.rust_grammar.proofs.Induction.{HoldOf, meaning-holds-of, meaning-holds}
 
 -- where each production begins
-all_alike : (x : Production) → alike (look_of whole x) (look_of profile x) ≡ true
-unfolding alike same_look quiet both_quiet either_quiet not_quiet look_of begins_below begins passes is_silent shift in_mode anew there_at row one_of any_of is_longer no_longer longest rule rank whole paths types patterns expressions statements items profile_rule profile_rank profile profile_paths profile_types profile_patterns profile_expressions profile_statements profile_items
+all_alike : (x : Production) → (if stands x then alike (look_of whole x) (look_of profile (stands_for x)) else true) ≡ true
+unfolding stands stands_for alike same_look quiet both_quiet either_quiet not_quiet look_of begins_below begins passes is_silent shift in_mode anew there_at row one_of any_of is_longer no_longer longest rule rank whole paths types patterns expressions statements items profile_rule profile_rank profile profile_paths profile_types profile_patterns profile_expressions profile_statements profile_items
 all_alike source_file = refl
 all_alike macro_items = refl
 all_alike macro_statements = refl
@@ -98,10 +98,15 @@ all_alike block_like = refl
 all_alike if_expr = refl
 all_alike match_arms = refl
 all_alike match_arm = refl
+all_alike type_no_bounds = refl
 
--- what each production reads
-all_kept : (x : Production) → kept (look_of whole) (look_of profile) (rule x) (profile_rule x) ≡ true
-unfolding kept same_message same_spelling same_mode same_parts is_left_out is_new is_never alike same_look quiet both_quiet either_quiet not_quiet look_of begins_below begins passes is_silent shift in_mode anew there_at row one_of any_of is_longer no_longer longest rule rank whole paths types patterns expressions statements items profile_rule profile_rank profile profile_paths profile_types profile_patterns profile_expressions profile_statements profile_items
+-- the rule of the profile that each is compared with
+unfoldable old_rule : Production → Rule
+old_rule type_no_bounds = Continue any_type
+old_rule x = profile_rule x
+
+all_kept : (x : Production) → (if stands x then kept (look_of whole) (look_of profile) (rule x) (old_rule x) else true) ≡ true
+unfolding old_rule stands stands_for kept same_message same_spelling same_call same_mode same_parts is_left_out is_new is_never alike same_look quiet both_quiet either_quiet not_quiet look_of begins_below begins passes is_silent shift in_mode anew there_at row one_of any_of is_longer no_longer longest rule rank whole paths types patterns expressions statements items profile_rule profile_rank profile profile_paths profile_types profile_patterns profile_expressions profile_statements profile_items
 all_kept source_file = refl
 all_kept macro_items = refl
 all_kept macro_statements = refl
@@ -171,9 +176,20 @@ all_kept block_like = refl
 all_kept if_expr = refl
 all_kept match_arms = refl
 all_kept match_arm = refl
+all_kept type_no_bounds = refl
+
+chosen-test : (b t : Bool) → b ≡ true → (if b then t else true) ≡ true → t ≡ true
+chosen-test true t e h = h
+chosen-test false t e h = absurd (true≢false (sym e))
+
+-- what the profile gives, by the rule that is compared
+old-means : (x : Production) (c : Bool) (s : Reading) → meaning profile (stands_for x) c s ≡ read (look_of profile) (meaning profile) c (old_rule x) s
+unfolding old_rule stands_for read
+old-means type_no_bounds c s = refl
+old-means x c s = profile-means x c s
 
 abbrev Keeps : Production → Bool → Reading → Reading → Type 0
-Keeps y d t u = Silent t → u ≡ meaning profile y d t
+Keeps y d t u = stands y ≡ true → Silent t → u ≡ meaning profile (stands_for y) d t
 
 abbrev KeepsSilent : Production → Bool → Reading → Reading → Type 0
 KeepsSilent y d t u = Silent t → Silent u
@@ -196,27 +212,36 @@ profile-silent = meaning-holds-of profile claim profile_fine KeepsSilent Anythin
 
 -- What is taken for calls that are not made: what the profile gives.
 unfoldable other : Calls
-other y d t = meaning profile y d t
+other y d t = meaning profile (stands_for y) d t
 
 other-keeps : HoldOf Keeps other
 unfolding other
-other-keeps y d t h = refl
+other-keeps y d t e h = refl
 
 other-silent : HoldOf KeepsSilent other
 unfolding other
-other-silent y d t h = profile-silent y d t h
+other-silent y d t h = profile-silent (stands_for y) d t h
 
 productions-kept : HoldOf Keeps (meaning whole)
 productions-kept =
     meaning-holds Keeps KeepsSilent other other-keeps other-silent productions-silent
-    (λ call p q x c s h. kept-so (look_of whole) (look_of profile) call (meaning profile) q p (rule x) (profile_rule x) c s (all_kept x) h ∙ sym (profile-means x c s))
+    (λ call p q x c s e h.
+    kept-so (look_of whole) (look_of profile) call (meaning profile) q p (rule x) (old_rule x) c s (chosen-test (stands x) _ e (all_kept x)) h ∙ sym (old-means x c s))
+
+own : (x : Production) → is_profile x ≡ true → (stands x ≡ true) × (stands_for x ≡ x)
+unfolding is_profile stands stands_for
+own type_no_bounds e = absurd (true≢false (sym e))
+own x e = (refl, refl)
 
 -- THE laws.
 pub begins-as-before : ProfileBeginsAsBefore
-begins-as-before x c s h = alike-seen (look_of whole x) (look_of profile x) c s (all_alike x) h
+begins-as-before x c s e h =
+    let o = own x e in
+    alike-seen (look_of whole x) (look_of profile (stands_for x)) c s (chosen-test (stands x) _ o.0 (all_alike x)) h
+    ∙ ap (λ (y : Production). sees c s (look_of profile y)) o.1
 
 pub reads-as-before : ProfileReadsAsBefore
-reads-as-before x c s h = productions-kept x c s h
+reads-as-before x c s e h = let o = own x e in productions-kept x c s o.0 h ∙ ap (λ (y : Production). meaning profile y c s) o.1
 
 silent-input : (edition : Edition) (ls : List Leaf) → say_nothing (input false edition ls) ≡ true
 unfolding input say_nothing token_of
@@ -228,8 +253,8 @@ silent-input edition (l ∷ ls) = elim (cases_Bool (is_trivia l)) [
 
 pub entries-as-before : ProfileEntriesAreKept
 unfolding entry
-entries-as-before x edition ls =
+entries-as-before x edition ls e =
     let ts = input false edition ls in
     let start : Reading = record { given = forest.End; rest = ts } in
     let n = silent-input edition ls in
-    rw (reads-as-before x false start n, begins-as-before x false start n) refl
+    rw (reads-as-before x false start e n, begins-as-before x false start e n) refl

@@ -2,8 +2,8 @@
 use Rattle.std.proofs.Common.{◌≡◌, ℕ, zero, suc, Bool, true, false, not, ◌&&◌, length, nat_lt, nat_eq, refl, sym, ap, ◌∙◌, inl, inr, if◌then◌else◌, true≢false}
 use Rattle.std.proofs.lemmas.Bool.{cases_Bool, eqb-true}
 use Rattle.parser_events.specs.Forest as forest
-use Rattle.parser_events.specs.Forest.{Message}
-use Rattle.rust_grammar.specs.Rule.{Production, Look, Spelling, Rule, Nothing, One, Any, Then, Near, Or, Opt, Star, Node, Wrap, Want, Say, Skip, Split, When, Unless, Call, Continue, Mode, Lead, begins}
+use Rattle.parser_events.specs.Forest.{Forest, Message}
+use Rattle.rust_grammar.specs.Rule.{Production, type_no_bounds, any_type, Look, Spelling, Rule, Nothing, One, Any, Then, Near, Or, Opt, Star, Node, Wrap, Want, Say, Skip, Split, When, Unless, Call, Continue, Mode, Lead, begins}
 use Rattle.rust_grammar.specs.Meaning.{Reading, Calls, read, sees, fresh, leaf, say, skip, split, node, wrapped, led, after, turns}
 use Rattle.rust_grammar.specs.Kept.{say_nothing}
 use Rattle.rust_grammar.proofs.Plain.{and_l, and_r}
@@ -12,6 +12,14 @@ use Rattle.rust_grammar.proofs.Shrinks.{no-turns}
 use Rattle.rust_grammar.proofs.Spelled.{chosen}
 use Rattle.rust_grammar.proofs.Spelling.{same_parts, same-parts}
 use Rattle.rust_grammar.proofs.Quiet.{dropped-nothing, alike, alike-seen, is_new, new-unseen}
+
+-- the production of the profile that a new one stands for; each stands for one as yet
+unfoldable pub stands_for : Production → Production
+stands_for type_no_bounds = any_type
+stands_for x = x
+
+unfoldable pub stands : Production → Bool
+stands x = true
 
 unfoldable pub same_message : Message → Message → Bool
 same_message (forest.Expected k) (forest.Expected j) = nat_eq k j
@@ -40,6 +48,9 @@ same-message m n e = absurd (true≢false (sym e))
 
 unfoldable pub same_spelling : Spelling → Spelling → Bool
 same_spelling x y = nat_eq x.kind y.kind && same_parts x.parts y.parts
+
+unfoldable pub same_call : Production → Production → Bool
+same_call y z = stands y && same_production (stands_for y) z
 
 unfoldable pub same_mode : Bool → Bool → Bool
 same_mode true d = d
@@ -79,8 +90,8 @@ kept l m (Lead a) (Lead b) = kept l m a b
 kept l m (Say s) (Say t) = same_message s t
 kept l m (Skip s) (Skip t) = same_message s t
 kept l m (One x) (One y) = same_spelling x y
-kept l m (Call y) (Call z) = same_production y z
-kept l m (Continue y) (Continue z) = same_production y z
+kept l m (Call y) (Call z) = same_call y z
+kept l m (Continue y) (Continue z) = same_call y z
 kept l m Nothing Nothing = true
 kept l m Any Any = true
 kept l m Split Split = true
@@ -150,7 +161,7 @@ turns-same (suc n) test other turn next s tests each more h =
     (turns-same n test other turn next (turn s) tests each more (more s h) ∙ ap (λ (u : Reading). turns n other next u) (each s h)) (each s h))
     refl
 
-module _ (l m : Production → Look) (call gives : Calls) (silent : (y : Production) (d : Bool) (t : Reading) → Silent t → Silent (call y d t)) (agree : (y : Production) (d : Bool) (t : Reading) → Silent t → call y d t ≡ gives y d t) where
+module _ (l m : Production → Look) (call gives : Calls) (silent : (y : Production) (d : Bool) (t : Reading) → Silent t → Silent (call y d t)) (agree : (y : Production) (d : Bool) (t : Reading) → stands y ≡ true → Silent t → call y d t ≡ gives (stands_for y) d t) where
   reads : Bool → Rule → Reading → Reading
   reads c a s = read l call c a s
 
@@ -160,8 +171,9 @@ module _ (l m : Production → Look) (call gives : Calls) (silent : (y : Product
   left-out (Star a) c s e h = no-turns (length s.rest) (λ t. sees c t (begins l a)) (read l call c a) s (new-unseen (begins l a) c s e h)
   left-out a c s e h = absurd (true≢false (sym e))
 
-  called : (y z : Production) (c : Bool) (s : Reading) → same_production y z ≡ true → Silent s → call y c s ≡ gives z c s
-  called y z c s e h = agree y c s h ∙ ap (λ (x : Production). gives x c s) (same_production-true y z e)
+  called : (y z : Production) (c : Bool) (s : Reading) → same_call y z ≡ true → Silent s → call y c s ≡ gives z c s
+  unfolding same_call
+  called y z c s e h = agree y c s (and_l (stands y) (same_production (stands_for y) z) e) h ∙ ap (λ (x : Production). gives x c s) (same_production-true (stands_for y) z (and_r (stands y) (same_production (stands_for y) z) e))
 
   -- a choice whose first part is new
   second-so : (a b d : Rule) (c : Bool) (s : Reading) → is_new (begins l a) ≡ true → Silent s → read l call c b s ≡ read m gives c d s → read l call c (Or a b) s ≡ read m gives c d s

@@ -1,10 +1,10 @@
--- The rows of expressions: ranges and assignments, the layers of operators, what stands after an expression, and the rest.
+-- The rows of expressions: ranges and assignments, the layers of operators, postfix operators, and the rest.
 use Rattle.std.specs.Prelude.{[], ◌∷◌}
 use Rattle.parser_input.specs.Kinds.{PARAM_LIST, PARAM, MACRO_CALL, NAME_REF, BLOCK_EXPR, RANGE_EXPR, BIN_EXPR, CAST_EXPR, PREFIX_EXPR, REF_EXPR, CALL_EXPR, ARG_LIST, INDEX_EXPR, TRY_EXPR, METHOD_CALL_EXPR, FIELD_EXPR, MACRO_EXPR, RECORD_EXPR, RECORD_EXPR_FIELD_LIST, RECORD_EXPR_FIELD, PATH_EXPR, TUPLE_EXPR, PAREN_EXPR, ARRAY_EXPR, RETURN_EXPR, BREAK_EXPR, CONTINUE_EXPR, CLOSURE_EXPR, LET_EXPR, IF_EXPR, WHILE_EXPR, LOOP_EXPR, FOR_EXPR, MATCH_EXPR, MATCH_ARM_LIST, MATCH_ARM, MATCH_GUARD}
 use Rattle.parser_events.specs.Forest.{ExpectedExpression, ExpectedMatchArm, ExpectedField}
 use Rattle.rust_grammar.specs.Rule.{expression, operation, operation_tail, pipe_tail, disjunction, conjunction, comparison, bit_or, bit_xor, bit_and, bit_shift, sum, product, cast, prefixed, postfix, after_dot, arguments, atom, field_values, field_value, block_like, if_expr, match_arms, match_arm, Production, Look, Joint, InCondition, Both, Either, Spelling, Rule, Nothing, One, Want, Say, Skip, Split, When, Unless, Call}
 use Rattle.rust_grammar.specs.Words.{'dots', 'dots_eq', '::', '==', '=>', '!=', '<=', '>=', '&&', '||', '|>', '<<', '>>', '+=', '-=', '*=', '/=', '%=', '&=', '|=', '^=', '<<=', '>>=', 'semi', 'comma', 'dot', 'l_paren', 'r_paren', 'l_curly', 'r_curly', '[', ']', '?', ':', '=', '!', '<', '>', '-', '&', '|', '+', '*', '/', '^', '%', 'break', 'continue', 'else', 'for', 'if', 'in', 'let', 'loop', 'match', 'move', 'mut', 'return', 'unsafe', 'while', 'as', 'ident', 'float'}
-use Rattle.rust_grammar.specs.Calls.{TokenTree, ExprPath, GenericArgs, RetType, AnyType, Pattern, SinglePattern, Literal, StatementList, Block, Expression, Operation, Disjunction, Comparison, Prefixed, Arguments, Atom, FieldValues, FieldValue, BlockLike, IfExpr, MatchArms, MatchArm}
+use Rattle.rust_grammar.specs.Calls.{TokenTree, ExprPath, GenericArgs, RetType, TypeNoBounds, Pattern, SinglePattern, Literal, StatementList, Block, Expression, Operation, Disjunction, Comparison, Prefixed, Arguments, Atom, FieldValues, FieldValue, BlockLike, IfExpr, MatchArms, MatchArm}
 use Rattle.rust_grammar.specs.Notation.{◌or◌, ◌▸◌, ◌▹◌, ⁅◌⁆, ◌*, ◌!, ◌⟨◌⟩, ◌<⟨◌⟩, more, off, on, next, row, ◌before◌, until, separator, rest_listed, listed, in_parentheses, op}
 use Rattle.rust_grammar.specs.Shared.{field_name, type_annotation}
 
@@ -12,7 +12,7 @@ use Rattle.rust_grammar.specs.Shared.{field_name, type_annotation}
 abbrev pub body_begins : Look
 body_begins = Both InCondition (next 'l_curly')
 
--- the two marks of a range
+-- the two range operators
 abbrev pub range_mark : Rule
 range_mark = op 'dots_eq' or op 'dots'
 
@@ -180,7 +180,7 @@ expressions others bit_and = layer bit_shift (op '&')
 expressions others bit_shift = layer sum (op '<<' or op '>>')
 expressions others sum = layer product (op '+' or op '-')
 expressions others product = layer cast (op '*' or op '/' or op '%')
-expressions others cast = Prefixed ▸ (CAST_EXPR <⟨ One 'as' ▸ AnyType ! ⟩) *
+expressions others cast = Prefixed ▸ (CAST_EXPR <⟨ One 'as' ▸ TypeNoBounds ! ⟩) *
 expressions others prefixed =
     PREFIX_EXPR ⟨ (One '-' or One '!' or One '*') ▸ Prefixed ! ⟩
     or ref_expr

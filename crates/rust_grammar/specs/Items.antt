@@ -1,4 +1,4 @@
--- The rows of items, of what stands in them, and of uses and attributes.
+-- The rows of items and their parts, of uses and attributes.
 use Rattle.std.specs.Prelude.{[], ◌∷◌}
 use Rattle.parser_input.specs.Kinds.{ERROR, SOURCE_FILE, MACRO_ITEMS, MODULE, ITEM_LIST, USE, USE_TREE, USE_TREE_LIST, RENAME, STRUCT, ENUM, VARIANT_LIST, VARIANT, RECORD_FIELD_LIST, RECORD_FIELD, TUPLE_FIELD_LIST, TUPLE_FIELD, FN, PARAM_LIST, SELF_PARAM, PARAM, CONST, STATIC, TYPE_ALIAS, IMPL, TRAIT, ASSOC_ITEM_LIST, VISIBILITY, ATTR, META, MACRO_CALL, TOKEN_TREE, NAME}
 use Rattle.parser_events.specs.Forest.{ExpectedItem}

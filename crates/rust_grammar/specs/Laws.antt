@@ -68,7 +68,7 @@ IsReadTurnByTurn a = (in_condition : Bool) (s : Reading) → reads in_condition 
 abbrev pub RepetitionsAreReadTurnByTurn : Type 0
 RepetitionsAreReadTurnByTurn = (x : Production) → All IsReadTurnByTurn (repeated (all.rule x))
 
--- To see where a rule begins after so many tokens is to see it at the place after them.
+-- To see where a rule begins `count` tokens ahead is to see it at the place after them.
 abbrev pub LooksAhead : Rule → Type 0
 LooksAhead a =
     (count : ℕ) (in_condition : Bool) (s : Reading)
@@ -79,7 +79,7 @@ LooksAhead a =
 abbrev pub PartsLookAhead : Type 0
 PartsLookAhead = (x : Production) → All LooksAhead (nearby (all.rule x))
 
--- A production that is called anew begins where it would with nothing given, wherever productions begin; and so does a node.
+-- A production that is called begins where it would with nothing given, wherever productions begin; and so does a node.
 abbrev pub CallsHaveGivenNothing : Type 0
 CallsHaveGivenNothing =
     (looks : Production → Look) (x : Production) (in_condition : Bool) (s : Reading)
@@ -125,14 +125,14 @@ abbrev pub EntriesAreRooted : Type 0
 EntriesAreRooted = (x : Production) (tokens : List Token) → is_entry x ≡ true → IsRooted (entry all.whole x tokens)
 
 -- the tree of an entry with these leaves
-abbrev pub entry_of : Production → Edition → List Leaf → Forest
-entry_of x edition leaves = entry all.whole x (input false edition leaves)
+abbrev pub entry_of : Production → (whole : Bool) → Edition → List Leaf → Forest
+entry_of x whole edition leaves = entry all.whole x (input whole edition leaves)
 
 -- Its steps fit every text with that input.
 abbrev pub EntriesFit : Type 0
 EntriesFit =
-    (x : Production) (edition : Edition) (leaves : List Leaf)
-    → is_entry x ≡ true → fits (steps (entry_of x edition leaves)) leaves ≡ true
+    (x : Production) (whole : Bool) (edition : Edition) (leaves : List Leaf)
+    → is_entry x ≡ true → fits (steps (entry_of x whole edition leaves)) leaves ≡ true
 
 -- In the tree of an entry each token tree begins with an opening bracket, and ends with its partner or the message that it is
 -- missing.

@@ -62,7 +62,7 @@ node kind s t = record { given = s.given then forest.Node kind t.given forest.En
 unfoldable pub wrapped : ℕ → Reading → Reading
 wrapped kind t = record { given = forest.Node kind t.given forest.End; rest = t.rest }
 
--- Trees put first into the one node, or the float, that stands alone. What is no such one tree stands with them in an error; in
+-- Trees put first into one node, or one float. What is not one such tree goes with them into an error; in
 -- the grammar it always is one, as a law says.
 unfoldable pub into : Forest → Forest → Forest
 into g (forest.Node k c forest.End) = forest.Node k (g then c) forest.End
@@ -134,7 +134,7 @@ begins_below g (suc k) x = begins (begins_below g k) (g.rule x)
 unfoldable pub look_of : Table → Production → Look
 look_of g = begins_below g g.ranks
 
--- The calls that a production makes, which began with so many tokens left: one is followed where tokens were
+-- The calls that a production makes, which began with `began` tokens left: one is followed where tokens were
 -- taken since, or where none were and its rank is lower.
 unfoldable pub follow : (fewer lower : Calls) → (rank began : ℕ) → (Production → ℕ) → Calls
 follow fewer lower rank began ranks x c s =

@@ -4,9 +4,9 @@
 -- gave so far and a, `a !` a part that is expected, `more a` a production as a continuation of the present one. Looks take
 -- spellings.
 use Rattle.std.specs.Prelude.{ℕ, ◌+◌, ◌==◌, Bool, true, false, ◌&&◌, List, [], ◌∷◌, length, Option, Some, None, if◌then◌else◌}
-use Rattle.parser_input.specs.Kinds.{COMMA, ASSOC_ITEM_LIST, VARIANT_LIST, META, TOKEN_TREE, USE_TREE, PARAM_LIST, NAME, NAME_REF, PATH, LITERAL, STMT_LIST, BLOCK_EXPR, ARG_LIST, MATCH_ARM_LIST}
+use Rattle.parser_input.specs.Kinds.{COMMA, GENERIC_PARAM_LIST, ASSOC_ITEM_LIST, VARIANT_LIST, META, TOKEN_TREE, USE_TREE, PARAM_LIST, NAME, NAME_REF, PATH, LITERAL, STMT_LIST, BLOCK_EXPR, ARG_LIST, MATCH_ARM_LIST}
 use Rattle.parser_events.specs.Forest.{Message, Expected, UnexpectedIn, ExpectedType, ExpectedPattern, ExpectedExpression}
-use Rattle.rust_grammar.specs.Rule.{assoc_items, variants, meta, token_tree, use_tree, params, name, name_ref, path, any_type, pattern, single_pattern, literal, statement_list, block, expression, operation, disjunction, comparison, prefixed, arguments, match_arms, Production, Look, Always, Never, Left, Both, Either, Not, Spelling, Rule, Nothing, One, Then, Near, Or, Opt, Star, Node, Wrap, Want, Say, Skip, When, Unless, Call, Continue, Mode, spelled_at, Whole, Lead}
+use Rattle.rust_grammar.specs.Rule.{type_no_bounds, generic_params, assoc_items, variants, meta, token_tree, use_tree, params, name, name_ref, path, any_type, pattern, single_pattern, literal, statement_list, block, expression, operation, disjunction, comparison, prefixed, arguments, match_arms, Production, Look, Always, Never, Left, Both, Either, Not, Spelling, Rule, Nothing, One, Then, Near, Or, Opt, Star, Node, Wrap, Want, Say, Skip, When, Unless, Call, Continue, Mode, spelled_at, Whole, Lead}
 use Rattle.rust_grammar.specs.Words.{'dots', 'dots_eq', '==', '=>', '!=', '<=', '>=', '&&', '||', '|>', '<<', '>>', '+=', '-=', '*=', '/=', '%=', '&=', '|=', '^=', '<<=', '>>=', 'semi', 'comma', 'r_paren', 'l_curly', 'r_curly', ']', '=', '<', '>', '-', '&', '|', '+', '*', '/', '^', '%'}
 
 infixr 40 ◌or◌
@@ -35,7 +35,8 @@ width (When l a) = width a
 width (Node k a) = width a
 width a = None
 
--- `a ▹ b` is a rule where a is one leaf, of so many tokens; after any other part it is none, and an error where a rule is asked.
+-- `a ▹ b` is a rule where a is one leaf, whose tokens are counted; after any other part it is none, and an error where a rule
+-- is asked.
 abbrev pub Measured : Option ℕ → Type 0
 Measured (Some n) = Rule
 Measured None = Unit {0}
@@ -101,6 +102,8 @@ wanted comparison = Some ExpectedExpression
 wanted prefixed = Some ExpectedExpression
 wanted arguments = Some (Expected ARG_LIST)
 wanted match_arms = Some (Expected MATCH_ARM_LIST)
+wanted generic_params = Some (Expected GENERIC_PARAM_LIST)
+wanted type_no_bounds = Some ExpectedType
 wanted x = None
 
 -- the message of a part that is missing, if it can be: a leaf, a node, a production that has one
@@ -136,6 +139,11 @@ row n (x ∷ xs) = Both (spelled_at n x) (row (n + length x.parts) xs)
 unfoldable pub one_of : ℕ → List Spelling → Look
 one_of n [] = Never
 one_of n (x ∷ xs) = Either (row n (x ∷ [])) (one_of n xs)
+
+-- one of these spellings is next, as a choice of their leaves asks it
+abbrev pub leaf_of : Spelling → List Spelling → Look
+leaf_of x [] = spelled_at 0 x
+leaf_of x (y ∷ ys) = Either (spelled_at 0 x) (leaf_of y ys)
 
 unfoldable pub any_of : List Look → Look
 any_of [] = Never
@@ -182,7 +190,7 @@ abbrev pub list_element : (list : ℕ) → (element : Rule) → (close : Spellin
 list_element list element close = element ▸ separator close or When unexpected (Skip (UnexpectedIn list))
 
 -- The rest of a list after its opening spelling, in the node `list`: elements with commas between them, up to `close`. A
--- missing comma is told; what begins no element stands in an error, up to a token at which the list gives up.
+-- missing comma is reported; what begins no element goes into an error, up to a token at which the list gives up.
 abbrev pub rest_listed : (list : ℕ) → (element : Rule) → (close : Spelling) → Rule
 rest_listed list element close = off ((Unless (until close) (list_element list element close)) *) ▸ One close !
 
@@ -222,6 +230,6 @@ no_longer ks (x ∷ xs) = but_not (is_longer ks x.parts) x (no_longer ks xs)
 unfoldable pub longest : Spelling → Look
 longest x = Both (spelled_at 0 x) (no_longer x.parts operators)
 
--- an operator, where no longer one stands
+-- an operator, where no longer one is next
 abbrev pub op : Spelling → Rule
 op x = When (longest x) (One x)

@@ -48,7 +48,7 @@ nearby Split = []
 nearby (Call x) = []
 nearby (Continue x) = []
 
--- what a rule reads as if anew and puts what was given before into
+-- what a rule reads with nothing given before, and puts what was given before into
 unfoldable pub leads : Rule → List Rule
 leads (Then a b) = leads a ++ leads b
 leads (Near w a b) = leads a ++ leads b

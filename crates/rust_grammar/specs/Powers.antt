@@ -42,16 +42,16 @@ operator (forest.ErrorLeaf message k f) = operator f
 operator (forest.Node k c f) = operator f
 operator (forest.Float e c f) = operator f
 
--- How tightly a node holds together: a binary expression as its operator binds, any other node more tightly than each operator.
+-- The binding power of a node: a binary expression has its operator's, any other node one above that of each operator.
 unfoldable pub level : (kind : ℕ) → (children : Forest) → ℕ
 level kind children = if kind == BIN_EXPR then power (operator children) else 13
 
--- how tightly the first of these trees holds together
+-- the binding power of the first of these trees
 unfoldable pub left_level : Forest → ℕ
 left_level (forest.Node k c f) = level k c
 left_level f = 13
 
--- how tightly the last of these trees holds together
+-- the binding power of the last of these trees
 unfoldable pub right_level : Forest → ℕ
 right_level forest.End = 13
 right_level (forest.Leaf k n f) = right_level f
@@ -61,8 +61,8 @@ right_level (forest.Node k c forest.End) = level k c
 right_level (forest.Node k c f) = right_level f
 right_level (forest.Float e c f) = right_level f
 
--- In a binary expression with these children the left operand holds together no less tightly than the operator binds, and is no
--- assignment; the right one holds together more tightly than the operator binds, unless that is an assignment.
+-- In a binary expression with these children the left operand binds no less tightly than the operator, and is no
+-- assignment; the right one binds more tightly than the operator, unless that is an assignment.
 unfoldable pub is_operator_placed : Forest → Bool
 is_operator_placed children =
     let own = power (operator children) in

@@ -102,7 +102,7 @@ profile_patterns others x = others x
 abbrev pub body_begins : Look
 body_begins = Both InCondition (next 'l_curly')
 
--- the two marks of a range
+-- the two range operators
 abbrev pub range_mark : Rule
 range_mark = op 'dots_eq' or op 'dots'
 
@@ -131,7 +131,7 @@ closure_param = PARAM ⟨ SinglePattern ▸ ⁅ One ':' ▸ AnyType ! ⁆ ⟩
 abbrev pub closure_params : Rule
 closure_params = PARAM_LIST ⟨ listed PARAM_LIST '|' closure_param '|' ⟩
 
--- what stands after a path: the rest of a macro call, the fields of a record, or nothing; `!=` is an operator
+-- the tail of a path: the rest of a macro call, the fields of a record, or nothing; `!=` is an operator
 abbrev after_path : Rule
 after_path =
     Unless (next '!=') (MACRO_CALL <⟨ One '!' ▸ TokenTree ! ⟩ ▸ MACRO_EXPR <⟨ Nothing ⟩)
@@ -225,7 +225,7 @@ item_begins =
 abbrev pub goes_on : Look
 goes_on = Either (next '?') (Both (next 'dot') (Not (next 'dots')))
 
--- A list of statements: where it ends, one of its statements, and what stands after an expression in it.
+-- A list of statements: where it ends, one of its statements, and the end of an expression in it.
 pub record Listing : Type 0 where
   pub ends : Look
   pub one : Production
@@ -242,7 +242,7 @@ in_macro = record { ends = at_end; one = macro_statement; end = macro_statement_
 abbrev pub all_of : Listing → Rule
 all_of list = (Unless list.ends (Call list.one)) *
 
--- A statement, with what stands after an expression: an expression that ends in a block needs no `;`, and the last expression
+-- A statement, with the end of an expression: an expression that ends in a block needs no `;`, and the last expression
 -- of a list is no statement.
 abbrev pub statement_of : Listing → Rule
 statement_of list =
@@ -255,7 +255,7 @@ statement_of list =
     or Expression ▸ more list.end
     or Skip ExpectedStatement
 
--- what stands after an expression that needs a `;`, unless it is the last of its list
+-- the end of an expression that needs a `;`, unless it is the last of its list
 abbrev pub end_of : Listing → Rule
 end_of list = EXPR_STMT <⟨ One 'semi' ⟩ or When list.ends Nothing or EXPR_STMT <⟨ One 'semi' ! ⟩
 

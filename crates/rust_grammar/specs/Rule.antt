@@ -73,6 +73,7 @@ pub data Production : Type 0 where
   if_expr : Production
   match_arms : Production
   match_arm : Production
+  type_no_bounds : Production
 
 -- What a choice asks of the place: the n-th token ahead is of a kind, of a contextual kind, touches the next, says that the
 -- whole language is read; a token is left; condition mode is on; the present production has given something.
@@ -98,13 +99,13 @@ pub record Spelling : Type 0 where
   pub parts : List ℕ
 
 -- The ten forms are: one leaf (One, Any); a sequence (Nothing, Then, Near, which asks the looks of both parts, those of the
--- second so many tokens further on); a choice by looks (Or, When, Unless); an option; a repetition; a node; a wrap around all
--- that the present production gave so far; an expected part (Want: it, or a message); an error (Say: a message; Skip: a message
--- about the next token, which is taken; Split: a float after a dot); a lead (what the present production gave so far stands first in
--- the one node that a rule gives, which is read as if anew). Call begins a production anew, Continue goes on in the
--- present one, Mode reads a rule in condition mode or out of it.
+-- second as many tokens further on as the first takes); a choice by looks (Or, When, Unless); an option; a repetition; a node; a
+-- wrap around all that the present production gave so far; an expected part (Want: it, or a message); an error (Say: a message;
+-- Skip: a message about the next token, which is taken; Split: a float after a dot); a lead (what the present production gave so
+-- far stands first in the one node that a rule gives, in which nothing was given before). Call begins a production in which
+-- nothing was given, Continue goes on in the present one, Mode reads a rule in condition mode or out of it.
 -- A choice reads its first part where that begins, and else its second, of which it asks nothing: where all looks of a chain of
--- choices fail, its last part is read. When puts its look in the place of those of its rule, Unless asks besides those of its
+-- choices fail, its last part is read. When replaces the looks of its rule by its own, Unless asks besides those of its
 -- rule that its look fails; both say only where a rule begins, not what it gives.
 pub data Rule : Type 0 where
   Nothing : Rule
@@ -189,7 +190,7 @@ is_silent (Say m) = true
 is_silent r = false
 
 -- Where a rule begins, given where the productions begin. A part that is wanted begins where the part itself does. In a node, in
--- a lead, and in a production that is called anew, nothing has been given yet.
+-- a lead, and in a production that is called, nothing has been given yet.
 unfoldable pub begins : (Production → Look) → Rule → Look
 begins f Nothing = Always
 begins f (One x) = spelled_at 0 x

@@ -37,12 +37,12 @@ unfoldable pub has_contextual : Option ℕ → List Token → Bool
 has_contextual None ts = true
 has_contextual (Some kind) ts = is_contextual kind ts
 
--- one of these spellings is of this kind and of so many tokens, and they are next
+-- one of these spellings is of this kind and of `count` tokens, and they are next
 unfoldable pub is_one_of : List Spelling → (kind count : ℕ) → List Token → Bool
 is_one_of [] kind count ts = false
 is_one_of (x ∷ xs) kind count ts = (x.kind == kind && length x.parts == count && (has_contextual x.contextual ts && are_next x.parts ts)) || is_one_of xs kind count ts
 
--- A leaf of this kind over so many tokens is spelled here: one token of its kind or a contextual keyword, or a mark.
+-- A leaf of this kind over `count` tokens is spelled here: one token of its kind or a contextual keyword, or a mark.
 unfoldable pub is_spelled : (kind count : ℕ) → List Token → Bool
 is_spelled kind count ts = (count == 1 && (is_token kind ts || is_contextual_word kind ts)) || is_one_of marks kind count ts
 
@@ -51,7 +51,7 @@ unfoldable pub is_float : (ends_in_dot : Bool) → List Token → Bool
 is_float ends_in_dot [] = false
 is_float ends_in_dot (t ∷ ts) = t.kind == FLOAT_NUMBER && (if ends_in_dot then not t.joint else t.joint)
 
--- so many of the tokens are left out, if this holds of them
+-- the tokens without the first `count`, if this holds of them
 unfoldable pub drop_if : Bool → ℕ → List Token → Option (List Token)
 drop_if holds count ts = if holds then Some (drop count ts) else None
 

@@ -20,7 +20,7 @@ item_begins =
 abbrev pub goes_on : Look
 goes_on = Either (next '?') (Both (next 'dot') (Not (next 'dots')))
 
--- A list of statements: where it ends, one of its statements, and what stands after an expression in it.
+-- A list of statements: where it ends, one of its statements, and the end of an expression in it.
 pub record Listing : Type 0 where
   pub ends : Look
   pub one : Production
@@ -59,7 +59,7 @@ ended_expression list = Expression ▸ more list.end
 abbrev pub expression_statement : Listing → Rule
 expression_statement list = BlockLike ▸ after_block list or ended_expression list or Skip ExpectedStatement
 
--- A statement, with what stands after an expression: an expression that ends in a block needs no `;`, and the last expression
+-- A statement, with the end of an expression: an expression that ends in a block needs no `;`, and the last expression
 -- of a list is no statement.
 abbrev pub statement_of : Listing → Rule
 statement_of list =
@@ -70,7 +70,7 @@ statement_of list =
     or When item_begins Item
     or expression_statement list
 
--- what stands after an expression that needs a `;`, unless it is the last of its list
+-- the end of an expression that needs a `;`, unless it is the last of its list
 abbrev pub end_of : Listing → Rule
 end_of list = EXPR_STMT <⟨ One 'semi' ⟩ or When list.ends Nothing or EXPR_STMT <⟨ One 'semi' ! ⟩
 

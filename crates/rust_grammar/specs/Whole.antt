@@ -1,6 +1,6 @@
 -- The whole grammar: the rows of all subjects, and the order in which productions call each other.
 use Rattle.std.specs.Prelude.{ℕ}
-use Rattle.rust_grammar.specs.Rule.{source_file, macro_items, macro_statements, item, body, meta, use_tree, param, path, type_path, expr_path, generic_arg, generic_param, bounds, bound, where_pred, any_type, pattern, single_pattern, pattern_field, block, statement, macro_statement, expression, operation, operation_tail, disjunction, conjunction, comparison, bit_or, bit_xor, bit_and, bit_shift, sum, product, cast, prefixed, postfix, atom, field_value, block_like, match_arm, Production, Rule, Nothing}
+use Rattle.rust_grammar.specs.Rule.{source_file, macro_items, macro_statements, item, body, meta, use_tree, param, path, type_path, expr_path, generic_arg, generic_param, bounds, bound, where_pred, any_type, pattern, single_pattern, pattern_field, block, statement, macro_statement, expression, operation, operation_tail, disjunction, conjunction, comparison, bit_or, bit_xor, bit_and, bit_shift, sum, product, cast, prefixed, postfix, atom, field_value, block_like, match_arm, type_no_bounds, Production, Rule, Nothing}
 use Rattle.rust_grammar.specs.Meaning.{Table}
 use Rattle.rust_grammar.specs.Items.{items}
 use Rattle.rust_grammar.specs.Statements.{statements}
@@ -18,16 +18,16 @@ rank item = 3
 rank body = 2
 rank meta = 2
 rank use_tree = 2
-rank param = 4
+rank param = 5
 rank path = 1
 rank type_path = 1
 rank expr_path = 1
-rank generic_arg = 3
+rank generic_arg = 5
 rank generic_param = 1
 rank bounds = 3
 rank bound = 2
-rank where_pred = 4
-rank any_type = 2
+rank where_pred = 5
+rank any_type = 4
 rank pattern = 3
 rank single_pattern = 2
 rank pattern_field = 1
@@ -53,6 +53,7 @@ rank atom = 3
 rank field_value = 2
 rank block_like = 2
 rank match_arm = 17
+rank type_no_bounds = 5
 rank x = 0
 
 -- the rows of all subjects; each production stands in one of them

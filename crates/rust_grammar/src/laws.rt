@@ -60,7 +60,7 @@ pub fn token_trees_are_bracketed()
 
 /// A right operand that is a binary expression binds more tightly than the operator before it,
 /// unless that is an assignment; a left one binds no less tightly than the operator after it, and
-/// is no assignment. Some trees where that is not so are told.
+/// is no assignment. Of some trees that break this the law finds that they do.
 pub fn operators_bind_by_power()
     ensures productions { OperatorsOfProductionsBindByPower }
     ensures entries { OperatorsOfEntriesBindByPower }

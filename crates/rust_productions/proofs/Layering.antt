@@ -4,7 +4,7 @@ use Rattle.std.proofs.lemmas.Bool.{eq-eqb, eqb-true}
 use Rattle.parser_input.specs.Kinds.{BIN_EXPR, CAST_EXPR}
 use Rattle.parser_events.specs.Forest.{ExpectedExpression}
 use Rattle.parser_events.specs.View.{View}
-use Rattle.rust_grammar.specs.Calls.{AnyType}
+use Rattle.rust_grammar.specs.Calls.{TypeNoBounds}
 use Rattle.rust_grammar.specs.Expressions.{expressions}
 use Rattle.rust_grammar.specs.Items.{items}
 use Rattle.rust_grammar.specs.Meaning.{Reading, after, begins_below, fresh, look_of, meaning, read, sees}
@@ -202,6 +202,6 @@ binary-turn zero some e = absurd (omega (arith, some))
 binary-turn (suc zero) some e = absurd (let z : true ≡ false = e in cc)
 binary-turn (suc (suc h)) some e = ap (λ (m : ℕ). Wrap BIN_EXPR (Then (operators_at (suc (suc h))) (Want (Call (layer_at m)) ExpectedExpression))) (let e : suc h ≡ suc (suc h) - 1 = omega arith in e)
 
-pub cast-turn : turn_at 1 ≡ Wrap CAST_EXPR (Then (One 'as') (AnyType !))
+pub cast-turn : turn_at 1 ≡ Wrap CAST_EXPR (Then (One 'as') (TypeNoBounds !))
 unfolding turn_at operators_at operators
 cast-turn = refl

@@ -15,3 +15,4 @@ pub mod Words
 pub mod Operators
 pub mod Layering
 pub mod Ranges
+pub mod NoPath

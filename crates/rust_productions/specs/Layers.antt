@@ -2,7 +2,7 @@
 use Rattle.std.specs.Prelude.{ℕ, zero, suc, List, [], ◌∷◌, get_or}
 use Rattle.parser_input.specs.Kinds.{BIN_EXPR, CAST_EXPR}
 use Rattle.parser_events.specs.Forest.{ExpectedExpression}
-use Rattle.rust_grammar.specs.Calls.{AnyType}
+use Rattle.rust_grammar.specs.Calls.{TypeNoBounds}
 use Rattle.rust_grammar.specs.Expressions.{assignment}
 use Rattle.rust_grammar.specs.Notation.{◌or◌, ◌▸◌, ◌!, ◌<⟨◌⟩, op}
 use Rattle.rust_grammar.specs.Words.{'==', '!=', '<=', '>=', '&&', '||', '|>', '<<', '>>', '<', '>', '-', '&', '|', '+', '*', '/', '^', '%', 'as'}
@@ -40,13 +40,13 @@ operators =
 unfoldable pub operators_at : ℕ → Rule
 operators_at height = get_or operators height never
 
--- An operator of the layer of this height, with what stands after it: a type, or an operand of the layer below.
+-- An operator of the layer of this height and its right operand: a type, or an operand of the layer below.
 unfoldable pub turn_at : ℕ → Rule
 turn_at zero = never
-turn_at (suc zero) = CAST_EXPR <⟨ operators_at 1 ▸ AnyType ! ⟩
+turn_at (suc zero) = CAST_EXPR <⟨ operators_at 1 ▸ TypeNoBounds ! ⟩
 turn_at (suc (suc h)) = BIN_EXPR <⟨ operators_at (suc (suc h)) ▸ Want (Call (layer_at (suc h))) ExpectedExpression ⟩
 
--- the turns of so many layers, from this height on
+-- the turns of `count` layers, from the height `low` on
 unfoldable pub turns_from : (count low : ℕ) → List Rule
 turns_from zero low = []
 turns_from (suc n) low = turn_at low ∷ turns_from n (suc low)

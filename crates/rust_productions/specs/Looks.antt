@@ -18,17 +18,17 @@ looks_per_token = 4096
 abbrev pub spent : View → ℕ
 spent v = v.looks + 4096 * tokens v
 
--- It takes at least one token, and of the looks that this pays for at least so many are left over.
+-- It takes at least one token, and at least `over` of the looks that this pays for are left over.
 pub record Takes (over : ℕ) (old new : View) : Type 0 where
   pub left : tokens new + 1 ≤ tokens old
   pub looks : spent new + over ≤ spent old
 
--- It takes tokens or none, and makes at most so many looks that these do not pay for.
+-- It takes tokens or none, and makes at most `most` looks that these do not pay for.
 pub record Asks (most : ℕ) (old new : View) : Type 0 where
   pub left : tokens new ≤ tokens old
   pub looks : spent new ≤ spent old + most
 
--- It takes no token, changes no node and makes at most so many looks.
+-- It takes no token, changes no node and makes at most `most` looks.
 pub record Peeks (most : ℕ) (old new : View) : Type 0 where
   pub same : Does (λ s. s) old new
   pub left : tokens new ≡ tokens old

@@ -28,7 +28,7 @@ pub record IsLayerNext (o : Operator) (v : View) : Type 0 where
   pub some : 1 ≤ o.height
   pub high : o.height ≤ 10
 
--- the marks of ranges
+-- the range operators
 abbrev pub spelling_of : RangeMark → Spelling
 spelling_of Exclusive = 'dots'
 spelling_of Inclusive = 'dots_eq'

@@ -22,6 +22,7 @@ use parser_events::message::Message;
 use parser_events::parser::{Marker, Parser};
 use parser_input::syntax_kind::SyntaxKind;
 
+pub mod const_args;
 pub mod expressions;
 pub mod fields;
 pub mod generic_args;

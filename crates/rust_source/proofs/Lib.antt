@@ -1,2 +1,3 @@
 pub mod Roots
 pub mod Inserted
+pub mod Recorded

@@ -1,15 +1,14 @@
 -- What an entry reads is a tree, whose root is handed out.
-use Rattle.std.proofs.Common.{◌≡◌, ℕ, ◌<◌, nat_lt, Bool, true, false, List, [], ◌∷◌, length, chars, Some, sym, ap, ◌∙◌}
+use Rattle.std.proofs.Common.{◌≡◌, ℕ, nat_lt, Bool, true, false, List, [], ◌∷◌, length, chars, Some, sym, ap, ◌∙◌}
 use Rattle.rustc_lexer.specs.Rows.{row, first_fit}
 use Rattle.rowan_green.specs.Forest.{Tree}
 use Rattle.rowan_green.specs.Leaf.{Leaf}
-use Rattle.rowan_green.specs.Term.{Term}
 use Rattle.rowan_green.specs.declared.utility_types.NodeOrToken.TheVariants as terms
 use Rattle.rowan.specs.Place.{term_at}
 use Rattle.parser_input.specs.declared.edition.Edition.{Edition}
 use Rattle.ra_parser.specs.Entries.{production_of}
 use Rattle.ra_parser.specs.declared.entry_points.TopEntryPoint.{TopEntryPoint}
-use Rattle.syntax_tree.specs.Element.{Element, element_at}
+use Rattle.syntax_tree.specs.Element.{Element}
 use Rattle.rust_document.specs.Payload.{IsDetached, Message, TooLong, Whole, payload_of}
 use Rattle.rust_document.specs.Reading.{messages_by, tree_by}
 use Rattle.rust_document.specs.Step.{MAX_TEXT}

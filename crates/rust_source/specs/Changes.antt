@@ -1,11 +1,12 @@
 -- What a tool may say of its changes.
-use Rattle.std.specs.Prelude.{◌≡◌, [], ◌∷◌, List, All}
-use Rattle.rowan_green.specs.Forest.{tree_text}
+use Rattle.std.specs.Prelude.{◌≡◌, [], ◌∷◌, All}
+pub use Rattle.rowan_green.specs.Forest.{tree_text}
 pub use Rattle.tree_rewrite.specs.Change.{Change, insert, replace}
 pub use Rattle.syntax_tree.specs.Element.{Element}
-pub use Rattle.syntax_editor.specs.Editing.{Editing}
-use Rattle.rust_document.specs.CommitWithoutMessages.{HaveNoMessages}
-use Rattle.rust_document.specs.Rewrite.{rewritten}
+pub use Rattle.syntax_editor.specs.Editing.{Editing, untouched, with_changes}
+pub use Rattle.syntax_editor.specs.Recording.{Recorded, inserting, replacing}
+pub use Rattle.rust_document.specs.CommitWithoutMessages.{HaveNoMessages}
+pub use Rattle.rust_document.specs.Rewrite.{rewritten}
 pub use Rattle.rust_document.specs.Step.{State, verdict, Accepted, present}
 
 -- something is inserted, and nothing is replaced

@@ -8,7 +8,10 @@ use Rattle.syntax_tree.specs.Element.{Element, element_at}
 use Rattle.syntax_tree.specs.Handle.{node_of, with_place}
 use Rattle.syntax_tree.specs.Search.{elements}
 use Rattle.syntax_tree.specs.declared.element.SyntaxElement.{SyntaxElement}
-use Rattle.rust_document.specs.Payload.{Payload, Whole, RefusesPayload}
+use Rattle.parser_input.specs.declared.edition.Edition.{Edition}
+use Rattle.ra_parser.specs.declared.entry_points.TopEntryPoint.TheVariants as entries
+use Rattle.rust_document.specs.Payload.{Payload, Whole, RefusesPayload, payload_of}
+use Rattle.rust_document.specs.declared.payload_entry.PayloadEntry.TheVariants.{Top}
 use Rattle.rust_document.specs.declared.error.PayloadError.TheVariants as payloads
 use Rattle.rust_source.specs.declared.error.NodeError.{NodeError}
 use Rattle.rust_source.specs.declared.error.NodeError.TheVariants as errors
@@ -40,6 +43,16 @@ first_of_kind kind es = find (λ e. kind_at e.place == kind) (filter_map node_of
 -- the first node of a kind in preorder, the root among them
 abbrev pub first_node : ℕ → ℕ → Tree → Option Element
 first_node kind number t = first_of_kind kind (elements (root_of number t))
+
+-- what a text is as items, as statements, and as an expression
+abbrev pub items_payload : Edition → List ℕ → Payload
+items_payload edition text = payload_of (Top entries.MacroItems) edition text
+
+abbrev pub statements_payload : Edition → List ℕ → Payload
+statements_payload edition text = payload_of (Top entries.MacroStmts) edition text
+
+abbrev pub expression_payload : Edition → List ℕ → Payload
+expression_payload edition text = payload_of (Top entries.Expr) edition text
 
 -- an attribute is read before an item
 abbrev pub attribute_text : List ℕ → List ℕ

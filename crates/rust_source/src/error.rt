@@ -1,4 +1,5 @@
 //! The errors of a tool.
+use renamer::RenameError;
 use rust_document::{
     CommitError, EditError, MakeError, MergeError, OpenError, PayloadError, RecordError,
     WhitespaceError, WithoutMessagesError,
@@ -54,6 +55,9 @@ pub enum SourceError {
     /// A commit of texts without messages fails.
     #[error(transparent)]
     WithoutMessages(#[from] WithoutMessagesError),
+    /// Identifiers are not renamed.
+    #[error(transparent)]
+    Rename(#[from] RenameError),
     /// An allocation fails.
     #[error("out of memory")]
     Memory(#[from(alloc)] AllocError),
@@ -62,6 +66,7 @@ pub enum SourceError {
 #[cfg(test)]
 mod tests {
     use super::{NodeError, SourceError};
+    use renamer::RenameError;
     use rust_document::{
         CommitError, EditError, MakeError, MergeError, OpenError, PayloadError, RecordError,
         WhitespaceError, WithoutMessagesError,
@@ -71,7 +76,7 @@ mod tests {
     use syntax_tree::PositionError;
 
     /// An error of each kind, its variant, and its text.
-    fn texts() -> [(SourceError, SourceError, &'static str); 12] {
+    fn texts() -> [(SourceError, SourceError, &'static str); 14] {
         [
             (
                 OpenError::TooLong.into(),
@@ -127,6 +132,16 @@ mod tests {
                 WithoutMessagesError::Messages.into(),
                 SourceError::WithoutMessages(WithoutMessagesError::Messages),
                 "has messages",
+            ),
+            (
+                RenameError::Refused(CommitError::Unfaithful).into(),
+                SourceError::Rename(RenameError::Refused(CommitError::Unfaithful)),
+                "the new text does not read as the rewritten tree",
+            ),
+            (
+                RenameError::NoMemory.into(),
+                SourceError::Rename(RenameError::NoMemory),
+                "out of memory",
             ),
             (
                 AllocError.into(),

@@ -5,14 +5,20 @@
 //! [`SourceError`] takes all of them by `?`.
 #![tactic(auto)]
 
+pub mod ancestors;
 pub mod error;
+pub mod identifiers;
 pub mod lines;
 pub mod making;
 pub mod source;
 
+pub use ancestors::ancestor_below;
 pub use error::{NodeError, SourceError};
+pub use lines::Side;
+pub use making::is_of_kind;
 pub use parser_input::{Edition, SyntaxKind};
 pub use ra_parser::TopEntryPoint;
+pub use renamer::RenameError;
 pub use rowan_green::{TextRange, TextSize};
 pub use rust_document::{
     Annotations, CommitError, Committed, EditError, Edited, IndentLevel, LexedToken, MakeError,
@@ -24,3 +30,12 @@ pub use source::Source;
 pub use syntax_tree::{
     Element, Position, PositionError, SyntaxElement, SyntaxNode, SyntaxToken, TreeIds,
 };
+pub use typed_nodes::{
+    AstNode, Attr, AttrParts, Call, CallParts, Enum, EnumParts, Fn, FnParts, HasArgList,
+    HasAttributes, HasElements, HasGenericParams, HasName, HasVisibility, Impl, ImplParts,
+    ItemList, Let, LetParts, MethodCall, MethodCallParts, SourceFile, StmtList, Struct,
+    StructParts, Use, UseParts,
+};
+
+#[cfg(test)]
+mod typed_tests;

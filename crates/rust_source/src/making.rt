@@ -8,12 +8,13 @@ ghost use Rattle.rowan_green.specs.Forest.{Tree};
 ghost use Rattle.rowan_green.specs.Term.{tree_of};
 ghost use Rattle.rowan_green.specs.declared.utility_types.NodeOrToken.TheVariants.{Token};
 ghost use Rattle.syntax_tree.specs.Element.{element_at};
+ghost use Rattle.syntax_tree.specs.Nodes.{is_of_kind};
 ghost use Rattle.syntax_tree.specs.Search.{elements};
 ghost use Rattle.syntax_editor.specs.Making.{RefusesMake};
 ghost use Rattle.rust_document.specs.Payload.{payload_of, Whole};
 ghost use Rattle.rust_document.specs.declared.payload_entry.PayloadEntry.TheVariants.{Top};
 ghost use Rattle.rust_source.specs.Lending.{LendsNumbers};
-ghost use Rattle.rust_source.specs.Nodes.{attribute_text, first_node, first_of_kind, only, only_node, root_of, top_nodes, IsFound, IsSpentOnce, LacksNode, RefusesNode, RefusesRoot};
+ghost use Rattle.rust_source.specs.Nodes.{attribute_text, first_node, first_of_kind, only, only_node, root_of, top_nodes, IsFound, LacksNode, RefusesNode, RefusesRoot};
 
 use crate::error::NodeError;
 use crate::source::Source;
@@ -62,6 +63,13 @@ fn only_child(alloc: Global, root: &SyntaxNode) -> Result<SyntaxNode, NodeError>
     }
 }
 
+/// Returns `true` if `node` is of a kind. Kinds are compared by their raw numbers.
+pub fn is_of_kind(node: &SyntaxNode, kind: SyntaxKind) -> bool
+    ensures { result ≡ is_of_kind (raw_of kind) node.now }
+{
+    node.cursor().green().kind().0 == kind.to_raw()
+}
+
 /// Returns the first node of a kind in preorder, the root among them.
 fn first_node(alloc: Global, root: &SyntaxNode, kind: SyntaxKind) -> Result<SyntaxNode, NodeError>
     ensures found { IfOk result (λ n. first_of_kind (raw_of kind) (elements root.now) ≡ Some n) }
@@ -79,6 +87,14 @@ fn first_node(alloc: Global, root: &SyntaxNode, kind: SyntaxKind) -> Result<Synt
 }
 
 impl Source {
+    /// Makes `number` the next tree number again. No element with that number is handed out.
+    pub(crate) fn give_back(&mut self, number: u32)
+        ensures { self.new ≡
+            record { alloc = self.old.alloc; document = self.old.document; next = number } }
+    {
+        self.ids = TreeIds::starting_at(number);
+    }
+
     /// Returns the root of what an entry reads. Its tree gets the next number.
     fn payload_root(&mut self, entry: TopEntryPoint, text: &str) -> Result<SyntaxNode, NodeError>
         ensures root { IfOk result (λ n. (t : Tree)
@@ -110,10 +126,16 @@ impl Source {
         ensures document { self.new.document ≡ self.old.document }
         ensures alloc { self.new.alloc ≡ self.old.alloc }
         ensures number { OnOk result (self.new.next ≡ self.old.next + 1) }
-        ensures numbers { IsSpentOnce self.old.next self.new.next }
+        ensures kept { IfErr result (λ _. self.new ≡ self.old) }
     {
         let root = self.payload_root(entry, text)?;
-        only_child(self.alloc, &root)
+        match only_child(self.alloc, &root) {
+            Ok(node) => Ok(node),
+            Err(error) => {
+                self.give_back(root.tree());
+                Err(error)
+            }
+        }
     }
 
     /// Returns the one item that a text is. The item is in a new tree, below a root; the tree gets the
@@ -124,7 +146,7 @@ impl Source {
     /// - [`NodeError::Payload`] if the text is no payload of [`TopEntryPoint::MacroItems`].
     /// - [`NodeError::NotOneNode`] if it has no item, or more than one.
     ///
-    /// On error, the document is unchanged; a tree number may be used up.
+    /// On error, the source is unchanged.
     pub fn payload_item(&mut self, text: &str) -> Result<SyntaxNode, NodeError>
         ensures found { IfOk result (IsFound only_node self.old.next
             (payload_of (Top entries.MacroItems) self.old.document.edition text.now)) }
@@ -133,7 +155,7 @@ impl Source {
         ensures document { self.new.document ≡ self.old.document }
         ensures alloc { self.new.alloc ≡ self.old.alloc }
         ensures number { OnOk result (self.new.next ≡ self.old.next + 1) }
-        ensures numbers { IsSpentOnce self.old.next self.new.next }
+        ensures kept { IfErr result (λ _. self.new ≡ self.old) }
     {
         self.payload_child(TopEntryPoint::MacroItems, text)
     }
@@ -146,7 +168,7 @@ impl Source {
     /// - [`NodeError::Payload`] if the text is no payload of [`TopEntryPoint::MacroStmts`].
     /// - [`NodeError::NotOneNode`] if it has no statement, or more than one.
     ///
-    /// On error, the document is unchanged; a tree number may be used up.
+    /// On error, the source is unchanged.
     pub fn payload_statement(&mut self, text: &str) -> Result<SyntaxNode, NodeError>
         ensures found { IfOk result (IsFound only_node self.old.next
             (payload_of (Top entries.MacroStmts) self.old.document.edition text.now)) }
@@ -155,7 +177,7 @@ impl Source {
         ensures document { self.new.document ≡ self.old.document }
         ensures alloc { self.new.alloc ≡ self.old.alloc }
         ensures number { OnOk result (self.new.next ≡ self.old.next + 1) }
-        ensures numbers { IsSpentOnce self.old.next self.new.next }
+        ensures kept { IfErr result (λ _. self.new ≡ self.old) }
     {
         self.payload_child(TopEntryPoint::MacroStmts, text)
     }
@@ -168,7 +190,7 @@ impl Source {
     /// - [`NodeError::Payload`] if the text is no payload of `entry`.
     /// - [`NodeError::NotOneNode`] if it has no such node.
     ///
-    /// On error, the document is unchanged; a tree number may be used up.
+    /// On error, the source is unchanged.
     pub fn payload_node(
         &mut self,
         entry: TopEntryPoint,
@@ -182,10 +204,16 @@ impl Source {
         ensures document { self.new.document ≡ self.old.document }
         ensures alloc { self.new.alloc ≡ self.old.alloc }
         ensures number { OnOk result (self.new.next ≡ self.old.next + 1) }
-        ensures numbers { IsSpentOnce self.old.next self.new.next }
+        ensures kept { IfErr result (λ _. self.new ≡ self.old) }
     {
         let root = self.payload_root(entry, text)?;
-        first_node(self.alloc, &root, kind)
+        match first_node(self.alloc, &root, kind) {
+            Ok(node) => Ok(node),
+            Err(error) => {
+                self.give_back(root.tree());
+                Err(error)
+            }
+        }
     }
 
     /// Returns the first attribute of the item `TEXT struct S;`, so the attribute that a text as
@@ -196,7 +224,7 @@ impl Source {
     /// - [`NodeError::Payload`] if the item is no payload of [`TopEntryPoint::SourceFile`].
     /// - [`NodeError::NotOneNode`] if it has no attribute.
     ///
-    /// On error, the document is unchanged; a tree number may be used up.
+    /// On error, the source is unchanged.
     pub fn payload_attribute(&mut self, text: &str) -> Result<SyntaxNode, NodeError>
         ensures found { IfOk result (IsFound (first_node ATTR) self.old.next
             (payload_of (Top entries.SourceFile) self.old.document.edition (attribute_text text.now))) }
@@ -205,7 +233,7 @@ impl Source {
         ensures document { self.new.document ≡ self.old.document }
         ensures alloc { self.new.alloc ≡ self.old.alloc }
         ensures number { OnOk result (self.new.next ≡ self.old.next + 1) }
-        ensures numbers { IsSpentOnce self.old.next self.new.next }
+        ensures kept { IfErr result (λ _. self.new ≡ self.old) }
     {
         let item = format!(in self.alloc; "{text} struct S;")?;
         self.payload_node(TopEntryPoint::SourceFile, SyntaxKind::ATTR, item.as_str())

@@ -3,6 +3,8 @@ ghost use Rattle.std.specs.Prelude.{◌≡◌, ◌≤◌, ◌+◌, ℕ, true, ch
 ghost use Rattle.lexed_text.specs.Kept.{IsKept};
 ghost use Rattle.parser_input.specs.Kind.{raw_of};
 ghost use Rattle.rowan_green.specs.Forest.{tree_text};
+ghost use Rattle.renamer.specs.Plain.{IsPlain, LacksRoom};
+ghost use Rattle.renamer.specs.Renamed.{renamed_text};
 ghost use Rattle.syntax_editor.specs.Editing.{untouched};
 ghost use Rattle.syntax_tree.specs.Handle.{element_of};
 ghost use Rattle.rust_document.specs.Commit.{RefusesCommit};
@@ -18,12 +20,14 @@ ghost use Rattle.rust_document.specs.Reading.{messages};
 ghost use Rattle.rust_document.specs.Renames.{IsPlainRenaming, IsReadExactly};
 ghost use Rattle.rust_document.specs.Rewrite.{annotated, rewritten, changed};
 ghost use Rattle.rust_document.specs.Seen.{message_of_error};
-ghost use Rattle.rust_document.specs.Step.{MAX_TEXT, first_element, root_element, verdict, Accepted};
+ghost use Rattle.rust_document.specs.Step.{MAX_TEXT, first_element, present, root_element, verdict, Accepted};
 ghost use Rattle.rust_document.specs.Tokens.{span_of, tokens_of};
 ghost use Rattle.rust_document.specs.WellSpaced.{IsWellSpacedRewrite};
 ghost use Rattle.rust_document.specs.WithoutMessages.{HasNoMessages, HasPairedBrackets, HasPlacedOperators};
+ghost use Rattle.rust_source.specs.Nodes.{IsSpentOnce};
 
 use parser_input::{Edition, SyntaxKind};
+use renamer::{RenameError, rename};
 use rowan_green::TextRange;
 use rust_document::{
     CommitError, Committed, Document, EditError, Edited, OpenError, PayloadEntry, PayloadError,
@@ -312,5 +316,33 @@ impl Source {
     {
         self.document
             .commit_without_messages(self.alloc, editor, &mut self.ids)
+    }
+
+    /// Renames the identifiers `old` to `new`, all at once, in macro calls too. Nothing else in the
+    /// text changes. If both names are plain and no identifier `old` is the prefix of a literal, only
+    /// memory, tree numbers and the length of the new text can refuse it.
+    ///
+    /// # Errors
+    ///
+    /// - [`RenameError::NoToken`] if `new` is not one token.
+    /// - [`RenameError::Refused`] if the new text does not read as the renamed tree, is too long, or no
+    ///   tree number is left.
+    /// - each of these, [`RenameError::NotRecorded`] and [`RenameError::NoMemory`] if an allocation fails.
+    ///
+    /// On error, the document is unchanged; a tree number may be used up.
+    pub fn rename(&mut self, old: &str, new: &str) -> Result<(), RenameError>
+        ensures text { OnOk result (self.new.document.text
+            ≡ renamed_text old.now new.now (present self.old.document)) }
+        ensures edition { OnOk result (self.new.document.edition ≡ self.old.document.edition) }
+        ensures tree { OnOk result (self.new.document.number ≡ self.old.next + 1) }
+        ensures number { OnOk result (self.new.next ≡ self.old.next + 2) }
+        ensures plain { IfErr result (λ error. IsPlain self.old.document old.now new.now
+            → length (renamed_text old.now new.now (present self.old.document)) ≤ MAX_TEXT
+            → LacksRoom self.old.next new.now error) }
+        ensures document { IfErr result (λ _. self.new.document ≡ self.old.document) }
+        ensures alloc { self.new.alloc ≡ self.old.alloc }
+        ensures numbers { IfErr result (λ _. IsSpentOnce self.old.next self.new.next) }
+    {
+        rename(self.alloc, &mut self.document, old, new, &mut self.ids)
     }
 }

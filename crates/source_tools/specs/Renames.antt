@@ -6,8 +6,8 @@ use Rattle.std.specs.Str.{bytes_eq}
 use Rattle.parser_input.specs.Kinds.{IDENT}
 use Rattle.parser_input.specs.declared.edition.Edition.{Edition}
 use Rattle.file_target.specs.Files.{Files, FileState}
-use Rattle.rename_example.specs.Plain.{IsPlain, LacksRoom}
-use Rattle.rename_example.specs.Renamed.{renamed_text}
+use Rattle.renamer.specs.Plain.{IsPlain, LacksRoom}
+use Rattle.renamer.specs.Renamed.{renamed_text}
 use Rattle.rust_document.specs.Reading.{tree}
 use Rattle.rust_document.specs.Step.{MAX_TEXT, State}
 use Rattle.rust_document.specs.Tokens.{Span, tokens_of}

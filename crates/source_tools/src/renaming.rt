@@ -8,7 +8,7 @@ use crate::decode::{encode, text_of};
 use crate::source::FileError;
 use crate::tokens::part;
 use parser_input::{Edition, SyntaxKind};
-use rename_example::{RenameError, rename};
+use renamer::{RenameError, rename};
 use rust_document::{Document, LexedToken, OpenError};
 use std::alloc::{AllocError, Global};
 use std::fmt;

@@ -3,7 +3,8 @@
 use clap::{Arg, ArgAction, Command};
 use std::alloc::{AllocError, Global};
 
-const ABOUT: &str = "Reads Rust source files: their messages, tokens and trees; renames in them";
+const ABOUT: &str =
+    "Reads Rust source files: their messages, tokens and trees; renames in them and rewrites them";
 
 const AFTER: &str = "\
 A FILE is a path, `-` for standard input, or a directory for the `.rs` files in it, in order of name; \
@@ -14,6 +15,32 @@ The exit status is 0, or 1 if `check` prints messages, or 2 after a fault: a fil
 is named on standard error, and the others are still read.";
 
 const JSON: &str = "Prints an object in JSON for each file, on a line of its own";
+
+const REWRITE: &str = "\
+Rewrites files by the commands in COMMANDS, a file in JSON or `-` for standard input:
+
+    {\"PATH\": [{\"do\": \"edit\", \"start\": 3, \"end\": 4, \"text\": \"new\"}, ..], ..}
+
+The commands of a file are those of a request: they are done one after another, each on the text that \
+those before it left. The files are done in order of path, whatever their order in COMMANDS; of a \
+path that is named twice the last list counts.
+
+Without `--write` nothing is written, and a diff is printed that `patch -p1` and `git apply` read. \
+No file is written unless all commands of all files are accepted; the first one that is refused is \
+named with its file, line, column and number, which counts from 0. A commit is refused if the text has \
+messages before or after it, unless `--allow-messages` is given.";
+
+const SERVE: &str = "\
+Answers requests on standard input, one a line, each with a line of JSON, in order:
+
+    {\"status\":0,\"replies\":[..],\"text\":\"..\"}
+
+A line of at most 67,108,864 bytes, its line feed not counted, is answered as the request program \
+answers these bytes: one that is no request with status 1, its refusal and no text. A longer line is \
+answered so too, with the refusal `TooLong`, whatever is in it. Then the next line is read. A text \
+that is longer than this in JSON, by its escapes, can be sent to the request program alone.
+
+The exit status is 0 at the end of the input, or 2 if reading, writing or memory fails.";
 
 const RENAME: &str = "\
 Renames each identifier OLD to NEW, in macro calls too. These are tokens: scopes, names in format \
@@ -96,6 +123,33 @@ fn renaming<'a>(alloc: Global) -> Result<Command<'a>, AllocError> {
     command.arg(edition(alloc))?.arg(files(alloc))
 }
 
+/// Returns the command that rewrites files.
+fn rewriting<'a>(alloc: Global) -> Result<Command<'a>, AllocError> {
+    let command = Command::new(alloc, "rewrite")
+        .about("Rewrites files by commands")
+        .long_about(REWRITE);
+    let messages = flag(
+        alloc,
+        "allow-messages",
+        "The texts may have messages before and after a commit",
+    );
+    let commands = word(
+        alloc,
+        "commands",
+        "COMMANDS",
+        "A file of commands, or - for standard input",
+    );
+    let command = with_flags(alloc, command)?.arg(messages)?;
+    command.arg(edition(alloc))?.arg(commands)
+}
+
+/// Returns the command that answers requests.
+fn serving<'a>(alloc: Global) -> Command<'a> {
+    Command::new(alloc, "serve")
+        .about("Answers requests on standard input, one a line")
+        .long_about(SERVE)
+}
+
 /// Returns the command without its subcommands.
 fn bare_command<'a>(alloc: Global) -> Command<'a> {
     Command::new(alloc, "tevondimby")
@@ -120,5 +174,8 @@ pub(crate) fn command<'a>(alloc: Global) -> Result<Command<'a>, AllocError> {
         "Prints the trees of files, a row for each element",
     )?;
     let command = bare_command(alloc).subcommand(check)?.subcommand(tokens)?;
-    command.subcommand(tree)?.subcommand(renaming(alloc)?)
+    let command = command.subcommand(tree)?.subcommand(renaming(alloc)?)?;
+    command
+        .subcommand(rewriting(alloc)?)?
+        .subcommand(serving(alloc))
 }

@@ -1,9 +1,11 @@
-//! The command `tevondimby`: messages, tokens and trees of source files, and renamings in them.
+//! The command `tevondimby`: messages, tokens and trees of source files, renamings and rewrites of
+//! them, and answers to requests.
 #![tactic(auto)]
 
 mod command_line;
 mod edition_of;
 mod inputs;
+mod rewrite;
 mod run;
 mod source_list;
 mod view;

@@ -3,10 +3,12 @@
 use crate::command_line::command;
 use crate::edition_of::edition_named;
 use crate::inputs::Inputs;
+use crate::rewrite::rewrite;
 use crate::source_list::{SourceList, source_list};
 use crate::view::view;
-use anyhow::Result;
+use anyhow::{Context, Result};
 use clap::ArgMatches;
+use document_requests::{Watched, serve_lines};
 use source_tools::{
     Format, RenameFailure, RenameStop, Renaming, Source, View, plan_renames, rename_files,
     write_diffs,
@@ -100,10 +102,23 @@ fn format_of(matches: &ArgMatches<'_>) -> Format {
     }
 }
 
+/// Answers the requests on standard input, one a line.
+fn serve(rt: &HostRuntime) -> Result<u8> {
+    let mut writer = Watched::new(rt.stdout());
+    match serve_lines(rt.alloc(), rt.stdin(), &mut writer) {
+        Ok(()) => Ok(0),
+        Err(fault) => {
+            let _ = eprintln!(rt; "tevondimby: {fault}");
+            Ok(FAULT)
+        }
+    }
+}
+
 /// Runs the command of the command line. Returns its exit status.
 pub(crate) fn run(rt: &HostRuntime) -> Result<u8> {
     let alloc = rt.alloc();
-    let words: Vec<String> = env::args(rt)?.collect(alloc)?;
+    let words = env::args(rt).context("the arguments cannot be read; each has to be UTF-8")?;
+    let words: Vec<String> = words.collect(alloc)?;
     let matches = match command(alloc)?.try_get_matches_from(words.as_slice()) {
         Ok(matches) => matches,
         Err(error) => {
@@ -116,6 +131,8 @@ pub(crate) fn run(rt: &HostRuntime) -> Result<u8> {
         Some(("tokens", matches)) => view(rt, View::Tokens(format_of(matches)), matches),
         Some(("tree", matches)) => view(rt, View::Tree(format_of(matches)), matches),
         Some(("rename", matches)) => rename(rt, matches),
+        Some(("rewrite", matches)) => rewrite(rt, matches),
+        Some(("serve", _)) => serve(rt),
         _ => Ok(FAULT),
     }
 }

@@ -2,12 +2,13 @@
 //! kind and where it starts and ends in bytes, and then a line `! OFFSET MESSAGE` for each message.
 //!
 //! With the argument `records` the input is a list of records, each a line with an edition and what the text is read as, as
-//! `2021 SourceFile`, and the text, which the character U+001E ends; an empty line follows the lines of each.
+//! `2021 SourceFile`, and the text, which the character U+001E ends; an empty line follows the lines of each. A third word,
+//! `whole`, asks for the grammar of the whole language.
 #![tactic(auto)]
 
 use anyhow::{Context, bail};
 use parser_input::edition::Edition;
-use ra_parser::{ParseError, TopEntryPoint};
+use ra_parser::{Grammar, ParseError, TopEntryPoint};
 use std::alloc::Global;
 use std::io::{BufWriter, Write};
 use std::{env, io};
@@ -21,10 +22,11 @@ fn dump<W: Write>(
     alloc: Global,
     out: &mut W,
     edition: Edition,
+    grammar: Grammar,
     entry_point: TopEntryPoint,
     text: &str,
 ) -> anyhow::Result<()> {
-    match Reading::new(alloc, edition, entry_point, text) {
+    match Reading::new(alloc, edition, grammar, entry_point, text) {
         Ok(reading) => reading.write(out)?,
         Err(ParseError::TooLong) => bail!("a text has too many tokens"),
         Err(ParseError::NoMemory) => bail!("out of memory"),
@@ -35,10 +37,14 @@ fn dump<W: Write>(
 /// Writes the lines of a record's text.
 fn dump_record<W: Write>(alloc: Global, out: &mut W, record: &str) -> anyhow::Result<()> {
     let (head, text) = record.split_once('\n').context("a record has no text")?;
-    let (year, name) = head.split_once(' ').context("a record has no entry")?;
+    let (year, words) = head.split_once(' ').context("a record has no entry")?;
+    let (name, grammar) = match words.strip_suffix(" whole") {
+        Some(name) => (name, Grammar::Whole),
+        None => (words, Grammar::Profile),
+    };
     let edition = names::edition(year).context("no such edition")?;
     let entry_point = names::entry_point(name).context("no such entry")?;
-    dump(alloc, out, edition, entry_point, text)
+    dump(alloc, out, edition, grammar, entry_point, text)
 }
 
 /// Writes the lines of each record, and an empty line after them.
@@ -71,6 +77,7 @@ fn main(rt: HostRuntime) -> anyhow::Result<()> {
             alloc,
             &mut out,
             edition,
+            Grammar::Profile,
             TopEntryPoint::SourceFile,
             input.as_str(),
         )?;

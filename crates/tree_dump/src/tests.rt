@@ -2,7 +2,7 @@
 
 use crate::{dump, dump_records};
 use parser_input::edition::Edition;
-use ra_parser::TopEntryPoint;
+use ra_parser::{Grammar, TopEntryPoint};
 use std::alloc::Global;
 
 /// What is written of a source file of edition 2021.
@@ -12,6 +12,7 @@ fn lines_of(alloc: Global, text: &str) -> anyhow::Result<Vec<u8>> {
         alloc,
         &mut out,
         Edition::Edition2021,
+        Grammar::Profile,
         TopEntryPoint::SourceFile,
         text,
     )?;

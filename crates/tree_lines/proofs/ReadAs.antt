@@ -1,5 +1,5 @@
 -- What is listed of a text's steps is the tree of the text.
-use Rattle.std.proofs.Common.{false, ◌≡◌, ℕ, true, List, [], ◌++◌, length, map, refl, ap, ◌∙◌}
+use Rattle.std.proofs.Common.{Bool, ◌≡◌, ℕ, true, List, [], ◌++◌, length, map, refl, ap, ◌∙◌}
 use Rattle.parser_input.specs.Input.{Token, input}
 use Rattle.parser_input.specs.Lexed.{leaves_of}
 use Rattle.parser_input.specs.Stored.{Whole, whole_of}
@@ -57,8 +57,8 @@ said-alone : (d : Dressed) (s t : Rows) → IsEmpty s → TakesAll IsTaken s (te
 said-alone d s t empty h = (listed d s t h).sayings ∙ ap (λ (l : List Said). map saying_of l ++ sayings_of d) empty.said
 
 -- the tree of an entry over the leaves of a text
-abbrev over : Production → Whole → Dressed
-over asked w = dress_root (entry_of asked w.edition (leaves_of w.leaves)) (leaves_of w.leaves)
+abbrev over : (wide : Bool) → Production → Whole → Dressed
+over wide asked w = dress_root (entry_of asked wide w.edition (leaves_of w.leaves)) (leaves_of w.leaves)
 
 abbrev Puts : Rows → List Step → Whole → Rows → Type 0
 Puts old ss w new =
@@ -66,17 +66,17 @@ Puts old ss w new =
     → TakesAll IsTaken old (text_steps (dress_root f (leaves_of w.leaves))) new
 
 pub read-as :
-    (asked : Production) (edition : Edition) (text : List ℕ) (w : Whole) (ts : List Token) (ss : List Step) (old new : Rows)
-    → is_entry asked ≡ true → w ≡ whole_of edition text → ts ≡ input false w.edition (leaves_of w.leaves) → ss ≡ steps (entry whole asked ts)
-    → IsEmpty old → Puts old ss w new → IsTreeOf asked edition text new.rows.items new.said.items
+    (wide : Bool) (asked : Production) (edition : Edition) (text : List ℕ) (w : Whole) (ts : List Token) (ss : List Step) (old new : Rows)
+    → is_entry asked ≡ true → w ≡ whole_of edition text → ts ≡ input wide w.edition (leaves_of w.leaves) → ss ≡ steps (entry whole asked ts)
+    → IsEmpty old → Puts old ss w new → IsTreeOf (tree_of wide asked edition text) new.rows.items new.said.items
 unfolding tree_of
-read-as asked edition text w ts ss old new is-entry lexed seen parsed empty puts =
+read-as wide asked edition text w ts ss old new is-entry lexed seen parsed empty puts =
     let ls = leaves_of w.leaves in
-    let f = entry_of asked w.edition ls in
+    let f = entry_of asked wide w.edition ls in
     let are : ss ≡ steps f = parsed ∙ ap (λ (l : List Token). steps (entry whole asked l)) seen in
-    let fit : fits ss ls ≡ true = ap (λ (l : List Step). fits l ls) are ∙ entry-fits asked w.edition ls is-entry in
-    let taken : TakesAll IsTaken old (text_steps (over asked w)) new = puts f (entry-rooted asked (input false w.edition ls) is-entry) are fit in
+    let fit : fits ss ls ≡ true = ap (λ (l : List Step). fits l ls) are ∙ entry-fits asked wide w.edition ls is-entry in
+    let taken : TakesAll IsTaken old (text_steps (over wide asked w)) new = puts f (entry-rooted asked (input wide w.edition ls) is-entry) are fit in
     record {
-      elements_are = listed-alone (over asked w) old new empty taken ∙ ap (λ (v : Whole). elements 0 0 (over asked v)) lexed;
-      sayings_are = said-alone (over asked w) old new empty taken ∙ ap (λ (v : Whole). sayings_of (over asked v)) lexed;
+      elements_are = listed-alone (over wide asked w) old new empty taken ∙ ap (λ (v : Whole). elements 0 0 (over wide asked v)) lexed;
+      sayings_are = said-alone (over wide asked w) old new empty taken ∙ ap (λ (v : Whole). sayings_of (over wide asked v)) lexed;
     }

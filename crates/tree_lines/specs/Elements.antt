@@ -17,8 +17,8 @@ bytes_of (dressed.Leaf kind text d) = length (encode_utf8_all text) + bytes_of d
 bytes_of (dressed.Said message place d) = bytes_of d
 bytes_of (dressed.Node kind children d) = bytes_of children + bytes_of d
 
--- The elements inside so many nodes, from a byte of the text on: each node stands before what it holds, and what it holds before
--- what stands after it.
+-- The elements at depth `depth`, from a byte of the text on: each node precedes its descendants, and these precede
+-- its next sibling.
 abbrev pub elements : ℕ → ℕ → Dressed → List Element
 elements depth place dressed.End = []
 elements depth place (dressed.Leaf kind text d) =

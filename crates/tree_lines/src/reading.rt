@@ -2,13 +2,14 @@
 ghost use Rattle.std.specs.Prelude.{◌≡◌, IfOk, chars};
 ghost use Rattle.parser_input.specs.Stored.{whole_of};
 ghost use Rattle.ra_parser.specs.Entries.{production_of};
-ghost use Rattle.tree_lines.specs.Reading.{IsTreeOf};
+ghost use Rattle.ra_parser.specs.Grammars.{is_whole};
+ghost use Rattle.tree_lines.specs.Reading.{IsTreeOf, tree_of};
 
 use crate::rows::{Row, Rows, Said};
 use parser_events::shortcuts::intersperse_trivia;
 use parser_input::edition::Edition;
 use parser_input::lexed_str::LexedStr;
-use ra_parser::{ParseError, TopEntryPoint};
+use ra_parser::{Grammar, ParseError, TopEntryPoint};
 use std::alloc::Global;
 use std::io;
 use std::io::Write;
@@ -38,7 +39,7 @@ fn write_row<W: Write>(out: &mut W, row: Row) -> io::Result<()> {
 }
 
 impl<'a> Reading<'a> {
-    /// Reads a text as what is asked.
+    /// Reads a text as what is asked, by a grammar.
     ///
     /// # Errors
     ///
@@ -46,15 +47,17 @@ impl<'a> Reading<'a> {
     pub fn new(
         alloc: Global,
         edition: Edition,
+        grammar: Grammar,
         entry_point: TopEntryPoint,
         text: &'a str,
     ) -> Result<Reading<'a>, ParseError>
         ensures lexed { IfOk result (λ reading. reading.lexed ≡ whole_of edition (chars text.now)) }
         ensures tree { IfOk result (λ reading.
-            IsTreeOf (production_of entry_point) edition (chars text.now) reading.rows.items reading.said.items) }
+            IsTreeOf (tree_of (is_whole grammar) (production_of entry_point) edition (chars text.now))
+            reading.rows.items reading.said.items) }
     {
         let lexed = LexedStr::new(alloc, edition, text)?;
-        let input = lexed.to_input(alloc)?;
+        let input = grammar.input(alloc, &lexed)?;
         let output = entry_point.parse(alloc, &input)?;
         let mut tree = Rows::new(alloc);
         intersperse_trivia(&lexed, &output, &mut tree)?;

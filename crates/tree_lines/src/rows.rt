@@ -56,7 +56,7 @@ impl Rows {
         }
     }
 
-    /// Lists an element that stands over the next bytes of the text.
+    /// Lists an element that covers the next bytes of the text.
     ///
     /// # Errors
     ///

@@ -1,45 +1,143 @@
 //! Arguments of generics.
 
-ghost use Rattle.std.specs.Prelude.{◌≡◌, ◌≤◌, ◌+◌, Bool, true};
+ghost use Rattle.std.specs.Prelude.{◌≡◌, ◌≤◌, ◌+◌, Bool, true, false};
 ghost use Rattle.parser_input.specs.Kinds as kinds;
 ghost use Rattle.parser_input.specs.Kinds.{ASSOC_TYPE_ARG, CONST_ARG, NAME_REF};
 ghost use Rattle.rust_grammar.specs.Calls.{AnyType, Literal};
-ghost use Rattle.rust_grammar.specs.Notation.{◌▸◌, ◌!, ◌⟨◌⟩};
+ghost use Rattle.rust_grammar.specs.Notation.{◌▸◌, ◌!, ◌⟨◌⟩, wide};
+ghost use Rattle.parser_events.specs.Stack.{IsInnermost};
 ghost use Rattle.rust_grammar.specs.Rule as rules;
 ghost use Rattle.rust_grammar.specs.Rule.{Kind, One};
 ghost use Rattle.rust_grammar.specs.Whole.{rule};
 ghost use Rattle.rust_grammar.specs.Words.{'=', '-', 'ident'};
 ghost use Rattle.rust_grammar.specs.Paths as rows;
-ghost use Rattle.rust_productions.specs.Looks.{tokens, spent, Takes};
-ghost use Rattle.rust_productions.specs.Reads.{looks, Gives, Reads, Saw};
+ghost use Rattle.rust_productions.specs.Looks.{tokens, spent, Takes, Asks, TakesIn, AsksIn};
+ghost use Rattle.rust_productions.specs.Reads.{looks, Anew, Gives, Reads, Saw};
+ghost use Rattle.rust_productions.specs.Starts.{Starts};
 
-use crate::grammar::types::{any_type, expect_type, word_type};
-use parser_events::parser::Parser;
+use crate::grammar::const_args::const_arg;
+use crate::grammar::expressions::blocks::block;
+use crate::grammar::generic_params::bounds;
+use crate::grammar::paths::{Mode, next_segments, opt_type_args};
+use crate::grammar::types::{any_type, expect_type, opt_plus_bounds, type_of_path, word_type};
+use parser_events::parser::{Marker, Parser};
 use parser_input::syntax_kind::SyntaxKind;
-use rust_productions::grammar::names::{at_literal, expect_literal, lifetime, literal};
-use rust_productions::grammar::{at_second, complete, current, start, take};
+use rust_productions::grammar::generic_args::{at_const_value, at_new_arg, at_single_colon};
+use rust_productions::grammar::names::{at_literal, expect_literal, lifetime, literal, name_ref};
+use rust_productions::grammar::{abandon, at, at_second, complete, current, start, take, wrap};
 
 /// Parses a generic argument.
 // T = u8
 #[cycle(grammar)]
-pub(crate) fn generic_arg(p: &mut Parser<'_>, condition: bool)
-    requires begins { Saw condition (looks rules.generic_arg) p.old true }
-    requires some { 1 ≤ tokens p.old }
-    ensures gives { Gives rules.generic_arg condition p.old p.new }
-    ensures takes { Takes 2890 p.old p.new }
+pub(crate) fn generic_arg(p: &mut Parser<'_>)
+    requires begins { Starts (looks rules.generic_arg) p.old }
+    ensures gives { (c : Bool) → Gives rules.generic_arg c p.old p.new }
+    ensures takes { Takes 2880 p.old p.new }
 {
+    if at_new_arg(p) {
+        let frame = start(p);
+        let frame = new_arg(p, frame);
+        abandon(p, frame);
+        return;
+    }
     match current(p) {
         SyntaxKind::LIFETIME_IDENT => lifetime_arg(p),
         SyntaxKind::MINUS => negative_arg(p),
-        SyntaxKind::IDENT => word_arg(p, condition),
+        SyntaxKind::IDENT => word_arg(p),
         _ => {
             if at_literal(p) {
                 literal_arg(p);
                 return;
             }
-            type_arg(p, condition);
+            type_arg(p);
         }
     }
+}
+
+/// Parses a generic argument that only the whole language has, within `frame`.
+// A<u8>: Send
+#[cycle(grammar)]
+fn new_arg(p: &mut Parser<'_>, frame: Marker) -> Marker
+    requires begins { Starts (wide rows.new_arg_begins) p.old }
+    requires innermost { IsInnermost frame p.old.nodes }
+    ensures reads { (c : Bool) → Reads c rows.new_arg p.old p.new }
+    ensures takes { TakesIn result 2890 p.old p.new }
+{
+    if at(p, SyntaxKind::LIFETIME_IDENT) {
+        type_arg(p);
+        return frame;
+    }
+    if at(p, SyntaxKind::L_CURLY) {
+        block_arg(p);
+        return frame;
+    }
+    name_ref(p);
+    opt_type_args(p);
+    named_arg(p, frame)
+}
+
+/// Parses a block as an argument.
+// { a }
+#[cycle(grammar)]
+fn block_arg(p: &mut Parser<'_>)
+    requires some { 1 ≤ tokens p.old }
+    ensures reads { (c : Bool) → Reads c rows.block_arg p.old p.new }
+    ensures takes { Takes 2980 p.old p.new }
+{
+    let node = start(p);
+    block(p);
+    complete(p, node, SyntaxKind::CONST_ARG);
+}
+
+/// Parses a generic argument after its name and the arguments of that, within `frame`.
+// : Send
+#[cycle(grammar)]
+fn named_arg(p: &mut Parser<'_>, frame: Marker) -> Marker
+    requires innermost { IsInnermost frame p.old.nodes }
+    ensures reads { (c : Bool) → Reads c rows.named_arg p.old p.new }
+    ensures asks { AsksIn result 20 p.old p.new }
+{
+    if at(p, SyntaxKind::EQ) {
+        take(p, SyntaxKind::EQ);
+        const_or_type(p);
+        return wrap(p, frame, SyntaxKind::ASSOC_TYPE_ARG);
+    }
+    if at_single_colon(p) {
+        take(p, SyntaxKind::COLON);
+        bounds(p);
+        return wrap(p, frame, SyntaxKind::ASSOC_TYPE_ARG);
+    }
+    front_of_type(p, frame)
+}
+
+/// Parses the value of an associated type or constant.
+// u8
+#[cycle(grammar)]
+fn const_or_type(p: &mut Parser<'_>)
+    ensures reads { (c : Bool) → Reads c rows.const_or_type p.old p.new }
+    ensures asks { Asks 20 p.old p.new }
+{
+    if at_const_value(p) {
+        const_arg(p);
+        return;
+    }
+    expect_type(p);
+}
+
+/// Parses a type argument after its first name and the arguments of that, within `frame`.
+// ::B + Send
+#[cycle(grammar)]
+fn front_of_type(p: &mut Parser<'_>, frame: Marker) -> Marker
+    requires innermost { IsInnermost frame p.old.nodes }
+    ensures reads { (c : Bool) → Reads c rows.front_of_type p.old p.new }
+    ensures asks { AsksIn result 7 p.old p.new }
+{
+    let frame = wrap(p, frame, SyntaxKind::PATH_SEGMENT);
+    let frame = wrap(p, frame, SyntaxKind::PATH);
+    let frame = next_segments(p, frame, Mode::Type);
+    let frame = type_of_path(p, frame);
+    let frame = opt_plus_bounds(p, frame);
+    wrap(p, frame, SyntaxKind::TYPE_ARG)
 }
 
 /// Parses a lifetime argument.
@@ -84,45 +182,44 @@ fn literal_arg(p: &mut Parser<'_>)
 /// Parses a generic argument that starts with an identifier: an associated type or a type.
 // T = u8
 #[cycle(grammar)]
-fn word_arg(p: &mut Parser<'_>, condition: bool)
-    requires word { Saw condition (Kind 0 kinds.IDENT) p.old true }
-    requires some { 1 ≤ tokens p.old }
-    ensures reads { Reads condition (rule rules.generic_arg) p.old p.new }
+fn word_arg(p: &mut Parser<'_>)
+    requires word { Starts (Kind 0 kinds.IDENT) p.old }
+    requires other { (c : Bool) → Saw c (wide rows.new_arg_begins) p.old false }
+    ensures anew { (c : Bool) → Anew c (rule rules.generic_arg) p.old p.new }
     ensures takes { Takes 2900 p.old p.new }
 {
     if at_second(p, SyntaxKind::EQ) {
-        assoc_type_arg(p, condition);
+        assoc_type_arg(p);
         return;
     }
-    type_arg(p, condition);
+    type_arg(p);
 }
 
 /// Parses an associated type with its name.
 // T = u8
 #[cycle(grammar)]
-fn assoc_type_arg(p: &mut Parser<'_>, condition: bool)
+fn assoc_type_arg(p: &mut Parser<'_>)
     requires some { 2 ≤ tokens p.old }
-    ensures reads { Reads condition
+    ensures reads { (c : Bool) → Reads c
         (ASSOC_TYPE_ARG ⟨ NAME_REF ⟨ One 'ident' ⟩ ▸ One '=' ▸ AnyType ! ⟩) p.old p.new }
     ensures takes { Takes 8000 p.old p.new }
 {
     let node = start(p);
     word_type(p, SyntaxKind::IDENT, SyntaxKind::NAME_REF);
     take(p, SyntaxKind::EQ);
-    expect_type(p, condition);
+    expect_type(p);
     complete(p, node, SyntaxKind::ASSOC_TYPE_ARG);
 }
 
 /// Parses a type argument.
 // u8
 #[cycle(grammar)]
-fn type_arg(p: &mut Parser<'_>, condition: bool)
-    requires begins { Saw condition (looks rules.any_type) p.old true }
-    requires some { 1 ≤ tokens p.old }
-    ensures reads { Reads condition rows.type_arg p.old p.new }
+pub(crate) fn type_arg(p: &mut Parser<'_>)
+    requires begins { Starts (looks rules.any_type) p.old }
+    ensures reads { (c : Bool) → Reads c rows.type_arg p.old p.new }
     ensures takes { Takes 2910 p.old p.new }
 {
     let node = start(p);
-    any_type(p, condition);
+    any_type(p);
     complete(p, node, SyntaxKind::TYPE_ARG);
 }

@@ -1,8 +1,9 @@
-//! Generic parameters, bounds, and what `where` asks.
+//! Generic parameters, bounds and where clauses.
 
-ghost use Rattle.std.specs.Prelude.{◌≤◌, Bool, true};
-ghost use Rattle.rust_grammar.specs.Calls.{Bound, WherePred};
-ghost use Rattle.rust_grammar.specs.Notation.{◌▸◌, ⁅◌⁆, ◌*, ◌! };
+ghost use Rattle.std.specs.Prelude.{◌≤◌, Bool, true, false};
+ghost use Rattle.parser_input.specs.Kinds.{TYPE_BOUND, WHERE_PRED};
+ghost use Rattle.rust_grammar.specs.Calls.{AnyType, Bound, GenericParams, WherePred};
+ghost use Rattle.rust_grammar.specs.Notation.{◌▸◌, ⁅◌⁆, ◌*, ◌!, ◌⟨◌⟩, wide};
 ghost use Rattle.rust_grammar.specs.Rule as rules;
 ghost use Rattle.rust_grammar.specs.Rule.{One};
 ghost use Rattle.rust_grammar.specs.Words.{'?'};
@@ -10,12 +11,18 @@ ghost use Rattle.rust_grammar.specs.Paths as rows;
 ghost use Rattle.rust_grammar.specs.Shared as shared;
 ghost use Rattle.rust_productions.specs.Looks.{tokens, Takes, Asks};
 ghost use Rattle.rust_productions.specs.Reads.{looks, Gives, Reads, Saw};
+ghost use Rattle.rust_productions.specs.Starts.{Starts};
 
-use crate::grammar::types::{any_type, opt_type_after, path_type};
+use crate::grammar::lists::generic_params;
+use crate::grammar::new_bounds::new_bound;
+use crate::grammar::new_params::new_param;
+use crate::grammar::types::{any_type, expect_type, opt_type_after, path_type};
 use parser_events::message::Message;
 use parser_events::parser::Parser;
 use parser_input::syntax_kind::SyntaxKind;
-use rust_productions::grammar::generic_params::{at_bound, at_where_pred};
+use rust_productions::grammar::generic_params::{
+    at_bound, at_new_bound, at_new_param, at_new_pred, at_where_pred,
+};
 use rust_productions::grammar::names::{lifetime, name};
 use rust_productions::grammar::paths::at_path;
 use rust_productions::grammar::{at, complete, current, error, expect, start, take};
@@ -27,6 +34,22 @@ fn bound(p: &mut Parser<'_>)
     requires begins { (c : Bool) → Saw c (looks rules.bound) p.old true }
     requires some { 1 ≤ tokens p.old }
     ensures gives { (c : Bool) → Gives rules.bound c p.old p.new }
+    ensures asks { Asks 15 p.old p.new }
+{
+    if at_new_bound(p) {
+        new_bound(p);
+        return;
+    }
+    plain_bound(p);
+}
+
+/// Parses a bound that the profile has too.
+// ?Sized
+#[cycle(grammar)]
+fn plain_bound(p: &mut Parser<'_>)
+    requires begins { Starts (looks rules.bound) p.old }
+    requires plain { (c : Bool) → Saw c (wide rows.new_bound_begins) p.old false }
+    ensures reads { (c : Bool) → Reads c (TYPE_BOUND ⟨ rows.lifetime_or_path ⟩) p.old p.new }
     ensures takes { Takes 3990 p.old p.new }
 {
     let node = start(p);
@@ -38,8 +61,8 @@ fn bound(p: &mut Parser<'_>)
 // ?Sized
 #[cycle(grammar)]
 fn lifetime_or_path(p: &mut Parser<'_>)
-    requires begins { (c : Bool) → Saw c (looks rules.bound) p.old true }
-    requires some { 1 ≤ tokens p.old }
+    requires begins { Starts (looks rules.bound) p.old }
+    requires plain { (c : Bool) → Saw c (wide rows.new_bound_begins) p.old false }
     ensures reads { (c : Bool) → Reads c rows.lifetime_or_path p.old p.new }
     ensures takes { Takes 3990 p.old p.new }
 {
@@ -65,7 +88,7 @@ fn path_after_question(p: &mut Parser<'_>)
 /// Parses a path type; emits an error if there is none.
 // Sized
 #[cycle(grammar)]
-fn expect_path_type(p: &mut Parser<'_>)
+pub(crate) fn expect_path_type(p: &mut Parser<'_>)
     ensures reads { (c : Bool) → Reads c (shared.path_type !) p.old p.new }
     ensures asks { Asks 3 p.old p.new }
 {
@@ -81,7 +104,7 @@ fn expect_path_type(p: &mut Parser<'_>)
 #[cycle(grammar)]
 pub(crate) fn bounds(p: &mut Parser<'_>)
     ensures gives { (c : Bool) → Gives rules.bounds c p.old p.new }
-    ensures asks { Asks 4 p.old p.new }
+    ensures asks { Asks 24 p.old p.new }
 {
     let list = start(p);
     opt_bounds(p);
@@ -93,7 +116,7 @@ pub(crate) fn bounds(p: &mut Parser<'_>)
 #[cycle(grammar)]
 fn opt_bounds(p: &mut Parser<'_>)
     ensures reads { (c : Bool) → Reads c ⁅ rows.bound_list ⁆ p.old p.new }
-    ensures asks { Asks 4 p.old p.new }
+    ensures asks { Asks 24 p.old p.new }
 {
     if at_bound(p) {
         bound(p);
@@ -104,7 +127,7 @@ fn opt_bounds(p: &mut Parser<'_>)
 /// Parses further bounds, each with its `+`.
 // + B + 'a
 #[cycle(grammar)]
-fn further_bounds(p: &mut Parser<'_>)
+pub(crate) fn further_bounds(p: &mut Parser<'_>)
     ensures reads { (c : Bool) → Reads c (rows.further_bound *) p.old p.new }
     ensures asks { Asks 1 p.old p.new }
 {
@@ -119,7 +142,7 @@ fn further_bounds(p: &mut Parser<'_>)
 fn further_bound(p: &mut Parser<'_>)
     requires some { 1 ≤ tokens p.old }
     ensures reads { (c : Bool) → Reads c rows.further_bound p.old p.new }
-    ensures takes { Takes 4090 p.old p.new }
+    ensures takes { Takes 4070 p.old p.new }
 {
     take(p, SyntaxKind::PLUS);
     opt_bound(p);
@@ -128,9 +151,9 @@ fn further_bound(p: &mut Parser<'_>)
 /// Parses an optional bound.
 // B
 #[cycle(grammar)]
-fn opt_bound(p: &mut Parser<'_>)
+pub(crate) fn opt_bound(p: &mut Parser<'_>)
     ensures reads { (c : Bool) → Reads c ⁅ Bound ⁆ p.old p.new }
-    ensures asks { Asks 4 p.old p.new }
+    ensures asks { Asks 24 p.old p.new }
 {
     if at_bound(p) {
         bound(p);
@@ -150,6 +173,44 @@ pub(crate) fn bounds_after_colon(p: &mut Parser<'_>)
     }
 }
 
+/// Parses a binder.
+// for<'a>
+#[cycle(grammar)]
+pub(crate) fn for_binder(p: &mut Parser<'_>)
+    requires some { 1 ≤ tokens p.old }
+    ensures reads { (c : Bool) → Reads c shared.for_binder p.old p.new }
+    ensures takes { Takes 4090 p.old p.new }
+{
+    take(p, SyntaxKind::FOR_KW);
+    expect_generic_params(p);
+}
+
+/// Parses generic parameters; emits an error if there are none.
+// <'a>
+#[cycle(grammar)]
+fn expect_generic_params(p: &mut Parser<'_>)
+    ensures reads { (c : Bool) → Reads c (GenericParams !) p.old p.new }
+    ensures asks { Asks 1 p.old p.new }
+{
+    if at(p, SyntaxKind::L_ANGLE) {
+        generic_params(p);
+        return;
+    }
+    error(p, Message::Expected(SyntaxKind::GENERIC_PARAM_LIST));
+}
+
+/// Parses a lifetime and its optional bounds.
+// 'a: 'b
+#[cycle(grammar)]
+pub(crate) fn lifetime_and_bounds(p: &mut Parser<'_>)
+    requires some { 1 ≤ tokens p.old }
+    ensures reads { (c : Bool) → Reads c rows.lifetime_and_bounds p.old p.new }
+    ensures takes { Takes 4090 p.old p.new }
+{
+    lifetime(p);
+    bounds_after_colon(p);
+}
+
 /// Parses a lifetime parameter.
 // 'a: 'b
 #[cycle(grammar)]
@@ -159,132 +220,177 @@ fn lifetime_param(p: &mut Parser<'_>)
     ensures takes { Takes 4090 p.old p.new }
 {
     let node = start(p);
-    lifetime(p);
-    bounds_after_colon(p);
+    lifetime_and_bounds(p);
     complete(p, node, SyntaxKind::LIFETIME_PARAM);
 }
 
 /// Parses a type parameter.
 // T: A = u8
 #[cycle(grammar)]
-fn type_param(p: &mut Parser<'_>, condition: bool)
+fn type_param(p: &mut Parser<'_>)
     requires some { 1 ≤ tokens p.old }
-    ensures reads { Reads condition rows.type_param p.old p.new }
+    ensures reads { (c : Bool) → Reads c rows.type_param p.old p.new }
     ensures takes { Takes 4090 p.old p.new }
 {
     let node = start(p);
     name(p);
     bounds_after_colon(p);
-    opt_type_after(p, SyntaxKind::EQ, condition);
+    opt_type_after(p, SyntaxKind::EQ);
     complete(p, node, SyntaxKind::TYPE_PARAM);
 }
 
 /// Parses a generic parameter.
 // T: A = u8
 #[cycle(grammar)]
-pub(crate) fn generic_param(p: &mut Parser<'_>, condition: bool)
+pub(crate) fn generic_param(p: &mut Parser<'_>)
     requires some { 1 ≤ tokens p.old }
-    ensures gives { Gives rules.generic_param condition p.old p.new }
-    ensures takes { Takes 4080 p.old p.new }
+    ensures gives { (c : Bool) → Gives rules.generic_param c p.old p.new }
+    ensures takes { Takes 4000 p.old p.new }
 {
+    if at_new_param(p) {
+        new_param(p);
+        return;
+    }
     if at(p, SyntaxKind::LIFETIME_IDENT) {
         lifetime_param(p);
         return;
     }
-    type_param(p, condition);
+    type_param(p);
 }
 
 /// Parses the lifetime or the type of a where predicate.
 // T
 #[cycle(grammar)]
-fn lifetime_or_type(p: &mut Parser<'_>, condition: bool)
-    requires begins { Saw condition (looks rules.where_pred) p.old true }
-    requires some { 1 ≤ tokens p.old }
-    ensures reads { Reads condition rows.lifetime_or_type p.old p.new }
-    ensures takes { Takes 2900 p.old p.new }
+fn lifetime_or_type(p: &mut Parser<'_>)
+    requires begins { Starts (looks rules.where_pred) p.old }
+    requires plain { (c : Bool) → Saw c (wide shared.binder_begins) p.old false }
+    ensures reads { (c : Bool) → Reads c rows.lifetime_or_type p.old p.new }
+    ensures takes { Takes 2800 p.old p.new }
 {
     if at(p, SyntaxKind::LIFETIME_IDENT) {
         lifetime(p);
         return;
     }
-    any_type(p, condition);
+    any_type(p);
+}
+
+/// Parses the bounds of a where predicate with their colon; emits an error if there is no colon.
+// : A + B
+#[cycle(grammar)]
+fn pred_bounds(p: &mut Parser<'_>)
+    ensures reads { (c : Bool) → Reads c rows.pred_bounds p.old p.new }
+    ensures asks { Asks 25 p.old p.new }
+{
+    expect(p, SyntaxKind::COLON);
+    bounds(p);
 }
 
 /// Parses a where predicate.
 // T: A
 #[cycle(grammar)]
-fn where_pred(p: &mut Parser<'_>, condition: bool)
-    requires begins { Saw condition (looks rules.where_pred) p.old true }
+fn where_pred(p: &mut Parser<'_>)
+    requires begins { Starts (looks rules.where_pred) p.old }
+    ensures gives { (c : Bool) → Gives rules.where_pred c p.old p.new }
+    ensures takes { Takes 2700 p.old p.new }
+{
+    if at_new_pred(p) {
+        binder_pred(p);
+        return;
+    }
+    plain_pred(p);
+}
+
+/// Parses a where predicate with a binder.
+// for<'a> T: A<'a>
+#[cycle(grammar)]
+fn binder_pred(p: &mut Parser<'_>)
     requires some { 1 ≤ tokens p.old }
-    ensures gives { Gives rules.where_pred condition p.old p.new }
-    ensures takes { Takes 2890 p.old p.new }
+    ensures reads { (c : Bool) → Reads c
+        (WHERE_PRED ⟨ shared.for_binder ▸ AnyType ! ▸ rows.pred_bounds ⟩) p.old p.new }
+    ensures takes { Takes 4000 p.old p.new }
 {
     let node = start(p);
-    lifetime_or_type(p, condition);
-    expect(p, SyntaxKind::COLON);
-    bounds(p);
+    for_binder(p);
+    expect_type(p);
+    pred_bounds(p);
+    complete(p, node, SyntaxKind::WHERE_PRED);
+}
+
+/// Parses a where predicate without a binder.
+// T: A
+#[cycle(grammar)]
+fn plain_pred(p: &mut Parser<'_>)
+    requires begins { Starts (looks rules.where_pred) p.old }
+    requires plain { (c : Bool) → Saw c (wide shared.binder_begins) p.old false }
+    ensures reads { (c : Bool) → Reads c
+        (WHERE_PRED ⟨ rows.lifetime_or_type ▸ rows.pred_bounds ⟩) p.old p.new }
+    ensures takes { Takes 2710 p.old p.new }
+{
+    let node = start(p);
+    lifetime_or_type(p);
+    pred_bounds(p);
     complete(p, node, SyntaxKind::WHERE_PRED);
 }
 
 /// Parses a where clause.
 // where T: A, U: B
 #[cycle(grammar)]
-pub(crate) fn where_clause(p: &mut Parser<'_>, condition: bool)
+pub(crate) fn where_clause(p: &mut Parser<'_>)
     requires some { 1 ≤ tokens p.old }
-    ensures gives { Gives rules.where_clause condition p.old p.new }
-    ensures takes { Takes 4080 p.old p.new }
+    ensures gives { (c : Bool) → Gives rules.where_clause c p.old p.new }
+    ensures takes { Takes 4070 p.old p.new }
 {
     let node = start(p);
     take(p, SyntaxKind::WHERE_KW);
-    opt_preds(p, condition);
+    opt_preds(p);
     complete(p, node, SyntaxKind::WHERE_CLAUSE);
 }
 
 /// Parses optional where predicates.
 // T: A, U: B
 #[cycle(grammar)]
-fn opt_preds(p: &mut Parser<'_>, condition: bool)
-    ensures reads { Reads condition ⁅ rows.pred_list ⁆ p.old p.new }
-    ensures asks { Asks 6 p.old p.new }
+fn opt_preds(p: &mut Parser<'_>)
+    ensures reads { (c : Bool) → Reads c ⁅ rows.pred_list ⁆ p.old p.new }
+    ensures asks { Asks 20 p.old p.new }
 {
     if at_where_pred(p) {
-        where_pred(p, condition);
-        further_preds(p, condition);
+        where_pred(p);
+        further_preds(p);
     }
 }
 
 /// Parses further where predicates, each with its comma.
 // , U: B
 #[cycle(grammar)]
-fn further_preds(p: &mut Parser<'_>, condition: bool)
-    ensures reads { Reads condition (rows.further_pred *) p.old p.new }
+fn further_preds(p: &mut Parser<'_>)
+    ensures reads { (c : Bool) → Reads c (rows.further_pred *) p.old p.new }
     ensures asks { Asks 1 p.old p.new }
 {
     'turns: while at(p, SyntaxKind::COMMA) {
-        further_pred(p, condition);
+        further_pred(p);
     }
 }
 
 /// Parses a comma and an optional where predicate.
 // , U: B
 #[cycle(grammar)]
-fn further_pred(p: &mut Parser<'_>, condition: bool)
+fn further_pred(p: &mut Parser<'_>)
     requires some { 1 ≤ tokens p.old }
-    ensures reads { Reads condition rows.further_pred p.old p.new }
-    ensures takes { Takes 4090 p.old p.new }
+    ensures reads { (c : Bool) → Reads c rows.further_pred p.old p.new }
+    ensures takes { Takes 4070 p.old p.new }
 {
     take(p, SyntaxKind::COMMA);
-    opt_pred(p, condition);
+    opt_pred(p);
 }
 
 /// Parses an optional where predicate.
 // U: B
 #[cycle(grammar)]
-fn opt_pred(p: &mut Parser<'_>, condition: bool)
-    ensures reads { Reads condition ⁅ WherePred ⁆ p.old p.new }
-    ensures asks { Asks 6 p.old p.new }
+fn opt_pred(p: &mut Parser<'_>)
+    ensures reads { (c : Bool) → Reads c ⁅ WherePred ⁆ p.old p.new }
+    ensures asks { Asks 20 p.old p.new }
 {
     if at_where_pred(p) {
-        where_pred(p, condition);
+        where_pred(p);
     }
 }

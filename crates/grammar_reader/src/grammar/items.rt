@@ -99,7 +99,7 @@ fn bare_item(p: &mut Parser<'_>, condition: bool)
 /// Parses attributes.
 // #[a] #[b]
 #[cycle(grammar)]
-fn attributes(p: &mut Parser<'_>)
+pub(crate) fn attributes(p: &mut Parser<'_>)
     ensures reads { (c : Bool) → Reads c (Attribute *) p.old p.new }
     ensures asks { Asks 1 p.old p.new }
 {
@@ -265,11 +265,11 @@ pub(crate) fn opt_generic_params(p: &mut Parser<'_>)
 /// Parses an optional where clause.
 // where T: A
 #[cycle(grammar)]
-pub(crate) fn opt_where_clause(p: &mut Parser<'_>, condition: bool)
-    ensures reads { Reads condition ⁅ WhereClause ⁆ p.old p.new }
+pub(crate) fn opt_where_clause(p: &mut Parser<'_>)
+    ensures reads { (c : Bool) → Reads c ⁅ WhereClause ⁆ p.old p.new }
     ensures asks { Asks 1 p.old p.new }
 {
     if at(p, SyntaxKind::WHERE_KW) {
-        where_clause(p, condition);
+        where_clause(p);
     }
 }

@@ -18,7 +18,7 @@ ghost use Rattle.rust_productions.specs.Moves.{Keeps};
 use crate::grammar::expressions::closures::closure_param;
 use crate::grammar::expressions::expression;
 use crate::grammar::fields::{field_value, pattern_field};
-use crate::grammar::generic_args::generic_arg;
+use crate::grammar::generic_args::{generic_arg, type_arg};
 use crate::grammar::generic_params::generic_param;
 use crate::grammar::items::members::{
     at_named_member, at_tuple_field, record_field, tuple_field, variant,
@@ -32,7 +32,7 @@ use parser_input::syntax_kind::SyntaxKind;
 use rust_productions::grammar::expressions::at_expression;
 use rust_productions::grammar::fields::at_field_value;
 use rust_productions::grammar::generic_args::at_generic_arg;
-use rust_productions::grammar::generic_params::at_generic_param;
+use rust_productions::grammar::generic_params::{at_captured, at_generic_param, captured};
 use rust_productions::grammar::lists::{at_list_end, at_unexpected, comma};
 use rust_productions::grammar::params::at_param;
 use rust_productions::grammar::patterns::{at_pattern, at_pattern_field, at_single_pattern};
@@ -42,6 +42,7 @@ use rust_productions::grammar::{at, complete, expect, skip, start, take, tokens_
 /// The elements of a list.
 #[derive(Clone, Copy)]
 pub(crate) enum Element {
+    Captured,
     ClosureParam,
     Expression,
     FieldValue,
@@ -53,6 +54,7 @@ pub(crate) enum Element {
     RecordField,
     TupleField,
     Type,
+    TypeArg,
     Variant,
 }
 
@@ -62,6 +64,7 @@ fn at_element(p: &mut Parser<'_>, element: Element) -> bool
     ensures peeks { Peeks (looks_before element) p.old p.new }
 {
     match element {
+        Element::Captured => at_captured(p),
         Element::ClosureParam => at_single_pattern(p),
         Element::Expression => at_expression(p, false),
         Element::FieldValue => at_field_value(p),
@@ -73,6 +76,7 @@ fn at_element(p: &mut Parser<'_>, element: Element) -> bool
         Element::RecordField => at_named_member(p),
         Element::TupleField => at_tuple_field(p),
         Element::Type => at_type(p),
+        Element::TypeArg => at_type(p),
         Element::Variant => at_named_member(p),
     }
 }
@@ -86,17 +90,19 @@ fn read_element(p: &mut Parser<'_>, element: Element)
     ensures pays { tokens p.new < tokens p.old → spent p.new + 1000 ≤ spent p.old }
 {
     match element {
+        Element::Captured => captured(p),
         Element::ClosureParam => closure_param(p),
         Element::Expression => expression(p, false),
         Element::FieldValue => field_value(p, false),
-        Element::GenericArg => generic_arg(p, false),
-        Element::GenericParam => generic_param(p, false),
+        Element::GenericArg => generic_arg(p),
+        Element::GenericParam => generic_param(p),
         Element::Param => param(p, false),
         Element::Pattern => pattern(p),
         Element::PatternField => pattern_field(p),
         Element::RecordField => record_field(p),
         Element::TupleField => tuple_field(p),
-        Element::Type => any_type(p, false),
+        Element::Type => any_type(p),
+        Element::TypeArg => type_arg(p),
         Element::Variant => variant(p),
     }
 }

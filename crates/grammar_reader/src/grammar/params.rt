@@ -73,12 +73,12 @@ fn pattern_param(p: &mut Parser<'_>, condition: bool)
     requires begins { (c : Bool) → Saw c (looks rules.pattern) p.old true }
     requires some { 1 ≤ tokens p.old }
     ensures reads { Reads condition rows.pattern_param p.old p.new }
-    ensures takes { Takes 2890 p.old p.new }
+    ensures takes { Takes 2883 p.old p.new }
 {
     let node = start(p);
     pattern(p);
     expect(p, SyntaxKind::COLON);
-    expect_type(p, condition);
+    expect_type(p);
     complete(p, node, SyntaxKind::PARAM);
 }
 

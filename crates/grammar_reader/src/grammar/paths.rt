@@ -2,25 +2,27 @@
 
 ghost use Rattle.std.specs.Prelude.{◌≤◌, Bool, true, IsTrue};
 ghost use Rattle.parser_events.specs.Stack.{IsInnermost};
-ghost use Rattle.rust_grammar.specs.Notation.{⁅◌⁆, ◌!, ◌before◌};
-ghost use Rattle.rust_grammar.specs.Words.{'::', '<'};
+ghost use Rattle.rust_grammar.specs.Notation.{⁅◌⁆, ◌!, ◌before◌, wide};
+ghost use Rattle.rust_grammar.specs.Words.{'::', '<', 'l_paren'};
 ghost use Rattle.rust_grammar.specs.Calls.{GenericArgs};
 ghost use Rattle.rust_grammar.specs.Rule as rules;
 ghost use Rattle.rust_grammar.specs.Rule.{One};
 ghost use Rattle.rust_grammar.specs.Paths as rows;
 ghost use Rattle.grammar_reader.specs.Told.{angle, args_look, args_of, path_of};
-ghost use Rattle.rust_productions.specs.Looks.{tokens, Takes, Asks, Peeks, TakesTwoIn, AsksIn};
+ghost use Rattle.rust_productions.specs.Looks.{tokens, Takes, Asks, Peeks, TakesIn, TakesTwoIn, AsksIn};
 ghost use Rattle.rust_productions.specs.Reads.{looks, Gives, Reads, Saw};
 ghost use Rattle.rust_productions.specs.Starts.{Starts};
 
+use crate::grammar::generic_params::expect_path_type;
 use crate::grammar::lists::{Element, rest_of_list};
+use crate::grammar::types::{expect_type, opt_ret_type};
 use parser_events::message::Message;
 use parser_events::parser::{Marker, Parser};
 use parser_input::syntax_kind::SyntaxKind;
 use rust_productions::grammar::names::{at_name_ref, name_ref};
-use rust_productions::grammar::paths::{at_colons, at_next_segment, first_word};
+use rust_productions::grammar::paths::{at_colons, at_fn_args, at_next_segment, first_word};
 use rust_productions::grammar::{
-    abandon, at, at_second, at_third, complete, error, start, take, take_pair, wrap,
+    abandon, at, at_second, at_third, complete, error, expect, start, take, take_pair, wrap,
 };
 
 /// The kind of a path with generic arguments, which decides where these start.
@@ -40,6 +42,18 @@ fn at_colons_before_args(p: &mut Parser<'_>) -> bool
         return false;
     }
     at_third(p, SyntaxKind::L_ANGLE)
+}
+
+/// Returns `true` if `::` is next, and `(` after it.
+fn at_colons_before_paren(p: &mut Parser<'_>) -> bool
+    ensures sees { (c : Bool) → Saw c ('::' before 'l_paren') p.old result }
+    ensures some { IsTrue result → 3 ≤ tokens p.old }
+    ensures peeks { Peeks 3 p.old p.new }
+{
+    if !at_colons(p) {
+        return false;
+    }
+    at_third(p, SyntaxKind::L_PAREN)
 }
 
 /// Returns `true` if a `<` is next that starts no `<=`.
@@ -66,6 +80,67 @@ fn at_args(p: &mut Parser<'_>, mode: Mode) -> bool
     match mode {
         Mode::Expr => false,
         Mode::Type => at_angle(p),
+    }
+}
+
+/// Parses the arguments of `Fn`, in the whole language.
+// (u8, u8) -> u8
+#[cycle(grammar)]
+fn fn_args(p: &mut Parser<'_>)
+    requires begins { Starts (wide rows.fn_args_begin) p.old }
+    ensures reads { (c : Bool) → Reads c rows.fn_args p.old p.new }
+    ensures takes { Takes 3200 p.old p.new }
+{
+    paren_args(p);
+    opt_ret_type(p);
+}
+
+/// Parses the optional `::` before a parenthesis.
+// ::
+fn opt_colons_before_paren(p: &mut Parser<'_>)
+    requires begins { Starts (wide rows.fn_args_begin) p.old }
+    ensures reads { (c : Bool) → Reads c ⁅ One '::' ⁆ p.old p.new }
+    ensures some { 1 ≤ tokens p.new }
+    ensures asks { Asks 3 p.old p.new }
+{
+    if at_colons_before_paren(p) {
+        take_pair(p, SyntaxKind::COLON2);
+    }
+}
+
+/// Parses types in parentheses as arguments.
+// (u8, u8)
+#[cycle(grammar)]
+fn paren_args(p: &mut Parser<'_>)
+    requires begins { Starts (wide rows.fn_args_begin) p.old }
+    ensures reads { (c : Bool) → Reads c rows.paren_args p.old p.new }
+    ensures takes { Takes 3300 p.old p.new }
+{
+    let list = start(p);
+    opt_colons_before_paren(p);
+    take(p, SyntaxKind::L_PAREN);
+    rest_of_list(
+        p,
+        SyntaxKind::PARENTHESIZED_ARG_LIST,
+        Element::TypeArg,
+        SyntaxKind::R_PAREN,
+    );
+    complete(p, list, SyntaxKind::PARENTHESIZED_ARG_LIST);
+}
+
+/// Parses the optional arguments of a segment in a type.
+// <u8>
+#[cycle(grammar)]
+pub(crate) fn opt_type_args(p: &mut Parser<'_>)
+    ensures reads { (c : Bool) → Reads c rows.type_args p.old p.new }
+    ensures asks { Asks 9 p.old p.new }
+{
+    if at_fn_args(p) {
+        fn_args(p);
+        return;
+    }
+    if at_args(p, Mode::Type) {
+        generic_args(p);
     }
 }
 
@@ -132,9 +207,22 @@ pub(crate) fn opt_generic_args(p: &mut Parser<'_>)
 #[cycle(grammar)]
 fn opt_args(p: &mut Parser<'_>, mode: Mode)
     ensures reads { (c : Bool) → Reads c (args_of mode) p.old p.new }
+    ensures asks { Asks 9 p.old p.new }
+{
+    match mode {
+        Mode::Expr => opt_expr_args(p),
+        Mode::Type => opt_type_args(p),
+    }
+}
+
+/// Parses the optional arguments of a segment in an expression.
+// ::<u8>
+#[cycle(grammar)]
+fn opt_expr_args(p: &mut Parser<'_>)
+    ensures reads { (c : Bool) → Reads c rows.expr_args p.old p.new }
     ensures asks { Asks 5 p.old p.new }
 {
-    if at_args(p, mode) {
+    if at_args(p, Mode::Expr) {
         generic_args(p);
     }
 }
@@ -190,7 +278,7 @@ fn next_segment(p: &mut Parser<'_>, path: Marker, mode: Mode) -> Marker
 /// Parses the further segments of a path.
 // ::a::b
 #[cycle(grammar)]
-fn next_segments(p: &mut Parser<'_>, path: Marker, mode: Mode) -> Marker
+pub(crate) fn next_segments(p: &mut Parser<'_>, path: Marker, mode: Mode) -> Marker
     requires innermost { IsInnermost path p.old.nodes }
     ensures reads { (c : Bool) → Reads c (rows.next_segments (args_of mode)) p.old p.new }
     ensures asks { AsksIn result 3 p.old p.new }
@@ -200,6 +288,63 @@ fn next_segments(p: &mut Parser<'_>, path: Marker, mode: Mode) -> Marker
         path = next_segment(p, path, mode);
     }
     path
+}
+
+/// Parses a path that starts with `<T as U>`, within `frame`.
+// <T as A>::B
+#[cycle(grammar)]
+pub(crate) fn qualified_path(p: &mut Parser<'_>, frame: Marker, mode: Mode) -> Marker
+    requires innermost { IsInnermost frame p.old.nodes }
+    requires some { 1 ≤ tokens p.old }
+    ensures reads { (c : Bool) → Reads c (rows.qualified_with (args_of mode)) p.old p.new }
+    ensures takes { TakesIn result 4000 p.old p.new }
+{
+    qualifier(p);
+    next_segments(p, frame, mode)
+}
+
+/// Parses `<T as U>`, as the first segment of a path.
+// <T as A>
+#[cycle(grammar)]
+fn qualifier(p: &mut Parser<'_>)
+    requires some { 1 ≤ tokens p.old }
+    ensures reads { (c : Bool) → Reads c rows.qualifier p.old p.new }
+    ensures takes { Takes 4040 p.old p.new }
+{
+    let path = start(p);
+    let segment = start(p);
+    anchor(p);
+    complete(p, segment, SyntaxKind::PATH_SEGMENT);
+    complete(p, path, SyntaxKind::PATH);
+}
+
+/// Parses `<T as U>`.
+// <T as A>
+#[cycle(grammar)]
+fn anchor(p: &mut Parser<'_>)
+    requires some { 1 ≤ tokens p.old }
+    ensures reads { (c : Bool) → Reads c rows.anchor p.old p.new }
+    ensures takes { Takes 4050 p.old p.new }
+{
+    let node = start(p);
+    take(p, SyntaxKind::L_ANGLE);
+    expect_type(p);
+    opt_as_trait(p);
+    expect(p, SyntaxKind::R_ANGLE);
+    complete(p, node, SyntaxKind::TYPE_ANCHOR);
+}
+
+/// Parses an optional `as` and a trait's path.
+// as A
+#[cycle(grammar)]
+fn opt_as_trait(p: &mut Parser<'_>)
+    ensures reads { (c : Bool) → Reads c ⁅ rows.as_trait ⁆ p.old p.new }
+    ensures asks { Asks 1 p.old p.new }
+{
+    if at(p, SyntaxKind::AS_KW) {
+        take(p, SyntaxKind::AS_KW);
+        expect_path_type(p);
+    }
 }
 
 /// Parses a path with generic arguments.

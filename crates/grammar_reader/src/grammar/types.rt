@@ -4,57 +4,61 @@ ghost use Rattle.std.specs.Prelude.{◌≡◌, ◌≢◌, ◌≤◌, ◌+◌, Bo
 ghost use Rattle.parser_input.specs.Kind.{raw_of};
 ghost use Rattle.parser_input.specs.Kinds as kinds;
 ghost use Rattle.parser_events.specs.Stack.{IsInnermost};
-ghost use Rattle.rust_grammar.specs.Calls.{AnyType, Bounds};
-ghost use Rattle.rust_grammar.specs.Notation.{◌▸◌, ⁅◌⁆, ◌!, ◌⟨◌⟩};
+ghost use Rattle.rust_grammar.specs.Calls.{AnyType, Bounds, Lifetime, RetType, TypeNoBounds};
+ghost use Rattle.rust_grammar.specs.Notation.{◌▸◌, ⁅◌⁆, ◌!, ◌⟨◌⟩, wide};
 ghost use Rattle.rust_grammar.specs.Rule as rules;
 ghost use Rattle.rust_grammar.specs.Rule.{One};
 ghost use Rattle.rust_grammar.specs.Whole.{rule};
 ghost use Rattle.rust_grammar.specs.Words.{one};
 ghost use Rattle.rust_grammar.specs.Shared as shared;
+ghost use Rattle.rust_grammar.specs.Paths as path_rows;
 ghost use Rattle.rust_grammar.specs.Types as rows;
 ghost use Rattle.rust_productions.specs.Looks.{tokens, spent, Takes, Asks, TakesIn, AsksIn};
 ghost use Rattle.rust_productions.specs.Reads.{looks, Gives, Reads, Saw};
-ghost use Rattle.rust_productions.specs.Starts.{StartsIn};
+ghost use Rattle.rust_productions.specs.Starts.{Starts};
 
 use crate::grammar::expressions::{Level, expect_expression};
-use crate::grammar::generic_params::bounds;
+use crate::grammar::generic_params::{bounds, for_binder, further_bounds, opt_bound};
 use crate::grammar::lists::{Element, tuple_tail};
-use crate::grammar::paths::{Mode, path_with_args};
+use crate::grammar::paths::{Mode, path_with_args, qualified_path};
 use parser_events::message::Message;
 use parser_events::parser::{Marker, Parser};
 use parser_input::syntax_kind::SyntaxKind;
-use rust_productions::grammar::names::opt_lifetime;
-use rust_productions::grammar::types::{at_dyn_word, at_type};
+use rust_productions::grammar::names::{lifetime, opt_lifetime};
+use rust_productions::grammar::paths::at_macro_call;
+use rust_productions::grammar::token_trees::expect_token_tree;
+use rust_productions::grammar::types::{
+    at_bare_type, at_dyn_word, at_new_type, at_type, at_type_no_bounds,
+};
 use rust_productions::grammar::{
-    abandon, at, complete, current, eat, error, expect, start, take, take_pair, wrap,
+    abandon, at, at_pair, complete, current, eat, error, expect, start, take, take_pair, wrap,
 };
 
 /// Parses a type.
 // &'a [u8]
 #[cycle(grammar)]
-pub fn any_type(p: &mut Parser<'_>, condition: bool)
-    requires begins { Saw condition (looks rules.any_type) p.old true }
-    requires some { 1 ≤ tokens p.old }
-    ensures gives { Gives rules.any_type condition p.old p.new }
+pub fn any_type(p: &mut Parser<'_>)
+    requires begins { Starts (looks rules.any_type) p.old }
+    ensures gives { (c : Bool) → Gives rules.any_type c p.old p.new }
     ensures takes { Takes 2910 p.old p.new }
 {
     let frame = start(p);
-    let frame = inside(p, frame, condition);
+    let frame = inside(p, frame);
     abandon(p, frame);
 }
 
 /// Parses a type, within `frame`, which the caller abandons.
 // [u8]
 #[cycle(grammar)]
-fn inside(p: &mut Parser<'_>, frame: Marker, condition: bool) -> Marker
-    requires begins { StartsIn condition (looks rules.any_type) p.old }
+fn inside(p: &mut Parser<'_>, frame: Marker) -> Marker
+    requires begins { Starts (looks rules.any_type) p.old }
     requires innermost { IsInnermost frame p.old.nodes }
-    ensures reads { Reads condition (rule rules.any_type) p.old p.new }
+    ensures reads { (c : Bool) → Reads c (rule rules.any_type) p.old p.new }
     ensures takes { TakesIn result 2910 p.old p.new }
 {
     match current(p) {
-        SyntaxKind::L_PAREN => paren_type(p, frame, condition),
-        SyntaxKind::L_BRACK => bracket_type(p, frame, condition),
+        SyntaxKind::L_PAREN => paren_type(p, frame),
+        SyntaxKind::L_BRACK => bracket_type(p, frame),
         SyntaxKind::BANG => {
             word_type(p, SyntaxKind::BANG, SyntaxKind::NEVER_TYPE);
             frame
@@ -64,11 +68,11 @@ fn inside(p: &mut Parser<'_>, frame: Marker, condition: bool) -> Marker
             frame
         }
         SyntaxKind::STAR => {
-            ptr_type(p, condition);
+            ptr_type(p);
             frame
         }
         SyntaxKind::AMP => {
-            ref_type(p, condition);
+            ref_type(p);
             frame
         }
         SyntaxKind::IMPL_KW => {
@@ -84,10 +88,194 @@ fn inside(p: &mut Parser<'_>, frame: Marker, condition: bool) -> Marker
                 bounded_type(p, SyntaxKind::DYN_KW, SyntaxKind::DYN_TRAIT_TYPE);
                 return frame;
             }
+            if at_new_type(p) {
+                return new_type(p, frame);
+            }
             path_type(p);
             frame
         }
     }
+}
+
+/// Parses a type without bounds after it.
+// &'a dyn A
+#[cycle(grammar)]
+pub(crate) fn type_no_bounds(p: &mut Parser<'_>)
+    requires begins { Starts (looks rules.type_no_bounds) p.old }
+    ensures gives { (c : Bool) → Gives rules.type_no_bounds c p.old p.new }
+    ensures takes { Takes 2900 p.old p.new }
+{
+    let frame = start(p);
+    let frame = bare_or_any(p, frame);
+    abandon(p, frame);
+}
+
+/// Parses a type without bounds after it, within `frame`, which the caller abandons.
+// a::B<u8>
+#[cycle(grammar)]
+fn bare_or_any(p: &mut Parser<'_>, frame: Marker) -> Marker
+    requires begins { Starts (looks rules.type_no_bounds) p.old }
+    requires innermost { IsInnermost frame p.old.nodes }
+    ensures reads { (c : Bool) → Reads c (rule rules.type_no_bounds) p.old p.new }
+    ensures takes { TakesIn result 2900 p.old p.new }
+{
+    if at_bare_type(p) {
+        return for_or_path(p, frame);
+    }
+    inside(p, frame)
+}
+
+/// Parses a type without bounds after it; emits an error if there is none.
+// u8
+#[cycle(grammar)]
+pub(crate) fn expect_type_no_bounds(p: &mut Parser<'_>)
+    ensures reads { (c : Bool) → Reads c (TypeNoBounds !) p.old p.new }
+    ensures asks { Asks 24 p.old p.new }
+{
+    if at_type_no_bounds(p) {
+        type_no_bounds(p);
+        return;
+    }
+    error(p, Message::ExpectedType);
+}
+
+/// Parses a type that only the whole language has, or that may have bounds after it there, within
+/// `frame`.
+// A + Send
+#[cycle(grammar)]
+fn new_type(p: &mut Parser<'_>, frame: Marker) -> Marker
+    requires begins { Starts (wide rows.new_type_begins) p.old }
+    requires innermost { IsInnermost frame p.old.nodes }
+    ensures reads { (c : Bool) → Reads c rows.new_type p.old p.new }
+    ensures takes { TakesIn result 3900 p.old p.new }
+{
+    if at(p, SyntaxKind::LIFETIME_IDENT) {
+        lifetime_bounds(p);
+        return frame;
+    }
+    let frame = for_or_path(p, frame);
+    opt_plus_bounds(p, frame)
+}
+
+/// Parses a type after a `for` binder, or a path or a macro call as a type, within `frame`.
+// for<'a> fn(&'a u8)
+#[cycle(grammar)]
+fn for_or_path(p: &mut Parser<'_>, frame: Marker) -> Marker
+    requires begins { Starts rows.for_or_path_begins p.old }
+    requires innermost { IsInnermost frame p.old.nodes }
+    ensures reads { (c : Bool) → Reads c rows.for_or_path p.old p.new }
+    ensures takes { TakesIn result 3950 p.old p.new }
+{
+    if at(p, SyntaxKind::FOR_KW) {
+        for_type(p);
+        return frame;
+    }
+    let frame = front_path(p, frame);
+    type_of_path(p, frame)
+}
+
+/// Parses the path of a type, within `frame`.
+// <T as A>::B
+#[cycle(grammar)]
+fn front_path(p: &mut Parser<'_>, frame: Marker) -> Marker
+    requires begins { Starts rows.front_path_begins p.old }
+    requires innermost { IsInnermost frame p.old.nodes }
+    ensures reads { (c : Bool) → Reads c rows.front_path p.old p.new }
+    ensures takes { TakesIn result 3970 p.old p.new }
+{
+    if at(p, SyntaxKind::L_ANGLE) {
+        return qualified_path(p, frame, Mode::Type);
+    }
+    path_with_args(p, Mode::Type);
+    frame
+}
+
+/// Parses a `for` binder and the type after it.
+// for<'a> fn(&'a u8)
+#[cycle(grammar)]
+fn for_type(p: &mut Parser<'_>)
+    requires some { 1 ≤ tokens p.old }
+    ensures reads { (c : Bool) → Reads c rows.for_type p.old p.new }
+    ensures takes { Takes 4000 p.old p.new }
+{
+    let node = start(p);
+    for_binder(p);
+    expect_type_no_bounds(p);
+    complete(p, node, SyntaxKind::FOR_TYPE);
+}
+
+/// Completes a path as a type, or parses the rest of a macro call in place of a type.
+// !(a)
+pub(crate) fn type_of_path(p: &mut Parser<'_>, frame: Marker) -> Marker
+    requires innermost { IsInnermost frame p.old.nodes }
+    ensures reads { (c : Bool) → Reads c path_rows.type_of_path p.old p.new }
+    ensures asks { AsksIn result 3 p.old p.new }
+{
+    if at_macro_call(p) {
+        take(p, SyntaxKind::BANG);
+        expect_token_tree(p);
+        return wrap(p, frame, SyntaxKind::MACRO_CALL);
+    }
+    wrap(p, frame, SyntaxKind::PATH_TYPE)
+}
+
+/// Parses optional bounds after a type, which becomes the first of them.
+// + Send + 'a
+#[cycle(grammar)]
+pub(crate) fn opt_plus_bounds(p: &mut Parser<'_>, frame: Marker) -> Marker
+    requires innermost { IsInnermost frame p.old.nodes }
+    ensures reads { (c : Bool) → Reads c path_rows.plus_bounds p.old p.new }
+    ensures asks { AsksIn result 1 p.old p.new }
+{
+    if at(p, SyntaxKind::PLUS) {
+        let frame = wrap(p, frame, SyntaxKind::TYPE_BOUND);
+        bounds_after_plus(p);
+        let frame = wrap(p, frame, SyntaxKind::TYPE_BOUND_LIST);
+        return wrap(p, frame, SyntaxKind::DYN_TRAIT_TYPE);
+    }
+    frame
+}
+
+/// Parses the bounds after the first one, from their `+`.
+// + Send + 'a
+#[cycle(grammar)]
+fn bounds_after_plus(p: &mut Parser<'_>)
+    requires some { 1 ≤ tokens p.old }
+    ensures reads { (c : Bool) → Reads c path_rows.bounds_after_plus p.old p.new }
+    ensures takes { Takes 4000 p.old p.new }
+{
+    take(p, SyntaxKind::PLUS);
+    opt_bound(p);
+    further_bounds(p);
+}
+
+/// Parses bounds whose first is a lifetime.
+// 'a + Send
+#[cycle(grammar)]
+fn lifetime_bounds(p: &mut Parser<'_>)
+    requires some { 1 ≤ tokens p.old }
+    ensures reads { (c : Bool) → Reads c rows.lifetime_bounds p.old p.new }
+    ensures takes { Takes 4090 p.old p.new }
+{
+    let node = start(p);
+    let list = start(p);
+    lifetime_bound(p);
+    further_bounds(p);
+    complete(p, list, SyntaxKind::TYPE_BOUND_LIST);
+    complete(p, node, SyntaxKind::DYN_TRAIT_TYPE);
+}
+
+/// Parses a lifetime as a bound.
+// 'a
+fn lifetime_bound(p: &mut Parser<'_>)
+    requires { 1 ≤ tokens p.old }
+    ensures reads { (c : Bool) → Reads c (kinds.TYPE_BOUND ⟨ Lifetime ⟩) p.old p.new }
+    ensures left { tokens p.new + 1 ≡ tokens p.old }
+    ensures looks { spent p.new + 4096 ≡ spent p.old }
+{
+    let node = start(p);
+    lifetime(p);
+    complete(p, node, SyntaxKind::TYPE_BOUND);
 }
 
 /// Parses one token, in a node of `kind`.
@@ -110,7 +298,7 @@ fn bounded_type(p: &mut Parser<'_>, token: SyntaxKind, kind: SyntaxKind)
     requires some { 1 ≤ tokens p.old }
     ensures reads { (c : Bool) → Reads c
         (raw_of kind ⟨ One (one (raw_of token)) ▸ Bounds ⟩) p.old p.new }
-    ensures takes { Takes 4090 p.old p.new }
+    ensures takes { Takes 4070 p.old p.new }
 {
     let node = start(p);
     take(p, token);
@@ -135,12 +323,12 @@ pub(crate) fn path_type(p: &mut Parser<'_>)
 /// Parses a type; emits an error if there is none.
 // u8
 #[cycle(grammar)]
-pub(crate) fn expect_type(p: &mut Parser<'_>, condition: bool)
-    ensures reads { Reads condition (AnyType !) p.old p.new }
-    ensures asks { Asks 5 p.old p.new }
+pub(crate) fn expect_type(p: &mut Parser<'_>)
+    ensures reads { (c : Bool) → Reads c (AnyType !) p.old p.new }
+    ensures asks { Asks 16 p.old p.new }
 {
     if at_type(p) {
-        any_type(p, condition);
+        any_type(p);
         return;
     }
     error(p, Message::ExpectedType);
@@ -149,15 +337,15 @@ pub(crate) fn expect_type(p: &mut Parser<'_>, condition: bool)
 /// Parses a raw pointer type.
 // *const u8
 #[cycle(grammar)]
-fn ptr_type(p: &mut Parser<'_>, condition: bool)
+fn ptr_type(p: &mut Parser<'_>)
     requires some { 1 ≤ tokens p.old }
-    ensures reads { Reads condition rows.ptr_type p.old p.new }
-    ensures takes { Takes 4080 p.old p.new }
+    ensures reads { (c : Bool) → Reads c rows.ptr_type p.old p.new }
+    ensures takes { Takes 4060 p.old p.new }
 {
     let node = start(p);
     take(p, SyntaxKind::STAR);
     const_or_mut(p);
-    expect_type(p, condition);
+    expect_type_no_bounds(p);
     complete(p, node, SyntaxKind::PTR_TYPE);
 }
 
@@ -177,45 +365,45 @@ fn const_or_mut(p: &mut Parser<'_>)
 /// Parses a reference type.
 // &'a mut u8
 #[cycle(grammar)]
-fn ref_type(p: &mut Parser<'_>, condition: bool)
+fn ref_type(p: &mut Parser<'_>)
     requires some { 1 ≤ tokens p.old }
-    ensures reads { Reads condition rows.ref_type p.old p.new }
-    ensures takes { Takes 4080 p.old p.new }
+    ensures reads { (c : Bool) → Reads c rows.ref_type p.old p.new }
+    ensures takes { Takes 4060 p.old p.new }
 {
     let node = start(p);
     take(p, SyntaxKind::AMP);
     opt_lifetime(p);
     eat(p, SyntaxKind::MUT_KW);
-    expect_type(p, condition);
+    expect_type_no_bounds(p);
     complete(p, node, SyntaxKind::REF_TYPE);
 }
 
 /// Parses a tuple type or a parenthesized type.
 // (u8, u8)
 #[cycle(grammar)]
-fn paren_type(p: &mut Parser<'_>, frame: Marker, condition: bool) -> Marker
+fn paren_type(p: &mut Parser<'_>, frame: Marker) -> Marker
     requires some { 1 ≤ tokens p.old }
     requires innermost { IsInnermost frame p.old.nodes }
-    ensures reads { Reads condition rows.tuple_or_paren p.old p.new }
+    ensures reads { (c : Bool) → Reads c rows.tuple_or_paren p.old p.new }
     ensures takes { TakesIn result 3200 p.old p.new }
 {
     take(p, SyntaxKind::L_PAREN);
-    after_paren(p, frame, condition)
+    after_paren(p, frame)
 }
 
 /// Parses a tuple type or a parenthesized type after its `(`.
 // u8, u8)
 #[cycle(grammar)]
-fn after_paren(p: &mut Parser<'_>, frame: Marker, condition: bool) -> Marker
+fn after_paren(p: &mut Parser<'_>, frame: Marker) -> Marker
     requires innermost { IsInnermost frame p.old.nodes }
-    ensures reads { Reads condition rows.after_l_paren p.old p.new }
-    ensures asks { AsksIn result 8 p.old p.new }
+    ensures reads { (c : Bool) → Reads c rows.after_l_paren p.old p.new }
+    ensures asks { AsksIn result 19 p.old p.new }
 {
     if at(p, SyntaxKind::R_PAREN) {
         take(p, SyntaxKind::R_PAREN);
         return wrap(p, frame, SyntaxKind::TUPLE_TYPE);
     }
-    expect_type(p, condition);
+    expect_type(p);
     tuple_tail(
         p,
         frame,
@@ -228,14 +416,14 @@ fn after_paren(p: &mut Parser<'_>, frame: Marker, condition: bool) -> Marker
 /// Parses an array type or a slice type.
 // [u8; 4]
 #[cycle(grammar)]
-fn bracket_type(p: &mut Parser<'_>, frame: Marker, condition: bool) -> Marker
+fn bracket_type(p: &mut Parser<'_>, frame: Marker) -> Marker
     requires some { 1 ≤ tokens p.old }
     requires innermost { IsInnermost frame p.old.nodes }
-    ensures reads { Reads condition rows.array_or_slice p.old p.new }
+    ensures reads { (c : Bool) → Reads c rows.array_or_slice p.old p.new }
     ensures takes { TakesIn result 3200 p.old p.new }
 {
     take(p, SyntaxKind::L_BRACK);
-    expect_type(p, condition);
+    expect_type(p);
     after_element(p, frame)
 }
 
@@ -272,27 +460,39 @@ fn array_length(p: &mut Parser<'_>)
 /// Parses a return type.
 // -> u8
 #[cycle(grammar)]
-pub(crate) fn ret_type(p: &mut Parser<'_>, condition: bool)
+pub(crate) fn ret_type(p: &mut Parser<'_>)
     requires some { 2 ≤ tokens p.old }
-    ensures gives { Gives rules.ret_type condition p.old p.new }
+    ensures gives { (c : Bool) → Gives rules.ret_type c p.old p.new }
     ensures takes { Takes 4090 p.old p.new }
 {
     let node = start(p);
     take_pair(p, SyntaxKind::THIN_ARROW);
-    expect_type(p, condition);
+    expect_type_no_bounds(p);
     complete(p, node, SyntaxKind::RET_TYPE);
+}
+
+/// Parses an optional return type.
+// -> u8
+#[cycle(grammar)]
+pub(crate) fn opt_ret_type(p: &mut Parser<'_>)
+    ensures reads { (c : Bool) → Reads c ⁅ RetType ⁆ p.old p.new }
+    ensures asks { Asks 2 p.old p.new }
+{
+    if at_pair(p, SyntaxKind::MINUS, SyntaxKind::R_ANGLE) {
+        ret_type(p);
+    }
 }
 
 /// Parses an optional `word` and the type after it.
 // = u8
 #[cycle(grammar)]
-pub(crate) fn opt_type_after(p: &mut Parser<'_>, word: SyntaxKind, condition: bool)
+pub(crate) fn opt_type_after(p: &mut Parser<'_>, word: SyntaxKind)
     requires inside { raw_of word ≢ kinds.EOF }
-    ensures reads { Reads condition ⁅ One (one (raw_of word)) ▸ AnyType ! ⁆ p.old p.new }
+    ensures reads { (c : Bool) → Reads c ⁅ One (one (raw_of word)) ▸ AnyType ! ⁆ p.old p.new }
     ensures asks { Asks 1 p.old p.new }
 {
     if at(p, word) {
         take(p, word);
-        expect_type(p, condition);
+        expect_type(p);
     }
 }

@@ -1,25 +1,191 @@
-//! Generic parameters, bounds, and what `where` asks.
+//! Generic parameters, bounds and where clauses.
 
 ghost use Rattle.std.specs.Prelude.{◌≤◌, Bool, IsTrue};
-ghost use Rattle.rust_productions.specs.Looks.{tokens, Peeks};
+ghost use Rattle.parser_input.specs.Kinds.{NAME_REF};
+ghost use Rattle.rust_productions.specs.Looks.{tokens, Takes, Asks, Peeks};
+ghost use Rattle.rust_grammar.specs.Notation.{wide, ◌before◌, ◌or◌, ◌⟨◌⟩};
+ghost use Rattle.rust_grammar.specs.Paths as rows;
 ghost use Rattle.rust_grammar.specs.Rule as rules;
-ghost use Rattle.rust_productions.specs.Reads.{looks, Saw};
+ghost use Rattle.rust_grammar.specs.Rule.{begins, One};
+ghost use Rattle.rust_grammar.specs.Shared.{binder_begins};
+ghost use Rattle.rust_grammar.specs.Words.{'ident', 'Self', 'use', '<'};
+ghost use Rattle.rust_productions.specs.Reads.{looks, Reads, Saw};
 
+use crate::grammar::names::lifetime;
 use crate::grammar::paths::at_path;
 use crate::grammar::types::at_type;
-use crate::grammar::{at, current};
+use crate::grammar::{at, at_second, at_third, at_whole, complete, current, expect, start, take};
 use parser_events::parser::Parser;
 use parser_input::syntax_kind::SyntaxKind;
+
+/// Returns `true` if a generic parameter of the whole language alone starts here: a const parameter
+/// or an attribute.
+pub fn at_new_param(p: &mut Parser<'_>) -> bool
+    ensures sees { (c : Bool) → Saw c (wide rows.new_param_begins) p.old result }
+    ensures some { IsTrue result → 1 ≤ tokens p.old }
+    ensures peeks { Peeks 1 p.old p.new }
+{
+    if !at_whole(p) {
+        return false;
+    }
+    match current(p) {
+        SyntaxKind::CONST_KW | SyntaxKind::POUND => true,
+        _ => false,
+    }
+}
 
 /// Returns `true` if a generic parameter starts here.
 pub fn at_generic_param(p: &mut Parser<'_>) -> bool
     ensures sees { (c : Bool) → Saw c (looks rules.generic_param) p.old result }
     ensures some { IsTrue result → 1 ≤ tokens p.old }
-    ensures peeks { Peeks 1 p.old p.new }
+    ensures peeks { Peeks 2 p.old p.new }
 {
+    if at_new_param(p) {
+        return true;
+    }
     match current(p) {
         SyntaxKind::LIFETIME_IDENT | SyntaxKind::IDENT => true,
         _ => false,
+    }
+}
+
+/// Returns `true` if a binder starts here: `for`, and `<` after it.
+pub fn at_binder(p: &mut Parser<'_>) -> bool
+    ensures sees { (c : Bool) → Saw c binder_begins p.old result }
+    ensures some { IsTrue result → 1 ≤ tokens p.old }
+    ensures peeks { Peeks 2 p.old p.new }
+{
+    if !at(p, SyntaxKind::FOR_KW) {
+        return false;
+    }
+    if at_second(p, SyntaxKind::L_ANGLE) {
+        return true;
+    }
+    false
+}
+
+/// Returns `true` if `use` is next, and `<` after it.
+pub fn at_captures(p: &mut Parser<'_>) -> bool
+    ensures sees { (c : Bool) → Saw c ('use' before '<') p.old result }
+    ensures some { IsTrue result → 2 ≤ tokens p.old }
+    ensures peeks { Peeks 2 p.old p.new }
+{
+    if !at_second(p, SyntaxKind::L_ANGLE) {
+        return false;
+    }
+    if at(p, SyntaxKind::USE_KW) {
+        return true;
+    }
+    false
+}
+
+/// Returns `true` if a captured parameter starts here.
+pub fn at_captured(p: &mut Parser<'_>) -> bool
+    ensures sees { (c : Bool) → Saw c (begins looks rows.captured) p.old result }
+    ensures some { IsTrue result → 1 ≤ tokens p.old }
+    ensures peeks { Peeks 1 p.old p.new }
+{
+    match current(p) {
+        SyntaxKind::LIFETIME_IDENT | SyntaxKind::IDENT | SyntaxKind::SELF_TYPE_KW => true,
+        _ => false,
+    }
+}
+
+/// Parses a captured parameter: a lifetime, a name or `Self`.
+// 'a
+pub fn captured(p: &mut Parser<'_>)
+    requires some { 1 ≤ tokens p.old }
+    ensures reads { (c : Bool) → Reads c rows.captured p.old p.new }
+    ensures takes { Takes 4090 p.old p.new }
+{
+    match current(p) {
+        SyntaxKind::LIFETIME_IDENT => lifetime(p),
+        _ => captured_name(p),
+    }
+}
+
+/// Parses the name of a captured parameter, or `Self`.
+// T
+fn captured_name(p: &mut Parser<'_>)
+    requires some { 1 ≤ tokens p.old }
+    ensures reads { (c : Bool) → Reads c (NAME_REF ⟨ One 'ident' or One 'Self' ⟩) p.old p.new }
+    ensures takes { Takes 4095 p.old p.new }
+{
+    let name = start(p);
+    captured_word(p);
+    complete(p, name, SyntaxKind::NAME_REF);
+}
+
+/// Takes an identifier, or `Self`.
+// T
+fn captured_word(p: &mut Parser<'_>)
+    requires some { 1 ≤ tokens p.old }
+    ensures reads { (c : Bool) → Reads c (One 'ident' or One 'Self') p.old p.new }
+    ensures takes { Takes 4095 p.old p.new }
+{
+    match current(p) {
+        SyntaxKind::IDENT => take(p, SyntaxKind::IDENT),
+        _ => take(p, SyntaxKind::SELF_TYPE_KW),
+    }
+}
+
+/// Returns `true` if a bound of the whole language alone starts here: in parentheses, with words
+/// before its path, or with captures.
+pub fn at_new_bound(p: &mut Parser<'_>) -> bool
+    ensures sees { (c : Bool) → Saw c (wide rows.new_bound_begins) p.old result }
+    ensures some { IsTrue result → 1 ≤ tokens p.old }
+    ensures peeks { Peeks 3 p.old p.new }
+{
+    if !at_whole(p) {
+        return false;
+    }
+    match current(p) {
+        SyntaxKind::L_PAREN | SyntaxKind::ASYNC_KW | SyntaxKind::CONST_KW => true,
+        SyntaxKind::TILDE => {
+            if at_second(p, SyntaxKind::CONST_KW) {
+                return true;
+            }
+            false
+        }
+        SyntaxKind::FOR_KW | SyntaxKind::USE_KW => {
+            if at_second(p, SyntaxKind::L_ANGLE) {
+                return true;
+            }
+            false
+        }
+        SyntaxKind::L_BRACK => {
+            if !at_second(p, SyntaxKind::CONST_KW) {
+                return false;
+            }
+            if at_third(p, SyntaxKind::R_BRACK) {
+                return true;
+            }
+            false
+        }
+        _ => false,
+    }
+}
+
+/// Parses the optional `const` before the path of a bound: `~const`, `[const]` or `const`.
+// ~const
+pub fn opt_const_words(p: &mut Parser<'_>)
+    ensures reads { (c : Bool) → Reads c rows.const_words p.old p.new }
+    ensures asks { Asks 1 p.old p.new }
+{
+    match current(p) {
+        SyntaxKind::TILDE => {
+            take(p, SyntaxKind::TILDE);
+            expect(p, SyntaxKind::CONST_KW);
+        }
+        SyntaxKind::L_BRACK => {
+            take(p, SyntaxKind::L_BRACK);
+            expect(p, SyntaxKind::CONST_KW);
+            expect(p, SyntaxKind::R_BRACK);
+        }
+        SyntaxKind::CONST_KW => {
+            take(p, SyntaxKind::CONST_KW);
+        }
+        _ => {}
     }
 }
 
@@ -27,9 +193,12 @@ pub fn at_generic_param(p: &mut Parser<'_>) -> bool
 pub fn at_bound(p: &mut Parser<'_>) -> bool
     ensures sees { (c : Bool) → Saw c (looks rules.bound) p.old result }
     ensures some { IsTrue result → 1 ≤ tokens p.old }
-    ensures peeks { Peeks 4 p.old p.new }
+    ensures peeks { Peeks 7 p.old p.new }
 {
     if at_path(p) {
+        return true;
+    }
+    if at_new_bound(p) {
         return true;
     }
     match current(p) {
@@ -38,12 +207,30 @@ pub fn at_bound(p: &mut Parser<'_>) -> bool
     }
 }
 
+/// Returns `true` if a where predicate of the whole language alone starts here: a binder.
+pub fn at_new_pred(p: &mut Parser<'_>) -> bool
+    ensures sees { (c : Bool) → Saw c (wide binder_begins) p.old result }
+    ensures some { IsTrue result → 1 ≤ tokens p.old }
+    ensures peeks { Peeks 2 p.old p.new }
+{
+    if !at_whole(p) {
+        return false;
+    }
+    if at_binder(p) {
+        return true;
+    }
+    false
+}
+
 /// Returns `true` if a where predicate starts here.
 pub fn at_where_pred(p: &mut Parser<'_>) -> bool
     ensures sees { (c : Bool) → Saw c (looks rules.where_pred) p.old result }
     ensures some { IsTrue result → 1 ≤ tokens p.old }
-    ensures peeks { Peeks 6 p.old p.new }
+    ensures peeks { Peeks 20 p.old p.new }
 {
+    if at_new_pred(p) {
+        return true;
+    }
     if at(p, SyntaxKind::LIFETIME_IDENT) {
         return true;
     }

@@ -4,7 +4,7 @@ ghost use Rattle.std.specs.Prelude.{◌≤◌, Bool, true, false, IsTrue};
 ghost use Rattle.parser_input.specs.Kinds as kinds;
 ghost use Rattle.parser_events.specs.Stack.{IsInnermost};
 ghost use Rattle.rust_productions.specs.Looks.{tokens, Takes, Asks, Peeks, TakesTwoIn, AsksIn};
-ghost use Rattle.rust_grammar.specs.Notation.{◌! };
+ghost use Rattle.rust_grammar.specs.Notation.{◌!, wide};
 ghost use Rattle.rust_grammar.specs.Calls.{Path};
 ghost use Rattle.rust_grammar.specs.Shared.{path_goes_on};
 ghost use Rattle.rust_grammar.specs.Rule as rules;
@@ -14,7 +14,9 @@ ghost use Rattle.rust_productions.specs.Reads.{looks, Gives, Reads, Saw};
 ghost use Rattle.rust_productions.specs.Starts.{Starts};
 
 use crate::grammar::names::{at_name_ref, expect_name_ref, name_ref};
-use crate::grammar::{abandon, at_pair, complete, error, nth, start, take_pair, wrap};
+use crate::grammar::{
+    abandon, at, at_pair, at_third, at_whole, complete, error, nth, start, take_pair, wrap,
+};
 use parser_events::message::Message;
 use parser_events::parser::{Marker, Parser};
 use parser_input::syntax_kind::SyntaxKind;
@@ -42,6 +44,42 @@ pub fn at_path(p: &mut Parser<'_>) -> bool
         return true;
     }
     false
+}
+
+/// Returns `true` if the arguments of `Fn` start here, in the whole language: `(` or `::(`.
+pub fn at_fn_args(p: &mut Parser<'_>) -> bool
+    ensures sees { (c : Bool) → Saw c (wide rows.fn_args_begin) p.old result }
+    ensures some { IsTrue result → 1 ≤ tokens p.old }
+    ensures peeks { Peeks 4 p.old p.new }
+{
+    if !at_whole(p) {
+        return false;
+    }
+    if at(p, SyntaxKind::L_PAREN) {
+        return true;
+    }
+    if !at_colons(p) {
+        return false;
+    }
+    if !at_third(p, SyntaxKind::L_PAREN) {
+        return false;
+    }
+    true
+}
+
+/// Returns `true` if `!` is next, and no `!=`.
+pub fn at_macro_call(p: &mut Parser<'_>) -> bool
+    ensures sees { (c : Bool) → Saw c rows.macro_call_begins p.old result }
+    ensures some { IsTrue result → 1 ≤ tokens p.old }
+    ensures peeks { Peeks 3 p.old p.new }
+{
+    if !at(p, SyntaxKind::BANG) {
+        return false;
+    }
+    if at_pair(p, SyntaxKind::BANG, SyntaxKind::EQ) {
+        return false;
+    }
+    true
 }
 
 /// Parses the optional `::` and the first word of a path.

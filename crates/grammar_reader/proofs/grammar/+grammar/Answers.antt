@@ -3,6 +3,7 @@ mod Adt
 mod Atom
 mod Attributes
 mod Blocks
+mod ConstArgs
 mod Consts
 mod Control
 mod Expressions
@@ -15,6 +16,8 @@ mod Layers
 mod Lists
 mod MatchArm
 mod Members
+mod NewBounds
+mod NewParams
 mod Operand
 mod Params
 mod Paths
@@ -28,6 +31,7 @@ use Rattle.grammar_reader.proofs.grammar.+grammar.Answers.Adt as adt
 use Rattle.grammar_reader.proofs.grammar.+grammar.Answers.Atom as atom
 use Rattle.grammar_reader.proofs.grammar.+grammar.Answers.Attributes as attributes
 use Rattle.grammar_reader.proofs.grammar.+grammar.Answers.Blocks as blocks
+use Rattle.grammar_reader.proofs.grammar.+grammar.Answers.ConstArgs as const_args
 use Rattle.grammar_reader.proofs.grammar.+grammar.Answers.Consts as consts
 use Rattle.grammar_reader.proofs.grammar.+grammar.Answers.Control as control
 use Rattle.grammar_reader.proofs.grammar.+grammar.Answers.Expressions as expressions
@@ -40,6 +44,8 @@ use Rattle.grammar_reader.proofs.grammar.+grammar.Answers.Layers as layers
 use Rattle.grammar_reader.proofs.grammar.+grammar.Answers.Lists as lists
 use Rattle.grammar_reader.proofs.grammar.+grammar.Answers.MatchArm as match_arm
 use Rattle.grammar_reader.proofs.grammar.+grammar.Answers.Members as members
+use Rattle.grammar_reader.proofs.grammar.+grammar.Answers.NewBounds as new_bounds
+use Rattle.grammar_reader.proofs.grammar.+grammar.Answers.NewParams as new_params
 use Rattle.grammar_reader.proofs.grammar.+grammar.Answers.Operand as operand
 use Rattle.grammar_reader.proofs.grammar.+grammar.Answers.Params as params
 use Rattle.grammar_reader.proofs.grammar.+grammar.Answers.Paths as paths
@@ -723,50 +729,14 @@ items::functions::expect_params-returns-then-at-clause-reads = functions.items::
 pub items::functions::expect_params-returns-clause-reads : goal.items::functions::expect_params-returns-clause-reads
 items::functions::expect_params-returns-clause-reads = functions.items::functions::expect_params-returns-clause-reads
 
-pub items::functions::opt_ret_type-returns-then-at_pair-clause-reads : goal.items::functions::opt_ret_type-returns-then-at_pair-clause-reads
-items::functions::opt_ret_type-returns-then-at_pair-clause-reads = functions.items::functions::opt_ret_type-returns-then-at_pair-clause-reads
-
-pub items::functions::opt_ret_type-returns-else-at_pair-clause-reads : goal.items::functions::opt_ret_type-returns-else-at_pair-clause-reads
-items::functions::opt_ret_type-returns-else-at_pair-clause-reads = functions.items::functions::opt_ret_type-returns-else-at_pair-clause-reads
-
 pub items::functions::fn_body-returns-then-at-clause-reads : goal.items::functions::fn_body-returns-then-at-clause-reads
 items::functions::fn_body-returns-then-at-clause-reads = functions.items::functions::fn_body-returns-then-at-clause-reads
 
 pub items::functions::fn_body-returns-clause-reads : goal.items::functions::fn_body-returns-clause-reads
 items::functions::fn_body-returns-clause-reads = functions.items::functions::fn_body-returns-clause-reads
 
-pub generic_args::generic_arg-returns-in-LIFETIME_IDENT-clause-gives : goal.generic_args::generic_arg-returns-in-LIFETIME_IDENT-clause-gives
-generic_args::generic_arg-returns-in-LIFETIME_IDENT-clause-gives = generic_args.generic_args::generic_arg-returns-in-LIFETIME_IDENT-clause-gives
-
-pub generic_args::generic_arg-returns-in-MINUS-clause-gives : goal.generic_args::generic_arg-returns-in-MINUS-clause-gives
-generic_args::generic_arg-returns-in-MINUS-clause-gives = generic_args.generic_args::generic_arg-returns-in-MINUS-clause-gives
-
-pub generic_args::generic_arg-word_arg-requires : goal.generic_args::generic_arg-word_arg-requires
-generic_args::generic_arg-word_arg-requires = generic_args.generic_args::generic_arg-word_arg-requires
-
-pub generic_args::generic_arg-returns-in-IDENT-clause-gives : goal.generic_args::generic_arg-returns-in-IDENT-clause-gives
-generic_args::generic_arg-returns-in-IDENT-clause-gives = generic_args.generic_args::generic_arg-returns-in-IDENT-clause-gives
-
-pub generic_args::generic_arg-returns-then-at_literal-clause-gives : goal.generic_args::generic_arg-returns-then-at_literal-clause-gives
-generic_args::generic_arg-returns-then-at_literal-clause-gives = generic_args.generic_args::generic_arg-returns-then-at_literal-clause-gives
-
-pub generic_args::generic_arg-type_arg-requires : goal.generic_args::generic_arg-type_arg-requires
-generic_args::generic_arg-type_arg-requires = generic_args.generic_args::generic_arg-type_arg-requires
-
-pub generic_args::generic_arg-returns-else-at_literal-clause-gives : goal.generic_args::generic_arg-returns-else-at_literal-clause-gives
-generic_args::generic_arg-returns-else-at_literal-clause-gives = generic_args.generic_args::generic_arg-returns-else-at_literal-clause-gives
-
 pub generic_args::word_arg-assoc_type_arg-requires : goal.generic_args::word_arg-assoc_type_arg-requires
 generic_args::word_arg-assoc_type_arg-requires = generic_args.generic_args::word_arg-assoc_type_arg-requires
-
-pub generic_args::word_arg-returns-then-at_second-clause-reads : goal.generic_args::word_arg-returns-then-at_second-clause-reads
-generic_args::word_arg-returns-then-at_second-clause-reads = generic_args.generic_args::word_arg-returns-then-at_second-clause-reads
-
-pub generic_args::word_arg-type_arg-requires : goal.generic_args::word_arg-type_arg-requires
-generic_args::word_arg-type_arg-requires = generic_args.generic_args::word_arg-type_arg-requires
-
-pub generic_args::word_arg-returns-clause-reads : goal.generic_args::word_arg-returns-clause-reads
-generic_args::word_arg-returns-clause-reads = generic_args.generic_args::word_arg-returns-clause-reads
 
 pub generic_args::assoc_type_arg-complete-requires : goal.generic_args::assoc_type_arg-complete-requires
 generic_args::assoc_type_arg-complete-requires = generic_args.generic_args::assoc_type_arg-complete-requires
@@ -774,29 +744,83 @@ generic_args::assoc_type_arg-complete-requires = generic_args.generic_args::asso
 pub generic_args::assoc_type_arg-returns-clause-reads : goal.generic_args::assoc_type_arg-returns-clause-reads
 generic_args::assoc_type_arg-returns-clause-reads = generic_args.generic_args::assoc_type_arg-returns-clause-reads
 
-pub generic_args::type_arg-any_type-requires : goal.generic_args::type_arg-any_type-requires
-generic_args::type_arg-any_type-requires = generic_args.generic_args::type_arg-any_type-requires
-
 pub generic_args::type_arg-complete-requires : goal.generic_args::type_arg-complete-requires
 generic_args::type_arg-complete-requires = generic_args.generic_args::type_arg-complete-requires
 
 pub generic_args::type_arg-returns-clause-reads : goal.generic_args::type_arg-returns-clause-reads
 generic_args::type_arg-returns-clause-reads = generic_args.generic_args::type_arg-returns-clause-reads
 
-pub generic_params::bound-lifetime_or_path-requires : goal.generic_params::bound-lifetime_or_path-requires
-generic_params::bound-lifetime_or_path-requires = generic_params.generic_params::bound-lifetime_or_path-requires
+pub const_args::expect_const_arg-returns-then-at_const_arg-clause-reads : goal.const_args::expect_const_arg-returns-then-at_const_arg-clause-reads
+const_args::expect_const_arg-returns-then-at_const_arg-clause-reads = const_args.const_args::expect_const_arg-returns-then-at_const_arg-clause-reads
 
-pub generic_params::bound-complete-requires : goal.generic_params::bound-complete-requires
-generic_params::bound-complete-requires = generic_params.generic_params::bound-complete-requires
+pub const_args::expect_const_arg-returns-clause-reads : goal.const_args::expect_const_arg-returns-clause-reads
+const_args::expect_const_arg-returns-clause-reads = const_args.const_args::expect_const_arg-returns-clause-reads
+
+pub const_args::const_arg-complete-requires : goal.const_args::const_arg-complete-requires
+const_args::const_arg-complete-requires = const_args.const_args::const_arg-complete-requires
+
+pub const_args::const_arg-returns-clause-reads : goal.const_args::const_arg-returns-clause-reads
+const_args::const_arg-returns-clause-reads = const_args.const_args::const_arg-returns-clause-reads
+
+pub const_args::const_value-returns-then-at-clause-reads : goal.const_args::const_value-returns-then-at-clause-reads
+const_args::const_value-returns-then-at-clause-reads = const_args.const_args::const_value-returns-then-at-clause-reads
+
+pub const_args::const_value-returns-then-at_literal-clause-reads : goal.const_args::const_value-returns-then-at_literal-clause-reads
+const_args::const_value-returns-then-at_literal-clause-reads = const_args.const_args::const_value-returns-then-at_literal-clause-reads
+
+pub const_args::const_value-returns-then-at_negated-clause-reads : goal.const_args::const_value-returns-then-at_negated-clause-reads
+const_args::const_value-returns-then-at_negated-clause-reads = const_args.const_args::const_value-returns-then-at_negated-clause-reads
+
+pub const_args::const_value-returns-clause-reads : goal.const_args::const_value-returns-clause-reads
+const_args::const_value-returns-clause-reads = const_args.const_args::const_value-returns-clause-reads
+
+pub const_args::const_path-complete-requires : goal.const_args::const_path-complete-requires
+const_args::const_path-complete-requires = const_args.const_args::const_path-complete-requires
+
+pub const_args::const_path-returns-clause-reads : goal.const_args::const_path-returns-clause-reads
+const_args::const_path-returns-clause-reads = const_args.const_args::const_path-returns-clause-reads
+
+pub const_args::expr_path-path_with_args-requires : goal.const_args::expr_path-path_with_args-requires
+const_args::expr_path-path_with_args-requires = const_args.const_args::expr_path-path_with_args-requires
+
+pub const_args::expr_path-returns-then-at_path-clause-gives : goal.const_args::expr_path-returns-then-at_path-clause-gives
+const_args::expr_path-returns-then-at_path-clause-gives = const_args.const_args::expr_path-returns-then-at_path-clause-gives
+
+pub const_args::expr_path-missing_expr_path-requires : goal.const_args::expr_path-missing_expr_path-requires
+const_args::expr_path-missing_expr_path-requires = const_args.const_args::expr_path-missing_expr_path-requires
+
+pub const_args::expr_path-returns-clause-gives : goal.const_args::expr_path-returns-clause-gives
+const_args::expr_path-returns-clause-gives = const_args.const_args::expr_path-returns-clause-gives
+
+pub generic_params::bound-plain_bound-requires : goal.generic_params::bound-plain_bound-requires
+generic_params::bound-plain_bound-requires = generic_params.generic_params::bound-plain_bound-requires
+
+pub generic_params::bound-returns-then-at_new_bound-clause-gives : goal.generic_params::bound-returns-then-at_new_bound-clause-gives
+generic_params::bound-returns-then-at_new_bound-clause-gives = generic_params.generic_params::bound-returns-then-at_new_bound-clause-gives
 
 pub generic_params::bound-returns-clause-gives : goal.generic_params::bound-returns-clause-gives
 generic_params::bound-returns-clause-gives = generic_params.generic_params::bound-returns-clause-gives
+
+pub generic_params::plain_bound-lifetime_or_path-requires : goal.generic_params::plain_bound-lifetime_or_path-requires
+generic_params::plain_bound-lifetime_or_path-requires = generic_params.generic_params::plain_bound-lifetime_or_path-requires
+
+pub generic_params::plain_bound-complete-requires : goal.generic_params::plain_bound-complete-requires
+generic_params::plain_bound-complete-requires = generic_params.generic_params::plain_bound-complete-requires
+
+pub generic_params::plain_bound-returns-clause-reads : goal.generic_params::plain_bound-returns-clause-reads
+generic_params::plain_bound-returns-clause-reads = generic_params.generic_params::plain_bound-returns-clause-reads
 
 pub generic_params::lifetime_or_path-returns-in-LIFETIME_IDENT-clause-reads : goal.generic_params::lifetime_or_path-returns-in-LIFETIME_IDENT-clause-reads
 generic_params::lifetime_or_path-returns-in-LIFETIME_IDENT-clause-reads = generic_params.generic_params::lifetime_or_path-returns-in-LIFETIME_IDENT-clause-reads
 
 pub generic_params::lifetime_or_path-returns-in-QUESTION-clause-reads : goal.generic_params::lifetime_or_path-returns-in-QUESTION-clause-reads
 generic_params::lifetime_or_path-returns-in-QUESTION-clause-reads = generic_params.generic_params::lifetime_or_path-returns-in-QUESTION-clause-reads
+
+pub generic_params::lifetime_or_path-lifetime-requires : goal.generic_params::lifetime_or_path-lifetime-requires
+generic_params::lifetime_or_path-lifetime-requires = generic_params.generic_params::lifetime_or_path-lifetime-requires
+
+pub generic_params::lifetime_or_path-path_after_question-requires : goal.generic_params::lifetime_or_path-path_after_question-requires
+generic_params::lifetime_or_path-path_after_question-requires = generic_params.generic_params::lifetime_or_path-path_after_question-requires
 
 pub generic_params::lifetime_or_path-path_type-requires : goal.generic_params::lifetime_or_path-path_type-requires
 generic_params::lifetime_or_path-path_type-requires = generic_params.generic_params::lifetime_or_path-path_type-requires
@@ -855,6 +879,18 @@ generic_params::bounds_after_colon-returns-then-at-clause-reads = generic_params
 pub generic_params::bounds_after_colon-returns-else-at-clause-reads : goal.generic_params::bounds_after_colon-returns-else-at-clause-reads
 generic_params::bounds_after_colon-returns-else-at-clause-reads = generic_params.generic_params::bounds_after_colon-returns-else-at-clause-reads
 
+pub generic_params::for_binder-returns-clause-reads : goal.generic_params::for_binder-returns-clause-reads
+generic_params::for_binder-returns-clause-reads = generic_params.generic_params::for_binder-returns-clause-reads
+
+pub generic_params::expect_generic_params-returns-then-at-clause-reads : goal.generic_params::expect_generic_params-returns-then-at-clause-reads
+generic_params::expect_generic_params-returns-then-at-clause-reads = generic_params.generic_params::expect_generic_params-returns-then-at-clause-reads
+
+pub generic_params::expect_generic_params-returns-clause-reads : goal.generic_params::expect_generic_params-returns-clause-reads
+generic_params::expect_generic_params-returns-clause-reads = generic_params.generic_params::expect_generic_params-returns-clause-reads
+
+pub generic_params::lifetime_and_bounds-returns-clause-reads : goal.generic_params::lifetime_and_bounds-returns-clause-reads
+generic_params::lifetime_and_bounds-returns-clause-reads = generic_params.generic_params::lifetime_and_bounds-returns-clause-reads
+
 pub generic_params::lifetime_param-complete-requires : goal.generic_params::lifetime_param-complete-requires
 generic_params::lifetime_param-complete-requires = generic_params.generic_params::lifetime_param-complete-requires
 
@@ -867,11 +903,17 @@ generic_params::type_param-complete-requires = generic_params.generic_params::ty
 pub generic_params::type_param-returns-clause-reads : goal.generic_params::type_param-returns-clause-reads
 generic_params::type_param-returns-clause-reads = generic_params.generic_params::type_param-returns-clause-reads
 
+pub generic_params::generic_param-returns-then-at_new_param-clause-gives : goal.generic_params::generic_param-returns-then-at_new_param-clause-gives
+generic_params::generic_param-returns-then-at_new_param-clause-gives = generic_params.generic_params::generic_param-returns-then-at_new_param-clause-gives
+
 pub generic_params::generic_param-returns-then-at-clause-gives : goal.generic_params::generic_param-returns-then-at-clause-gives
 generic_params::generic_param-returns-then-at-clause-gives = generic_params.generic_params::generic_param-returns-then-at-clause-gives
 
 pub generic_params::generic_param-returns-clause-gives : goal.generic_params::generic_param-returns-clause-gives
 generic_params::generic_param-returns-clause-gives = generic_params.generic_params::generic_param-returns-clause-gives
+
+pub generic_params::lifetime_or_type-lifetime-requires : goal.generic_params::lifetime_or_type-lifetime-requires
+generic_params::lifetime_or_type-lifetime-requires = generic_params.generic_params::lifetime_or_type-lifetime-requires
 
 pub generic_params::lifetime_or_type-any_type-requires : goal.generic_params::lifetime_or_type-any_type-requires
 generic_params::lifetime_or_type-any_type-requires = generic_params.generic_params::lifetime_or_type-any_type-requires
@@ -882,14 +924,35 @@ generic_params::lifetime_or_type-returns-then-at-clause-reads = generic_params.g
 pub generic_params::lifetime_or_type-returns-clause-reads : goal.generic_params::lifetime_or_type-returns-clause-reads
 generic_params::lifetime_or_type-returns-clause-reads = generic_params.generic_params::lifetime_or_type-returns-clause-reads
 
-pub generic_params::where_pred-lifetime_or_type-requires : goal.generic_params::where_pred-lifetime_or_type-requires
-generic_params::where_pred-lifetime_or_type-requires = generic_params.generic_params::where_pred-lifetime_or_type-requires
+pub generic_params::pred_bounds-returns-clause-reads : goal.generic_params::pred_bounds-returns-clause-reads
+generic_params::pred_bounds-returns-clause-reads = generic_params.generic_params::pred_bounds-returns-clause-reads
 
-pub generic_params::where_pred-complete-requires : goal.generic_params::where_pred-complete-requires
-generic_params::where_pred-complete-requires = generic_params.generic_params::where_pred-complete-requires
+pub generic_params::where_pred-binder_pred-requires : goal.generic_params::where_pred-binder_pred-requires
+generic_params::where_pred-binder_pred-requires = generic_params.generic_params::where_pred-binder_pred-requires
+
+pub generic_params::where_pred-plain_pred-requires : goal.generic_params::where_pred-plain_pred-requires
+generic_params::where_pred-plain_pred-requires = generic_params.generic_params::where_pred-plain_pred-requires
+
+pub generic_params::where_pred-returns-then-at_new_pred-clause-gives : goal.generic_params::where_pred-returns-then-at_new_pred-clause-gives
+generic_params::where_pred-returns-then-at_new_pred-clause-gives = generic_params.generic_params::where_pred-returns-then-at_new_pred-clause-gives
 
 pub generic_params::where_pred-returns-clause-gives : goal.generic_params::where_pred-returns-clause-gives
 generic_params::where_pred-returns-clause-gives = generic_params.generic_params::where_pred-returns-clause-gives
+
+pub generic_params::binder_pred-complete-requires : goal.generic_params::binder_pred-complete-requires
+generic_params::binder_pred-complete-requires = generic_params.generic_params::binder_pred-complete-requires
+
+pub generic_params::binder_pred-returns-clause-reads : goal.generic_params::binder_pred-returns-clause-reads
+generic_params::binder_pred-returns-clause-reads = generic_params.generic_params::binder_pred-returns-clause-reads
+
+pub generic_params::plain_pred-lifetime_or_type-requires : goal.generic_params::plain_pred-lifetime_or_type-requires
+generic_params::plain_pred-lifetime_or_type-requires = generic_params.generic_params::plain_pred-lifetime_or_type-requires
+
+pub generic_params::plain_pred-complete-requires : goal.generic_params::plain_pred-complete-requires
+generic_params::plain_pred-complete-requires = generic_params.generic_params::plain_pred-complete-requires
+
+pub generic_params::plain_pred-returns-clause-reads : goal.generic_params::plain_pred-returns-clause-reads
+generic_params::plain_pred-returns-clause-reads = generic_params.generic_params::plain_pred-returns-clause-reads
 
 pub generic_params::where_clause-complete-requires : goal.generic_params::where_clause-complete-requires
 generic_params::where_clause-complete-requires = generic_params.generic_params::where_clause-complete-requires
@@ -923,6 +986,96 @@ generic_params::opt_pred-returns-then-at_where_pred-clause-reads = generic_param
 
 pub generic_params::opt_pred-returns-else-at_where_pred-clause-reads : goal.generic_params::opt_pred-returns-else-at_where_pred-clause-reads
 generic_params::opt_pred-returns-else-at_where_pred-clause-reads = generic_params.generic_params::opt_pred-returns-else-at_where_pred-clause-reads
+
+pub new_bounds::new_bound-complete-requires : goal.new_bounds::new_bound-complete-requires
+new_bounds::new_bound-complete-requires = new_bounds.new_bounds::new_bound-complete-requires
+
+pub new_bounds::new_bound-returns-clause-reads : goal.new_bounds::new_bound-returns-clause-reads
+new_bounds::new_bound-returns-clause-reads = new_bounds.new_bounds::new_bound-returns-clause-reads
+
+pub new_bounds::maybe_in_parens-returns-then-at-clause-reads : goal.new_bounds::maybe_in_parens-returns-then-at-clause-reads
+new_bounds::maybe_in_parens-returns-then-at-clause-reads = new_bounds.new_bounds::maybe_in_parens-returns-then-at-clause-reads
+
+pub new_bounds::maybe_in_parens-returns-clause-reads : goal.new_bounds::maybe_in_parens-returns-clause-reads
+new_bounds::maybe_in_parens-returns-clause-reads = new_bounds.new_bounds::maybe_in_parens-returns-clause-reads
+
+pub new_bounds::in_parens-returns-clause-reads : goal.new_bounds::in_parens-returns-clause-reads
+new_bounds::in_parens-returns-clause-reads = new_bounds.new_bounds::in_parens-returns-clause-reads
+
+pub new_bounds::bound_inside-returns-then-at-clause-reads : goal.new_bounds::bound_inside-returns-then-at-clause-reads
+new_bounds::bound_inside-returns-then-at-clause-reads = new_bounds.new_bounds::bound_inside-returns-then-at-clause-reads
+
+pub new_bounds::bound_inside-returns-then-at_captures-clause-reads : goal.new_bounds::bound_inside-returns-then-at_captures-clause-reads
+new_bounds::bound_inside-returns-then-at_captures-clause-reads = new_bounds.new_bounds::bound_inside-returns-then-at_captures-clause-reads
+
+pub new_bounds::bound_inside-returns-clause-reads : goal.new_bounds::bound_inside-returns-clause-reads
+new_bounds::bound_inside-returns-clause-reads = new_bounds.new_bounds::bound_inside-returns-clause-reads
+
+pub new_bounds::use_captures-returns-clause-reads : goal.new_bounds::use_captures-returns-clause-reads
+new_bounds::use_captures-returns-clause-reads = new_bounds.new_bounds::use_captures-returns-clause-reads
+
+pub new_bounds::captures-complete-requires : goal.new_bounds::captures-complete-requires
+new_bounds::captures-complete-requires = new_bounds.new_bounds::captures-complete-requires
+
+pub new_bounds::captures-returns-clause-reads : goal.new_bounds::captures-returns-clause-reads
+new_bounds::captures-returns-clause-reads = new_bounds.new_bounds::captures-returns-clause-reads
+
+pub new_bounds::words_and_path-returns-clause-reads : goal.new_bounds::words_and_path-returns-clause-reads
+new_bounds::words_and_path-returns-clause-reads = new_bounds.new_bounds::words_and_path-returns-clause-reads
+
+pub new_bounds::opt_binder-returns-then-at_binder-clause-reads : goal.new_bounds::opt_binder-returns-then-at_binder-clause-reads
+new_bounds::opt_binder-returns-then-at_binder-clause-reads = new_bounds.new_bounds::opt_binder-returns-then-at_binder-clause-reads
+
+pub new_bounds::opt_binder-returns-else-at_binder-clause-reads : goal.new_bounds::opt_binder-returns-else-at_binder-clause-reads
+new_bounds::opt_binder-returns-else-at_binder-clause-reads = new_bounds.new_bounds::opt_binder-returns-else-at_binder-clause-reads
+
+pub new_params::new_param-returns-then-at-clause-anew : goal.new_params::new_param-returns-then-at-clause-anew
+new_params::new_param-returns-then-at-clause-anew = new_params.new_params::new_param-returns-then-at-clause-anew
+
+pub new_params::new_param-returns-clause-anew : goal.new_params::new_param-returns-clause-anew
+new_params::new_param-returns-clause-anew = new_params.new_params::new_param-returns-clause-anew
+
+pub new_params::const_param-complete-requires : goal.new_params::const_param-complete-requires
+new_params::const_param-complete-requires = new_params.new_params::const_param-complete-requires
+
+pub new_params::const_param-returns-clause-reads : goal.new_params::const_param-returns-clause-reads
+new_params::const_param-returns-clause-reads = new_params.new_params::const_param-returns-clause-reads
+
+pub new_params::inside_const_param-returns-clause-reads : goal.new_params::inside_const_param-returns-clause-reads
+new_params::inside_const_param-returns-clause-reads = new_params.new_params::inside_const_param-returns-clause-reads
+
+pub new_params::const_default-returns-then-at-clause-reads : goal.new_params::const_default-returns-then-at-clause-reads
+new_params::const_default-returns-then-at-clause-reads = new_params.new_params::const_default-returns-then-at-clause-reads
+
+pub new_params::const_default-returns-else-at-clause-reads : goal.new_params::const_default-returns-else-at-clause-reads
+new_params::const_default-returns-else-at-clause-reads = new_params.new_params::const_default-returns-else-at-clause-reads
+
+pub new_params::attributed_param-after_attributes-requires : goal.new_params::attributed_param-after_attributes-requires
+new_params::attributed_param-after_attributes-requires = new_params.new_params::attributed_param-after_attributes-requires
+
+pub new_params::attributed_param-returns-clause-anew : goal.new_params::attributed_param-returns-clause-anew
+new_params::attributed_param-returns-clause-anew = new_params.new_params::attributed_param-returns-clause-anew
+
+pub new_params::after_attributes-complete-requires : goal.new_params::after_attributes-complete-requires
+new_params::after_attributes-complete-requires = new_params.new_params::after_attributes-complete-requires
+
+pub new_params::after_attributes-complete-requires-in-CONST_KW : goal.new_params::after_attributes-complete-requires-in-CONST_KW
+new_params::after_attributes-complete-requires-in-CONST_KW = new_params.new_params::after_attributes-complete-requires-in-CONST_KW
+
+pub new_params::after_attributes-complete-requires-in_default : goal.new_params::after_attributes-complete-requires-in_default
+new_params::after_attributes-complete-requires-in_default = new_params.new_params::after_attributes-complete-requires-in_default
+
+pub new_params::after_attributes-returns-in-LIFETIME_IDENT-clause-completes : goal.new_params::after_attributes-returns-in-LIFETIME_IDENT-clause-completes
+new_params::after_attributes-returns-in-LIFETIME_IDENT-clause-completes = new_params.new_params::after_attributes-returns-in-LIFETIME_IDENT-clause-completes
+
+pub new_params::after_attributes-returns-in-CONST_KW-clause-completes : goal.new_params::after_attributes-returns-in-CONST_KW-clause-completes
+new_params::after_attributes-returns-in-CONST_KW-clause-completes = new_params.new_params::after_attributes-returns-in-CONST_KW-clause-completes
+
+pub new_params::after_attributes-returns-in_default-clause-completes : goal.new_params::after_attributes-returns-in_default-clause-completes
+new_params::after_attributes-returns-in_default-clause-completes = new_params.new_params::after_attributes-returns-in_default-clause-completes
+
+pub new_params::inside_type_param-returns-clause-reads : goal.new_params::inside_type_param-returns-clause-reads
+new_params::inside_type_param-returns-clause-reads = new_params.new_params::inside_type_param-returns-clause-reads
 
 pub items::item-attributed_item-requires : goal.items::item-attributed_item-requires
 items::item-attributed_item-requires = items.items::item-attributed_item-requires
@@ -1175,6 +1328,12 @@ lists::turn-returns-then-at_unexpected-clause-goes = lists.lists::turn-returns-t
 
 pub lists::turn-returns-clause-ends : goal.lists::turn-returns-clause-ends
 lists::turn-returns-clause-ends = lists.lists::turn-returns-clause-ends
+
+pub lists::read_element-captured-requires : goal.lists::read_element-captured-requires
+lists::read_element-captured-requires = lists.lists::read_element-captured-requires
+
+pub lists::read_element-returns-in-Captured-clause-reads : goal.lists::read_element-returns-in-Captured-clause-reads
+lists::read_element-returns-in-Captured-clause-reads = lists.lists::read_element-returns-in-Captured-clause-reads
 
 pub lists::read_element-closure_param-requires : goal.lists::read_element-closure_param-requires
 lists::read_element-closure_param-requires = lists.lists::read_element-closure_param-requires
@@ -1586,15 +1745,6 @@ paths::generic_args-complete-requires = paths.paths::generic_args-complete-requi
 
 pub paths::generic_args-returns-clause-gives : goal.paths::generic_args-returns-clause-gives
 paths::generic_args-returns-clause-gives = paths.paths::generic_args-returns-clause-gives
-
-pub paths::opt_args-generic_args-requires : goal.paths::opt_args-generic_args-requires
-paths::opt_args-generic_args-requires = paths.paths::opt_args-generic_args-requires
-
-pub paths::opt_args-returns-then-at_args-clause-reads : goal.paths::opt_args-returns-then-at_args-clause-reads
-paths::opt_args-returns-then-at_args-clause-reads = paths.paths::opt_args-returns-then-at_args-clause-reads
-
-pub paths::opt_args-returns-else-at_args-clause-reads : goal.paths::opt_args-returns-else-at_args-clause-reads
-paths::opt_args-returns-else-at_args-clause-reads = paths.paths::opt_args-returns-else-at_args-clause-reads
 
 pub paths::first_segment-first_word-requires-clause-begins : goal.paths::first_segment-first_word-requires-clause-begins
 paths::first_segment-first_word-requires-clause-begins = paths.paths::first_segment-first_word-requires-clause-begins
@@ -2022,12 +2172,6 @@ types::inside-returns-in-UNDERSCORE-clause-takes = types.types::inside-returns-i
 pub types::inside-returns-then-at_dyn_word : goal.types::inside-returns-then-at_dyn_word
 types::inside-returns-then-at_dyn_word = types.types::inside-returns-then-at_dyn_word
 
-pub types::inside-returns-else-at_dyn_word : goal.types::inside-returns-else-at_dyn_word
-types::inside-returns-else-at_dyn_word = types.types::inside-returns-else-at_dyn_word
-
-pub types::inside-path_type-requires : goal.types::inside-path_type-requires
-types::inside-path_type-requires = types.types::inside-path_type-requires
-
 pub types::bounded_type-complete-requires : goal.types::bounded_type-complete-requires
 types::bounded_type-complete-requires = types.types::bounded_type-complete-requires
 
@@ -2048,9 +2192,6 @@ types::path_type-complete-requires = types.types::path_type-complete-requires
 
 pub types::path_type-returns-clause-reads : goal.types::path_type-returns-clause-reads
 types::path_type-returns-clause-reads = types.types::path_type-returns-clause-reads
-
-pub types::expect_type-any_type-requires : goal.types::expect_type-any_type-requires
-types::expect_type-any_type-requires = types.types::expect_type-any_type-requires
 
 pub types::expect_type-returns-then-at_type-clause-reads : goal.types::expect_type-returns-then-at_type-clause-reads
 types::expect_type-returns-then-at_type-clause-reads = types.types::expect_type-returns-then-at_type-clause-reads
@@ -2168,3 +2309,303 @@ lists::turn-returns-clause-asks = lists.lists::turn-returns-clause-asks
 
 pub paths::generic_args-opt_colons-requires : goal.paths::generic_args-opt_colons-requires
 paths::generic_args-opt_colons-requires = paths.paths::generic_args-opt_colons-requires
+
+pub types::opt_ret_type-returns-then-at_pair-clause-reads : goal.types::opt_ret_type-returns-then-at_pair-clause-reads
+types::opt_ret_type-returns-then-at_pair-clause-reads = types.types::opt_ret_type-returns-then-at_pair-clause-reads
+
+pub types::opt_ret_type-returns-else-at_pair-clause-reads : goal.types::opt_ret_type-returns-else-at_pair-clause-reads
+types::opt_ret_type-returns-else-at_pair-clause-reads = types.types::opt_ret_type-returns-else-at_pair-clause-reads
+
+pub types::type_no_bounds-bare_or_any-frame-requires : goal.types::type_no_bounds-bare_or_any-frame-requires
+types::type_no_bounds-bare_or_any-frame-requires = types.types::type_no_bounds-bare_or_any-frame-requires
+
+pub types::type_no_bounds-returns-clause-gives : goal.types::type_no_bounds-returns-clause-gives
+types::type_no_bounds-returns-clause-gives = types.types::type_no_bounds-returns-clause-gives
+
+pub types::bare_or_any-for_or_path-requires : goal.types::bare_or_any-for_or_path-requires
+types::bare_or_any-for_or_path-requires = types.types::bare_or_any-for_or_path-requires
+
+pub types::bare_or_any-inside-requires : goal.types::bare_or_any-inside-requires
+types::bare_or_any-inside-requires = types.types::bare_or_any-inside-requires
+
+pub types::bare_or_any-returns-then-at_bare_type-clause-reads : goal.types::bare_or_any-returns-then-at_bare_type-clause-reads
+types::bare_or_any-returns-then-at_bare_type-clause-reads = types.types::bare_or_any-returns-then-at_bare_type-clause-reads
+
+pub types::bare_or_any-returns-clause-reads : goal.types::bare_or_any-returns-clause-reads
+types::bare_or_any-returns-clause-reads = types.types::bare_or_any-returns-clause-reads
+
+pub types::expect_type_no_bounds-type_no_bounds-requires : goal.types::expect_type_no_bounds-type_no_bounds-requires
+types::expect_type_no_bounds-type_no_bounds-requires = types.types::expect_type_no_bounds-type_no_bounds-requires
+
+pub types::expect_type_no_bounds-returns-then-at_type_no_bounds-clause-reads : goal.types::expect_type_no_bounds-returns-then-at_type_no_bounds-clause-reads
+types::expect_type_no_bounds-returns-then-at_type_no_bounds-clause-reads = types.types::expect_type_no_bounds-returns-then-at_type_no_bounds-clause-reads
+
+pub types::expect_type_no_bounds-returns-clause-reads : goal.types::expect_type_no_bounds-returns-clause-reads
+types::expect_type_no_bounds-returns-clause-reads = types.types::expect_type_no_bounds-returns-clause-reads
+
+pub types::new_type-returns-then-at-clause-reads : goal.types::new_type-returns-then-at-clause-reads
+types::new_type-returns-then-at-clause-reads = types.types::new_type-returns-then-at-clause-reads
+
+pub types::new_type-returns-then-at-clause-takes : goal.types::new_type-returns-then-at-clause-takes
+types::new_type-returns-then-at-clause-takes = types.types::new_type-returns-then-at-clause-takes
+
+pub types::new_type-for_or_path-frame-requires : goal.types::new_type-for_or_path-frame-requires
+types::new_type-for_or_path-frame-requires = types.types::new_type-for_or_path-frame-requires
+
+pub types::new_type-returns-clause-reads : goal.types::new_type-returns-clause-reads
+types::new_type-returns-clause-reads = types.types::new_type-returns-clause-reads
+
+pub types::for_or_path-returns-then-at-clause-reads : goal.types::for_or_path-returns-then-at-clause-reads
+types::for_or_path-returns-then-at-clause-reads = types.types::for_or_path-returns-then-at-clause-reads
+
+pub types::for_or_path-returns-then-at-clause-takes : goal.types::for_or_path-returns-then-at-clause-takes
+types::for_or_path-returns-then-at-clause-takes = types.types::for_or_path-returns-then-at-clause-takes
+
+pub types::for_or_path-front_path-frame-requires : goal.types::for_or_path-front_path-frame-requires
+types::for_or_path-front_path-frame-requires = types.types::for_or_path-front_path-frame-requires
+
+pub types::for_or_path-returns-clause-reads : goal.types::for_or_path-returns-clause-reads
+types::for_or_path-returns-clause-reads = types.types::for_or_path-returns-clause-reads
+
+pub types::front_path-qualified_path-requires : goal.types::front_path-qualified_path-requires
+types::front_path-qualified_path-requires = types.types::front_path-qualified_path-requires
+
+pub types::front_path-returns-then-at-clause-reads : goal.types::front_path-returns-then-at-clause-reads
+types::front_path-returns-then-at-clause-reads = types.types::front_path-returns-then-at-clause-reads
+
+pub types::front_path-path_with_args-requires : goal.types::front_path-path_with_args-requires
+types::front_path-path_with_args-requires = types.types::front_path-path_with_args-requires
+
+pub types::front_path-returns-clause-reads : goal.types::front_path-returns-clause-reads
+types::front_path-returns-clause-reads = types.types::front_path-returns-clause-reads
+
+pub types::front_path-returns-clause-takes : goal.types::front_path-returns-clause-takes
+types::front_path-returns-clause-takes = types.types::front_path-returns-clause-takes
+
+pub types::for_type-complete-requires : goal.types::for_type-complete-requires
+types::for_type-complete-requires = types.types::for_type-complete-requires
+
+pub types::for_type-returns-clause-reads : goal.types::for_type-returns-clause-reads
+types::for_type-returns-clause-reads = types.types::for_type-returns-clause-reads
+
+pub types::opt_plus_bounds-wrap-frame-requires-then-at : goal.types::opt_plus_bounds-wrap-frame-requires-then-at
+types::opt_plus_bounds-wrap-frame-requires-then-at = types.types::opt_plus_bounds-wrap-frame-requires-then-at
+
+pub types::opt_plus_bounds-returns-then-at-clause-reads : goal.types::opt_plus_bounds-returns-then-at-clause-reads
+types::opt_plus_bounds-returns-then-at-clause-reads = types.types::opt_plus_bounds-returns-then-at-clause-reads
+
+pub types::opt_plus_bounds-returns-clause-reads : goal.types::opt_plus_bounds-returns-clause-reads
+types::opt_plus_bounds-returns-clause-reads = types.types::opt_plus_bounds-returns-clause-reads
+
+pub types::bounds_after_plus-returns-clause-reads : goal.types::bounds_after_plus-returns-clause-reads
+types::bounds_after_plus-returns-clause-reads = types.types::bounds_after_plus-returns-clause-reads
+
+pub types::lifetime_bounds-complete-requires : goal.types::lifetime_bounds-complete-requires
+types::lifetime_bounds-complete-requires = types.types::lifetime_bounds-complete-requires
+
+pub types::lifetime_bounds-complete-requires-2 : goal.types::lifetime_bounds-complete-requires-2
+types::lifetime_bounds-complete-requires-2 = types.types::lifetime_bounds-complete-requires-2
+
+pub types::lifetime_bounds-returns-clause-reads : goal.types::lifetime_bounds-returns-clause-reads
+types::lifetime_bounds-returns-clause-reads = types.types::lifetime_bounds-returns-clause-reads
+
+pub types::inside-new_type-requires : goal.types::inside-new_type-requires
+types::inside-new_type-requires = types.types::inside-new_type-requires
+
+pub types::inside-returns-then-at_new_type : goal.types::inside-returns-then-at_new_type
+types::inside-returns-then-at_new_type = types.types::inside-returns-then-at_new_type
+
+pub types::inside-path_type-requires : goal.types::inside-path_type-requires
+types::inside-path_type-requires = types.types::inside-path_type-requires
+
+pub types::inside-returns-else-at_new_type : goal.types::inside-returns-else-at_new_type
+types::inside-returns-else-at_new_type = types.types::inside-returns-else-at_new_type
+
+pub types::expect_type-any_type-requires : goal.types::expect_type-any_type-requires
+types::expect_type-any_type-requires = types.types::expect_type-any_type-requires
+
+pub paths::fn_args-paren_args-requires : goal.paths::fn_args-paren_args-requires
+paths::fn_args-paren_args-requires = paths.paths::fn_args-paren_args-requires
+
+pub paths::fn_args-returns-clause-reads : goal.paths::fn_args-returns-clause-reads
+paths::fn_args-returns-clause-reads = paths.paths::fn_args-returns-clause-reads
+
+pub paths::paren_args-opt_colons_before_paren-requires : goal.paths::paren_args-opt_colons_before_paren-requires
+paths::paren_args-opt_colons_before_paren-requires = paths.paths::paren_args-opt_colons_before_paren-requires
+
+pub paths::paren_args-complete-requires : goal.paths::paren_args-complete-requires
+paths::paren_args-complete-requires = paths.paths::paren_args-complete-requires
+
+pub paths::paren_args-returns-clause-reads : goal.paths::paren_args-returns-clause-reads
+paths::paren_args-returns-clause-reads = paths.paths::paren_args-returns-clause-reads
+
+pub paths::opt_type_args-fn_args-requires : goal.paths::opt_type_args-fn_args-requires
+paths::opt_type_args-fn_args-requires = paths.paths::opt_type_args-fn_args-requires
+
+pub paths::opt_type_args-returns-then-at_fn_args-clause-reads : goal.paths::opt_type_args-returns-then-at_fn_args-clause-reads
+paths::opt_type_args-returns-then-at_fn_args-clause-reads = paths.paths::opt_type_args-returns-then-at_fn_args-clause-reads
+
+pub paths::opt_type_args-generic_args-requires : goal.paths::opt_type_args-generic_args-requires
+paths::opt_type_args-generic_args-requires = paths.paths::opt_type_args-generic_args-requires
+
+pub paths::opt_type_args-returns-then-at_args-clause-reads : goal.paths::opt_type_args-returns-then-at_args-clause-reads
+paths::opt_type_args-returns-then-at_args-clause-reads = paths.paths::opt_type_args-returns-then-at_args-clause-reads
+
+pub paths::opt_type_args-returns-else-at_args-clause-reads : goal.paths::opt_type_args-returns-else-at_args-clause-reads
+paths::opt_type_args-returns-else-at_args-clause-reads = paths.paths::opt_type_args-returns-else-at_args-clause-reads
+
+pub paths::opt_args-returns-in-Expr-clause-reads : goal.paths::opt_args-returns-in-Expr-clause-reads
+paths::opt_args-returns-in-Expr-clause-reads = paths.paths::opt_args-returns-in-Expr-clause-reads
+
+pub paths::opt_args-returns-in-Type-clause-reads : goal.paths::opt_args-returns-in-Type-clause-reads
+paths::opt_args-returns-in-Type-clause-reads = paths.paths::opt_args-returns-in-Type-clause-reads
+
+pub paths::opt_expr_args-generic_args-requires : goal.paths::opt_expr_args-generic_args-requires
+paths::opt_expr_args-generic_args-requires = paths.paths::opt_expr_args-generic_args-requires
+
+pub paths::opt_expr_args-returns-then-at_args-clause-reads : goal.paths::opt_expr_args-returns-then-at_args-clause-reads
+paths::opt_expr_args-returns-then-at_args-clause-reads = paths.paths::opt_expr_args-returns-then-at_args-clause-reads
+
+pub paths::opt_expr_args-returns-else-at_args-clause-reads : goal.paths::opt_expr_args-returns-else-at_args-clause-reads
+paths::opt_expr_args-returns-else-at_args-clause-reads = paths.paths::opt_expr_args-returns-else-at_args-clause-reads
+
+pub paths::qualified_path-next_segments-requires : goal.paths::qualified_path-next_segments-requires
+paths::qualified_path-next_segments-requires = paths.paths::qualified_path-next_segments-requires
+
+pub paths::qualified_path-returns-clause-reads : goal.paths::qualified_path-returns-clause-reads
+paths::qualified_path-returns-clause-reads = paths.paths::qualified_path-returns-clause-reads
+
+pub paths::qualifier-complete-requires : goal.paths::qualifier-complete-requires
+paths::qualifier-complete-requires = paths.paths::qualifier-complete-requires
+
+pub paths::qualifier-complete-requires-2 : goal.paths::qualifier-complete-requires-2
+paths::qualifier-complete-requires-2 = paths.paths::qualifier-complete-requires-2
+
+pub paths::qualifier-returns-clause-reads : goal.paths::qualifier-returns-clause-reads
+paths::qualifier-returns-clause-reads = paths.paths::qualifier-returns-clause-reads
+
+pub paths::anchor-complete-requires : goal.paths::anchor-complete-requires
+paths::anchor-complete-requires = paths.paths::anchor-complete-requires
+
+pub paths::anchor-returns-clause-reads : goal.paths::anchor-returns-clause-reads
+paths::anchor-returns-clause-reads = paths.paths::anchor-returns-clause-reads
+
+pub paths::opt_as_trait-returns-then-at-clause-reads : goal.paths::opt_as_trait-returns-then-at-clause-reads
+paths::opt_as_trait-returns-then-at-clause-reads = paths.paths::opt_as_trait-returns-then-at-clause-reads
+
+pub paths::opt_as_trait-returns-else-at-clause-reads : goal.paths::opt_as_trait-returns-else-at-clause-reads
+paths::opt_as_trait-returns-else-at-clause-reads = paths.paths::opt_as_trait-returns-else-at-clause-reads
+
+pub generic_args::generic_arg-new_arg-frame-requires : goal.generic_args::generic_arg-new_arg-frame-requires
+generic_args::generic_arg-new_arg-frame-requires = generic_args.generic_args::generic_arg-new_arg-frame-requires
+
+pub generic_args::generic_arg-returns-then-at_new_arg-clause-gives : goal.generic_args::generic_arg-returns-then-at_new_arg-clause-gives
+generic_args::generic_arg-returns-then-at_new_arg-clause-gives = generic_args.generic_args::generic_arg-returns-then-at_new_arg-clause-gives
+
+pub generic_args::generic_arg-returns-in-LIFETIME_IDENT-clause-gives : goal.generic_args::generic_arg-returns-in-LIFETIME_IDENT-clause-gives
+generic_args::generic_arg-returns-in-LIFETIME_IDENT-clause-gives = generic_args.generic_args::generic_arg-returns-in-LIFETIME_IDENT-clause-gives
+
+pub generic_args::generic_arg-returns-in-MINUS-clause-gives : goal.generic_args::generic_arg-returns-in-MINUS-clause-gives
+generic_args::generic_arg-returns-in-MINUS-clause-gives = generic_args.generic_args::generic_arg-returns-in-MINUS-clause-gives
+
+pub generic_args::generic_arg-word_arg-requires : goal.generic_args::generic_arg-word_arg-requires
+generic_args::generic_arg-word_arg-requires = generic_args.generic_args::generic_arg-word_arg-requires
+
+pub generic_args::generic_arg-returns-in-IDENT-clause-gives : goal.generic_args::generic_arg-returns-in-IDENT-clause-gives
+generic_args::generic_arg-returns-in-IDENT-clause-gives = generic_args.generic_args::generic_arg-returns-in-IDENT-clause-gives
+
+pub generic_args::generic_arg-returns-then-at_literal-clause-gives : goal.generic_args::generic_arg-returns-then-at_literal-clause-gives
+generic_args::generic_arg-returns-then-at_literal-clause-gives = generic_args.generic_args::generic_arg-returns-then-at_literal-clause-gives
+
+pub generic_args::generic_arg-type_arg-requires : goal.generic_args::generic_arg-type_arg-requires
+generic_args::generic_arg-type_arg-requires = generic_args.generic_args::generic_arg-type_arg-requires
+
+pub generic_args::generic_arg-returns-else-at_literal-clause-gives : goal.generic_args::generic_arg-returns-else-at_literal-clause-gives
+generic_args::generic_arg-returns-else-at_literal-clause-gives = generic_args.generic_args::generic_arg-returns-else-at_literal-clause-gives
+
+pub generic_args::word_arg-returns-then-at_second-clause-anew : goal.generic_args::word_arg-returns-then-at_second-clause-anew
+generic_args::word_arg-returns-then-at_second-clause-anew = generic_args.generic_args::word_arg-returns-then-at_second-clause-anew
+
+pub generic_args::word_arg-type_arg-requires : goal.generic_args::word_arg-type_arg-requires
+generic_args::word_arg-type_arg-requires = generic_args.generic_args::word_arg-type_arg-requires
+
+pub generic_args::word_arg-returns-clause-anew : goal.generic_args::word_arg-returns-clause-anew
+generic_args::word_arg-returns-clause-anew = generic_args.generic_args::word_arg-returns-clause-anew
+
+pub generic_args::type_arg-any_type-requires : goal.generic_args::type_arg-any_type-requires
+generic_args::type_arg-any_type-requires = generic_args.generic_args::type_arg-any_type-requires
+
+pub generic_args::new_arg-type_arg-requires : goal.generic_args::new_arg-type_arg-requires
+generic_args::new_arg-type_arg-requires = generic_args.generic_args::new_arg-type_arg-requires
+
+pub generic_args::new_arg-returns-then-at-clause-reads : goal.generic_args::new_arg-returns-then-at-clause-reads
+generic_args::new_arg-returns-then-at-clause-reads = generic_args.generic_args::new_arg-returns-then-at-clause-reads
+
+pub generic_args::new_arg-returns-then-at-clause-takes : goal.generic_args::new_arg-returns-then-at-clause-takes
+generic_args::new_arg-returns-then-at-clause-takes = generic_args.generic_args::new_arg-returns-then-at-clause-takes
+
+pub generic_args::new_arg-returns-then-at-2-clause-reads : goal.generic_args::new_arg-returns-then-at-2-clause-reads
+generic_args::new_arg-returns-then-at-2-clause-reads = generic_args.generic_args::new_arg-returns-then-at-2-clause-reads
+
+pub generic_args::new_arg-returns-then-at-2-clause-takes : goal.generic_args::new_arg-returns-then-at-2-clause-takes
+generic_args::new_arg-returns-then-at-2-clause-takes = generic_args.generic_args::new_arg-returns-then-at-2-clause-takes
+
+pub generic_args::new_arg-named_arg-requires : goal.generic_args::new_arg-named_arg-requires
+generic_args::new_arg-named_arg-requires = generic_args.generic_args::new_arg-named_arg-requires
+
+pub generic_args::new_arg-returns-clause-reads : goal.generic_args::new_arg-returns-clause-reads
+generic_args::new_arg-returns-clause-reads = generic_args.generic_args::new_arg-returns-clause-reads
+
+pub generic_args::block_arg-complete-requires : goal.generic_args::block_arg-complete-requires
+generic_args::block_arg-complete-requires = generic_args.generic_args::block_arg-complete-requires
+
+pub generic_args::block_arg-returns-clause-reads : goal.generic_args::block_arg-returns-clause-reads
+generic_args::block_arg-returns-clause-reads = generic_args.generic_args::block_arg-returns-clause-reads
+
+pub generic_args::named_arg-wrap-requires : goal.generic_args::named_arg-wrap-requires
+generic_args::named_arg-wrap-requires = generic_args.generic_args::named_arg-wrap-requires
+
+pub generic_args::named_arg-wrap-requires-then-at_single_colon : goal.generic_args::named_arg-wrap-requires-then-at_single_colon
+generic_args::named_arg-wrap-requires-then-at_single_colon = generic_args.generic_args::named_arg-wrap-requires-then-at_single_colon
+
+pub generic_args::named_arg-front_of_type-requires : goal.generic_args::named_arg-front_of_type-requires
+generic_args::named_arg-front_of_type-requires = generic_args.generic_args::named_arg-front_of_type-requires
+
+pub generic_args::named_arg-returns-then-at-clause-reads : goal.generic_args::named_arg-returns-then-at-clause-reads
+generic_args::named_arg-returns-then-at-clause-reads = generic_args.generic_args::named_arg-returns-then-at-clause-reads
+
+pub generic_args::named_arg-returns-then-at_single_colon-clause-reads : goal.generic_args::named_arg-returns-then-at_single_colon-clause-reads
+generic_args::named_arg-returns-then-at_single_colon-clause-reads = generic_args.generic_args::named_arg-returns-then-at_single_colon-clause-reads
+
+pub generic_args::named_arg-returns-clause-reads : goal.generic_args::named_arg-returns-clause-reads
+generic_args::named_arg-returns-clause-reads = generic_args.generic_args::named_arg-returns-clause-reads
+
+pub generic_args::const_or_type-returns-then-at_const_value-clause-reads : goal.generic_args::const_or_type-returns-then-at_const_value-clause-reads
+generic_args::const_or_type-returns-then-at_const_value-clause-reads = generic_args.generic_args::const_or_type-returns-then-at_const_value-clause-reads
+
+pub generic_args::const_or_type-returns-clause-reads : goal.generic_args::const_or_type-returns-clause-reads
+generic_args::const_or_type-returns-clause-reads = generic_args.generic_args::const_or_type-returns-clause-reads
+
+pub generic_args::front_of_type-next_segments-frame-requires : goal.generic_args::front_of_type-next_segments-frame-requires
+generic_args::front_of_type-next_segments-frame-requires = generic_args.generic_args::front_of_type-next_segments-frame-requires
+
+pub generic_args::front_of_type-returns-clause-reads : goal.generic_args::front_of_type-returns-clause-reads
+generic_args::front_of_type-returns-clause-reads = generic_args.generic_args::front_of_type-returns-clause-reads
+
+pub types::any_type-inside-frame-requires : goal.types::any_type-inside-frame-requires
+types::any_type-inside-frame-requires = types.types::any_type-inside-frame-requires
+
+pub types::after_paren-tuple_tail-requires : goal.types::after_paren-tuple_tail-requires
+types::after_paren-tuple_tail-requires = types.types::after_paren-tuple_tail-requires
+
+pub types::inside-returns-in-STAR-clause-takes : goal.types::inside-returns-in-STAR-clause-takes
+types::inside-returns-in-STAR-clause-takes = types.types::inside-returns-in-STAR-clause-takes
+
+pub types::inside-returns-in-AMP-clause-takes : goal.types::inside-returns-in-AMP-clause-takes
+types::inside-returns-in-AMP-clause-takes = types.types::inside-returns-in-AMP-clause-takes
+
+pub lists::read_element-type_arg-requires : goal.lists::read_element-type_arg-requires
+lists::read_element-type_arg-requires = lists.lists::read_element-type_arg-requires
+
+pub lists::read_element-returns-in-TypeArg-clause-reads : goal.lists::read_element-returns-in-TypeArg-clause-reads
+lists::read_element-returns-in-TypeArg-clause-reads = lists.lists::read_element-returns-in-TypeArg-clause-reads

@@ -37,7 +37,7 @@ abbrev pub decreases-paths::opt_args : goal.decreases-paths::opt_args
 decreases-paths::opt_args l = 512 * tokens l.p.now + 4
 
 abbrev pub decreases-paths::generic_args : goal.decreases-paths::generic_args
-decreases-paths::generic_args l = 512 * tokens l.p.now + 3
+decreases-paths::generic_args l = 512 * tokens l.p.now + 2
 
 abbrev pub decreases-lists::arguments : goal.decreases-lists::arguments
 decreases-lists::arguments l = 512 * tokens l.p.now
@@ -137,6 +137,75 @@ decreases-types::path_type l = 512 * tokens l.p.now + 16
 
 abbrev pub decreases-types::expect_type : goal.decreases-types::expect_type
 decreases-types::expect_type l = 512 * tokens l.p.now + 19
+
+abbrev pub decreases-paths::paren_args : goal.decreases-paths::paren_args
+decreases-paths::paren_args l = 512 * tokens l.p.now + 1
+
+abbrev pub decreases-paths::fn_args : goal.decreases-paths::fn_args
+decreases-paths::fn_args l = 512 * tokens l.p.now + 2
+
+abbrev pub decreases-paths::opt_type_args : goal.decreases-paths::opt_type_args
+decreases-paths::opt_type_args l = 512 * tokens l.p.now + 3
+
+abbrev pub decreases-paths::opt_expr_args : goal.decreases-paths::opt_expr_args
+decreases-paths::opt_expr_args l = 512 * tokens l.p.now + 3
+
+abbrev pub decreases-paths::anchor : goal.decreases-paths::anchor
+decreases-paths::anchor l = 512 * tokens l.p.now
+
+abbrev pub decreases-paths::qualifier : goal.decreases-paths::qualifier
+decreases-paths::qualifier l = 512 * tokens l.p.now + 1
+
+abbrev pub decreases-paths::qualified_path : goal.decreases-paths::qualified_path
+decreases-paths::qualified_path l = 512 * tokens l.p.now + 2
+
+abbrev pub decreases-paths::opt_as_trait : goal.decreases-paths::opt_as_trait
+decreases-paths::opt_as_trait l = 512 * tokens l.p.now
+
+abbrev pub decreases-types::front_path : goal.decreases-types::front_path
+decreases-types::front_path l = 512 * tokens l.p.now + 9
+
+abbrev pub decreases-types::for_type : goal.decreases-types::for_type
+decreases-types::for_type l = 512 * tokens l.p.now + 9
+
+abbrev pub decreases-types::for_or_path : goal.decreases-types::for_or_path
+decreases-types::for_or_path l = 512 * tokens l.p.now + 10
+
+abbrev pub decreases-types::new_type : goal.decreases-types::new_type
+decreases-types::new_type l = 512 * tokens l.p.now + 11
+
+abbrev pub decreases-types::lifetime_bounds : goal.decreases-types::lifetime_bounds
+decreases-types::lifetime_bounds l = 512 * tokens l.p.now
+
+abbrev pub decreases-types::opt_plus_bounds : goal.decreases-types::opt_plus_bounds
+decreases-types::opt_plus_bounds l = 512 * tokens l.p.now + 1
+
+abbrev pub decreases-types::bounds_after_plus : goal.decreases-types::bounds_after_plus
+decreases-types::bounds_after_plus l = 512 * tokens l.p.now
+
+abbrev pub decreases-types::bare_or_any : goal.decreases-types::bare_or_any
+decreases-types::bare_or_any l = 512 * tokens l.p.now + 18
+
+abbrev pub decreases-types::type_no_bounds : goal.decreases-types::type_no_bounds
+decreases-types::type_no_bounds l = 512 * tokens l.p.now + 19
+
+abbrev pub decreases-types::expect_type_no_bounds : goal.decreases-types::expect_type_no_bounds
+decreases-types::expect_type_no_bounds l = 512 * tokens l.p.now + 20
+
+abbrev pub decreases-generic_args::new_arg : goal.decreases-generic_args::new_arg
+decreases-generic_args::new_arg l = 512 * tokens l.p.now + 24
+
+abbrev pub decreases-generic_args::block_arg : goal.decreases-generic_args::block_arg
+decreases-generic_args::block_arg l = 512 * tokens l.p.now + 3
+
+abbrev pub decreases-generic_args::named_arg : goal.decreases-generic_args::named_arg
+decreases-generic_args::named_arg l = 512 * tokens l.p.now + 10
+
+abbrev pub decreases-generic_args::const_or_type : goal.decreases-generic_args::const_or_type
+decreases-generic_args::const_or_type l = 512 * tokens l.p.now + 22
+
+abbrev pub decreases-generic_args::front_of_type : goal.decreases-generic_args::front_of_type
+decreases-generic_args::front_of_type l = 512 * tokens l.p.now + 9
 
 abbrev pub decreases-types::ptr_type : goal.decreases-types::ptr_type
 decreases-types::ptr_type l = 512 * tokens l.p.now
@@ -505,8 +574,8 @@ decreases-items::functions::fn_item l = 512 * tokens l.p.now
 abbrev pub decreases-items::functions::expect_params : goal.decreases-items::functions::expect_params
 decreases-items::functions::expect_params l = 512 * tokens l.p.now + 1
 
-abbrev pub decreases-items::functions::opt_ret_type : goal.decreases-items::functions::opt_ret_type
-decreases-items::functions::opt_ret_type l = 512 * tokens l.p.now + 1
+abbrev pub decreases-types::opt_ret_type : goal.decreases-types::opt_ret_type
+decreases-types::opt_ret_type l = 512 * tokens l.p.now + 1
 
 abbrev pub decreases-items::functions::fn_body : goal.decreases-items::functions::fn_body
 decreases-items::functions::fn_body l = 512 * tokens l.p.now + 2
@@ -547,7 +616,7 @@ decreases-items::items-turns l = tokens l.p
 
 -- generics, fields, arms and parameters by hand
 abbrev pub decreases-generic_params::bound : goal.decreases-generic_params::bound
-decreases-generic_params::bound l = 512 * tokens l.p.now + 18
+decreases-generic_params::bound l = 512 * tokens l.p.now + 22
 
 abbrev pub decreases-generic_params::lifetime_or_path : goal.decreases-generic_params::lifetime_or_path
 decreases-generic_params::lifetime_or_path l = 512 * tokens l.p.now + 17
@@ -559,10 +628,10 @@ abbrev pub decreases-generic_params::expect_path_type : goal.decreases-generic_p
 decreases-generic_params::expect_path_type l = 512 * tokens l.p.now + 17
 
 abbrev pub decreases-generic_params::bounds : goal.decreases-generic_params::bounds
-decreases-generic_params::bounds l = 512 * tokens l.p.now + 20
+decreases-generic_params::bounds l = 512 * tokens l.p.now + 24
 
 abbrev pub decreases-generic_params::opt_bounds : goal.decreases-generic_params::opt_bounds
-decreases-generic_params::opt_bounds l = 512 * tokens l.p.now + 19
+decreases-generic_params::opt_bounds l = 512 * tokens l.p.now + 23
 
 abbrev pub decreases-generic_params::further_bounds : goal.decreases-generic_params::further_bounds
 decreases-generic_params::further_bounds l = 512 * tokens l.p.now + 1
@@ -571,31 +640,31 @@ abbrev pub decreases-generic_params::further_bound : goal.decreases-generic_para
 decreases-generic_params::further_bound l = 512 * tokens l.p.now
 
 abbrev pub decreases-generic_params::opt_bound : goal.decreases-generic_params::opt_bound
-decreases-generic_params::opt_bound l = 512 * tokens l.p.now + 19
+decreases-generic_params::opt_bound l = 512 * tokens l.p.now + 23
 
 abbrev pub decreases-generic_params::bounds_after_colon : goal.decreases-generic_params::bounds_after_colon
 decreases-generic_params::bounds_after_colon l = 512 * tokens l.p.now
 
 abbrev pub decreases-generic_params::lifetime_param : goal.decreases-generic_params::lifetime_param
-decreases-generic_params::lifetime_param l = 512 * tokens l.p.now
+decreases-generic_params::lifetime_param l = 512 * tokens l.p.now + 1
 
 abbrev pub decreases-generic_params::type_param : goal.decreases-generic_params::type_param
 decreases-generic_params::type_param l = 512 * tokens l.p.now
 
 abbrev pub decreases-generic_params::generic_param : goal.decreases-generic_params::generic_param
-decreases-generic_params::generic_param l = 512 * tokens l.p.now + 1
+decreases-generic_params::generic_param l = 512 * tokens l.p.now + 4
 
 abbrev pub decreases-generic_params::lifetime_or_type : goal.decreases-generic_params::lifetime_or_type
-decreases-generic_params::lifetime_or_type l = 512 * tokens l.p.now + 19
+decreases-generic_params::lifetime_or_type l = 512 * tokens l.p.now + 30
 
 abbrev pub decreases-generic_params::where_pred : goal.decreases-generic_params::where_pred
-decreases-generic_params::where_pred l = 512 * tokens l.p.now + 20
+decreases-generic_params::where_pred l = 512 * tokens l.p.now + 32
 
 abbrev pub decreases-generic_params::where_clause : goal.decreases-generic_params::where_clause
 decreases-generic_params::where_clause l = 512 * tokens l.p.now
 
 abbrev pub decreases-generic_params::opt_preds : goal.decreases-generic_params::opt_preds
-decreases-generic_params::opt_preds l = 512 * tokens l.p.now + 21
+decreases-generic_params::opt_preds l = 512 * tokens l.p.now + 33
 
 abbrev pub decreases-generic_params::further_preds : goal.decreases-generic_params::further_preds
 decreases-generic_params::further_preds l = 512 * tokens l.p.now + 1
@@ -604,10 +673,91 @@ abbrev pub decreases-generic_params::further_pred : goal.decreases-generic_param
 decreases-generic_params::further_pred l = 512 * tokens l.p.now
 
 abbrev pub decreases-generic_params::opt_pred : goal.decreases-generic_params::opt_pred
-decreases-generic_params::opt_pred l = 512 * tokens l.p.now + 21
+decreases-generic_params::opt_pred l = 512 * tokens l.p.now + 33
+
+abbrev pub decreases-generic_params::plain_bound : goal.decreases-generic_params::plain_bound
+decreases-generic_params::plain_bound l = 512 * tokens l.p.now + 18
+
+abbrev pub decreases-generic_params::for_binder : goal.decreases-generic_params::for_binder
+decreases-generic_params::for_binder l = 512 * tokens l.p.now
+
+abbrev pub decreases-generic_params::expect_generic_params : goal.decreases-generic_params::expect_generic_params
+decreases-generic_params::expect_generic_params l = 512 * tokens l.p.now + 1
+
+abbrev pub decreases-generic_params::lifetime_and_bounds : goal.decreases-generic_params::lifetime_and_bounds
+decreases-generic_params::lifetime_and_bounds l = 512 * tokens l.p.now
+
+abbrev pub decreases-generic_params::plain_pred : goal.decreases-generic_params::plain_pred
+decreases-generic_params::plain_pred l = 512 * tokens l.p.now + 31
+
+abbrev pub decreases-generic_params::binder_pred : goal.decreases-generic_params::binder_pred
+decreases-generic_params::binder_pred l = 512 * tokens l.p.now + 1
+
+abbrev pub decreases-generic_params::pred_bounds : goal.decreases-generic_params::pred_bounds
+decreases-generic_params::pred_bounds l = 512 * tokens l.p.now + 25
+
+abbrev pub decreases-new_bounds::new_bound : goal.decreases-new_bounds::new_bound
+decreases-new_bounds::new_bound l = 512 * tokens l.p.now + 21
+
+abbrev pub decreases-new_bounds::maybe_in_parens : goal.decreases-new_bounds::maybe_in_parens
+decreases-new_bounds::maybe_in_parens l = 512 * tokens l.p.now + 20
+
+abbrev pub decreases-new_bounds::in_parens : goal.decreases-new_bounds::in_parens
+decreases-new_bounds::in_parens l = 512 * tokens l.p.now
+
+abbrev pub decreases-new_bounds::bound_inside : goal.decreases-new_bounds::bound_inside
+decreases-new_bounds::bound_inside l = 512 * tokens l.p.now + 19
+
+abbrev pub decreases-new_bounds::use_captures : goal.decreases-new_bounds::use_captures
+decreases-new_bounds::use_captures l = 512 * tokens l.p.now
+
+abbrev pub decreases-new_bounds::captures : goal.decreases-new_bounds::captures
+decreases-new_bounds::captures l = 512 * tokens l.p.now
+
+abbrev pub decreases-new_bounds::words_and_path : goal.decreases-new_bounds::words_and_path
+decreases-new_bounds::words_and_path l = 512 * tokens l.p.now + 18
+
+abbrev pub decreases-new_bounds::opt_binder : goal.decreases-new_bounds::opt_binder
+decreases-new_bounds::opt_binder l = 512 * tokens l.p.now + 1
+
+abbrev pub decreases-new_params::new_param : goal.decreases-new_params::new_param
+decreases-new_params::new_param l = 512 * tokens l.p.now + 3
+
+abbrev pub decreases-new_params::const_param : goal.decreases-new_params::const_param
+decreases-new_params::const_param l = 512 * tokens l.p.now + 1
+
+abbrev pub decreases-new_params::inside_const_param : goal.decreases-new_params::inside_const_param
+decreases-new_params::inside_const_param l = 512 * tokens l.p.now
+
+abbrev pub decreases-new_params::const_default : goal.decreases-new_params::const_default
+decreases-new_params::const_default l = 512 * tokens l.p.now
+
+abbrev pub decreases-new_params::attributed_param : goal.decreases-new_params::attributed_param
+decreases-new_params::attributed_param l = 512 * tokens l.p.now + 2
+
+abbrev pub decreases-new_params::after_attributes : goal.decreases-new_params::after_attributes
+decreases-new_params::after_attributes l = 512 * tokens l.p.now + 3
+
+abbrev pub decreases-new_params::inside_type_param : goal.decreases-new_params::inside_type_param
+decreases-new_params::inside_type_param l = 512 * tokens l.p.now + 1
+
+abbrev pub decreases-const_args::expect_const_arg : goal.decreases-const_args::expect_const_arg
+decreases-const_args::expect_const_arg l = 512 * tokens l.p.now + 14
+
+abbrev pub decreases-const_args::const_arg : goal.decreases-const_args::const_arg
+decreases-const_args::const_arg l = 512 * tokens l.p.now + 13
+
+abbrev pub decreases-const_args::const_value : goal.decreases-const_args::const_value
+decreases-const_args::const_value l = 512 * tokens l.p.now + 12
+
+abbrev pub decreases-const_args::const_path : goal.decreases-const_args::const_path
+decreases-const_args::const_path l = 512 * tokens l.p.now + 11
+
+abbrev pub decreases-const_args::expr_path : goal.decreases-const_args::expr_path
+decreases-const_args::expr_path l = 512 * tokens l.p.now + 10
 
 abbrev pub decreases-generic_args::generic_arg : goal.decreases-generic_args::generic_arg
-decreases-generic_args::generic_arg l = 512 * tokens l.p.now + 21
+decreases-generic_args::generic_arg l = 512 * tokens l.p.now + 25
 
 abbrev pub decreases-generic_args::word_arg : goal.decreases-generic_args::word_arg
 decreases-generic_args::word_arg l = 512 * tokens l.p.now + 20
@@ -678,7 +828,7 @@ decreases-generic_params::further_bounds-turns l = tokens l.p
 
 abbrev pub invariant-generic_params::further_preds-turns : goal.invariant-generic_params::further_preds-turns
 invariant-generic_params::further_preds-turns l = record {
-  goes : TurnsFrom l.condition (One 'comma' ▸ ⁅ WherePred ⁆) l.initial.p l.p;
+  goes : (c : Bool) → TurnsFrom c (One 'comma' ▸ ⁅ WherePred ⁆) l.initial.p l.p;
   left : tokens l.p ≤ tokens l.initial.p;
   looks : spent l.p ≤ spent l.initial.p;
 }

@@ -109,7 +109,7 @@ pub(crate) fn opt_type(p: &mut Parser<'_>, condition: bool)
 {
     if at(p, SyntaxKind::COLON) {
         take(p, SyntaxKind::COLON);
-        expect_type(p, condition);
+        expect_type(p);
     }
 }
 
@@ -121,7 +121,7 @@ fn closure_body(p: &mut Parser<'_>, condition: bool)
     ensures asks { Asks 780 p.old p.new }
 {
     if at_pair(p, SyntaxKind::MINUS, SyntaxKind::R_ANGLE) {
-        ret_type(p, condition);
+        ret_type(p);
         expect_block(p);
         return;
     }

@@ -1,4 +1,4 @@
-//! Operands, and what stands before and after them.
+//! Operands with their prefix and postfix operators.
 
 ghost use Rattle.std.specs.Prelude.{◌≤◌, Bool, IsTrue, true};
 ghost use Rattle.parser_input.specs.Kind.{raw_of};

@@ -41,11 +41,11 @@ fn fields(p: &mut Parser<'_>, condition: bool)
 {
     if at(p, SyntaxKind::L_PAREN) {
         tuple_fields(p);
-        opt_where_clause(p, condition);
+        opt_where_clause(p);
         expect(p, SyntaxKind::SEMICOLON);
         return;
     }
-    opt_where_clause(p, condition);
+    opt_where_clause(p);
     named_fields(p);
 }
 
@@ -75,7 +75,7 @@ pub(crate) fn enum_item(p: &mut Parser<'_>, item: Marker, condition: bool)
     take(p, SyntaxKind::ENUM_KW);
     expect_name(p);
     opt_generic_params(p);
-    opt_where_clause(p, condition);
+    opt_where_clause(p);
     expect_variants(p);
     complete(p, item, SyntaxKind::ENUM);
 }

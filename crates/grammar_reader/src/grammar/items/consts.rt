@@ -25,7 +25,7 @@ pub(crate) fn const_item(p: &mut Parser<'_>, item: Marker, condition: bool)
     requires some { 1 ≤ tokens p.old }
     requires innermost { IsInnermost item p.old.nodes }
     ensures completes { Completes condition rows.const_item p.old p.new }
-    ensures takes { Takes 4080 p.old p.new }
+    ensures takes { Takes 4070 p.old p.new }
 {
     take(p, SyntaxKind::CONST_KW);
     underscore_or_name(p);
@@ -40,7 +40,7 @@ pub(crate) fn static_item(p: &mut Parser<'_>, item: Marker, condition: bool)
     requires some { 1 ≤ tokens p.old }
     requires innermost { IsInnermost item p.old.nodes }
     ensures completes { Completes condition rows.static_item p.old p.new }
-    ensures takes { Takes 4080 p.old p.new }
+    ensures takes { Takes 4070 p.old p.new }
 {
     take(p, SyntaxKind::STATIC_KW);
     eat(p, SyntaxKind::MUT_KW);
@@ -54,10 +54,10 @@ pub(crate) fn static_item(p: &mut Parser<'_>, item: Marker, condition: bool)
 #[cycle(grammar)]
 fn typed_value(p: &mut Parser<'_>, condition: bool)
     ensures reads { Reads condition rows.typed_value p.old p.new }
-    ensures asks { Asks 8 p.old p.new }
+    ensures asks { Asks 20 p.old p.new }
 {
     expect(p, SyntaxKind::COLON);
-    expect_type(p, condition);
+    expect_type(p);
     opt_value(p, condition);
     expect(p, SyntaxKind::SEMICOLON);
 }
@@ -88,8 +88,8 @@ pub(crate) fn type_alias(p: &mut Parser<'_>, item: Marker, condition: bool)
     expect_name(p);
     opt_generic_params(p);
     bounds_after_colon(p);
-    opt_where_clause(p, condition);
-    opt_type_after(p, SyntaxKind::EQ, condition);
+    opt_where_clause(p);
+    opt_type_after(p, SyntaxKind::EQ);
     expect(p, SyntaxKind::SEMICOLON);
     complete(p, item, SyntaxKind::TYPE_ALIAS);
 }

@@ -13,7 +13,7 @@ ghost use Rattle.rust_productions.specs.Starts.{Starts};
 use crate::grammar::expressions::blocks::block;
 use crate::grammar::items::{opt_generic_params, opt_where_clause};
 use crate::grammar::lists::params;
-use crate::grammar::types::ret_type;
+use crate::grammar::types::opt_ret_type;
 use parser_events::message::Message;
 use parser_events::parser::{Marker, Parser};
 use parser_input::syntax_kind::SyntaxKind;
@@ -34,8 +34,8 @@ pub(crate) fn fn_item(p: &mut Parser<'_>, item: Marker, condition: bool)
     expect_name(p);
     opt_generic_params(p);
     expect_params(p);
-    opt_ret_type(p, condition);
-    opt_where_clause(p, condition);
+    opt_ret_type(p);
+    opt_where_clause(p);
     fn_body(p);
     complete(p, item, SyntaxKind::FN);
 }
@@ -52,18 +52,6 @@ fn expect_params(p: &mut Parser<'_>)
         return;
     }
     error(p, Message::Expected(SyntaxKind::PARAM_LIST));
-}
-
-/// Parses an optional return type.
-// -> u8
-#[cycle(grammar)]
-fn opt_ret_type(p: &mut Parser<'_>, condition: bool)
-    ensures reads { Reads condition ⁅ RetType ⁆ p.old p.new }
-    ensures asks { Asks 2 p.old p.new }
-{
-    if at_pair(p, SyntaxKind::MINUS, SyntaxKind::R_ANGLE) {
-        ret_type(p, condition);
-    }
 }
 
 /// Parses the body of a function, or its `;`.

@@ -1,4 +1,4 @@
-//! What stands in structs and enums: variants, and fields with and without names.
+//! The members of structs and enums: variants, and fields with and without names.
 
 ghost use Rattle.std.specs.Prelude.{◌≤◌, Bool, false, true};
 ghost use Rattle.rust_grammar.specs.Calls.{Attribute, Name, Visibility};
@@ -34,7 +34,7 @@ pub(crate) fn at_named_member(p: &mut Parser<'_>) -> bool
 /// Returns `true` if a tuple field starts here: at an attribute, a visibility or a type.
 pub(crate) fn at_tuple_field(p: &mut Parser<'_>) -> bool
     ensures sees { (c : Bool) → Saw c (begins looks rows.typed) p.old result }
-    ensures peeks { Peeks 6 p.old p.new }
+    ensures peeks { Peeks 17 p.old p.new }
 {
     match current(p) {
         SyntaxKind::POUND | SyntaxKind::PUB_KW => true,
@@ -69,7 +69,7 @@ pub(crate) fn record_field(p: &mut Parser<'_>)
     let field = start(p);
     named(p);
     expect(p, SyntaxKind::COLON);
-    expect_type(p, false);
+    expect_type(p);
     complete(p, field, SyntaxKind::RECORD_FIELD);
 }
 
@@ -121,13 +121,13 @@ fn typed(p: &mut Parser<'_>)
     match current(p) {
         SyntaxKind::POUND => {
             attributes_and_visibility(p);
-            expect_type(p, false);
+            expect_type(p);
         }
         SyntaxKind::PUB_KW => {
             visibility(p);
-            expect_type(p, false);
+            expect_type(p);
         }
-        _ => any_type(p, false),
+        _ => any_type(p),
     }
 }
 

@@ -26,13 +26,13 @@ pub(crate) fn impl_item(p: &mut Parser<'_>, item: Marker, condition: bool)
     requires begins { Starts rows.impl_begins p.old }
     requires innermost { IsInnermost item p.old.nodes }
     ensures completes { Completes condition rows.impl_item p.old p.new }
-    ensures takes { Takes 4080 p.old p.new }
+    ensures takes { Takes 4070 p.old p.new }
 {
     unsafe_word(p, SyntaxKind::IMPL_KW);
     opt_generic_params(p);
-    expect_type(p, condition);
-    opt_type_after(p, SyntaxKind::FOR_KW, condition);
-    opt_where_clause(p, condition);
+    expect_type(p);
+    opt_type_after(p, SyntaxKind::FOR_KW);
+    opt_where_clause(p);
     expect_assoc_items(p);
     complete(p, item, SyntaxKind::IMPL);
 }
@@ -50,7 +50,7 @@ pub(crate) fn trait_item(p: &mut Parser<'_>, item: Marker, condition: bool)
     expect_name(p);
     opt_generic_params(p);
     bounds_after_colon(p);
-    opt_where_clause(p, condition);
+    opt_where_clause(p);
     expect_assoc_items(p);
     complete(p, item, SyntaxKind::TRAIT);
 }

@@ -2,7 +2,7 @@ use Rattle.std.proofs.Common.{false, true, subst}
 use Rattle.rust_grammar.specs.Rule.{Look}
 use Rattle.rust_productions.specs.Reads.{looks, Saw}
 use Rattle.rust_productions.proofs.Begins.{meta-begins}
-use Rattle.grammar_reader.proofs.AnyMode.{pattern-mode}
+use Rattle.grammar_reader.proofs.AnyMode.{pattern-mode, type-mode}
 use Rattle.grammar_reader.proofs.PathArgs.{any-mode}
 use Rattle.ra_parser.specs.Entries.{single_of}
 use Rattle.ra_parser.specs.declared.entries.Single.{Single}
@@ -28,8 +28,10 @@ pattern-requires c = record {
 
 pub any_type-requires : goal.any_type-requires
 any_type-requires c = record {
-  begins = subst (λ (s : Single). Saw false (looks (single_of s)) c.args.p.now true) c.in-Type.is c.requires.begins;
-  some = c.requires.some;
+  begins = record {
+    sees = λ d. type-mode (subst (λ (s : Single). Saw false (looks (single_of s)) c.args.p.now true) c.in-Type.is c.requires.begins);
+    some = c.requires.some;
+  };
 }
 
 pub returns-in-Expression-clause-gives : goal.returns-in-Expression-clause-gives
@@ -42,4 +44,4 @@ pub returns-in-Pattern-clause-gives : goal.returns-in-Pattern-clause-gives
 returns-in-Pattern-clause-gives c = rw c.in-Pattern.is (c.pattern.ensures.gives false)
 
 pub returns-in-Type-clause-gives : goal.returns-in-Type-clause-gives
-returns-in-Type-clause-gives c = rw c.in-Type.is c.any_type.ensures.gives
+returns-in-Type-clause-gives c = rw c.in-Type.is (c.any_type.ensures.gives false)

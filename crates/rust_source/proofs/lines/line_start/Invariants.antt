@@ -1,5 +1,5 @@
 -- No byte that was passed is a line feed.
-use Rattle.std.proofs.Common.{◌≡◌, ◌≢◌, ℕ, ◌<◌, ◌≤◌, slice_index}
+use Rattle.std.proofs.Common.{◌≢◌, ℕ, ◌<◌, ◌≤◌, slice_index}
 use Rattle.rust_source.proofs.lines.line_start.Given as goal
 
 abbrev pub invariant-loop-start : goal.invariant-loop-start

@@ -23,17 +23,17 @@ items::adt::struct_item-returns-clause-completes t c = completes-wrap (reads-the
 
 pub items::adt::fields-returns-then-at-clause-reads : goal.items::adt::fields-returns-then-at-clause-reads
 unfolding look_of begins_below whole rule items statements expressions patterns types paths there_at shift passes is_silent begins in_mode anew row one_of any_of no_longer longest is_longer
-items::adt::fields-returns-then-at-clause-reads t c = reads-here (saw-so (c.at.ensures.sees c.args.condition) c.if-at.true and nothing) (after-look _ c.at.ensures.peeks.same (reads-then _ (reads-call _ (c.tuple_fields.ensures.gives c.args.condition)) (reads-then _ c.opt_where_clause.ensures.reads (c.expect.ensures.reads c.args.condition))))
+items::adt::fields-returns-then-at-clause-reads t c = reads-here (saw-so (c.at.ensures.sees c.args.condition) c.if-at.true and nothing) (after-look _ c.at.ensures.peeks.same (reads-then _ (reads-call _ (c.tuple_fields.ensures.gives c.args.condition)) (reads-then _ (c.opt_where_clause.ensures.reads _) (c.expect.ensures.reads c.args.condition))))
 
 pub items::adt::fields-returns-clause-reads : goal.items::adt::fields-returns-clause-reads
 unfolding look_of begins_below whole rule items statements expressions patterns types paths there_at shift passes is_silent begins in_mode anew row one_of any_of no_longer longest is_longer
-items::adt::fields-returns-clause-reads t c = reads-here (saw-so (c.at.ensures.sees c.args.condition) c.if-at.false and nothing) (after-look _ c.at.ensures.peeks.same (reads-then _ c.opt_where_clause-2.ensures.reads (c.named_fields.ensures.reads c.args.condition)))
+items::adt::fields-returns-clause-reads t c = reads-here (saw-so (c.at.ensures.sees c.args.condition) c.if-at.false and nothing) (after-look _ c.at.ensures.peeks.same (reads-then _ (c.opt_where_clause-2.ensures.reads _) (c.named_fields.ensures.reads c.args.condition)))
 
 pub items::adt::enum_item-complete-requires : goal.items::adt::enum_item-complete-requires
-items::adt::enum_item-complete-requires t c = (c.expect_variants.ensures.reads true).does.innermost _ (c.opt_where_clause.ensures.reads.does.innermost _ ((c.opt_generic_params.ensures.reads true).does.innermost _ ((c.expect_name.ensures.reads true).does.innermost _ ((c.take.ensures.reads true).does.innermost _ c.requires.innermost))))
+items::adt::enum_item-complete-requires t c = (c.expect_variants.ensures.reads true).does.innermost _ ((c.opt_where_clause.ensures.reads true).does.innermost _ ((c.opt_generic_params.ensures.reads true).does.innermost _ ((c.expect_name.ensures.reads true).does.innermost _ ((c.take.ensures.reads true).does.innermost _ c.requires.innermost))))
 
 pub items::adt::enum_item-returns-clause-completes : goal.items::adt::enum_item-returns-clause-completes
-items::adt::enum_item-returns-clause-completes t c = completes-wrap (reads-then _ (c.take.ensures.reads c.args.condition) (reads-then _ (c.expect_name.ensures.reads c.args.condition) (reads-then _ (c.opt_generic_params.ensures.reads c.args.condition) (reads-then _ c.opt_where_clause.ensures.reads (c.expect_variants.ensures.reads c.args.condition))))) c.complete.ensures.closes
+items::adt::enum_item-returns-clause-completes t c = completes-wrap (reads-then _ (c.take.ensures.reads c.args.condition) (reads-then _ (c.expect_name.ensures.reads c.args.condition) (reads-then _ (c.opt_generic_params.ensures.reads c.args.condition) (reads-then _ (c.opt_where_clause.ensures.reads _) (c.expect_variants.ensures.reads c.args.condition))))) c.complete.ensures.closes
 
 pub items::adt::named_fields-record_fields-requires : goal.items::adt::named_fields-record_fields-requires
 items::adt::named_fields-record_fields-requires t c = (omega arith, omega (arith, c.at.ensures.peeks.left, c.at.ensures.some c.if-at.true (λ e. absurd (omega (arith, e)))))

@@ -304,7 +304,7 @@ expressions::closures::closure_param-returns-clause-reads t c = reads-node _ c.s
 
 pub expressions::closures::opt_type-returns-then-at-clause-reads : goal.expressions::closures::opt_type-returns-then-at-clause-reads
 unfolding look_of begins_below whole rule items statements expressions patterns types paths there_at shift passes is_silent begins in_mode anew row one_of any_of no_longer longest is_longer
-expressions::closures::opt_type-returns-then-at-clause-reads t c = reads-here (saw-so (c.at.ensures.sees c.args.condition) c.if-at.true and nothing) (after-look _ c.at.ensures.peeks.same (reads-then _ (c.take.ensures.reads c.args.condition) c.expect_type.ensures.reads))
+expressions::closures::opt_type-returns-then-at-clause-reads t c = reads-here (saw-so (c.at.ensures.sees c.args.condition) c.if-at.true and nothing) (after-look _ c.at.ensures.peeks.same (reads-then _ (c.take.ensures.reads c.args.condition) (c.expect_type.ensures.reads _)))
 
 pub expressions::closures::opt_type-returns-else-at-clause-reads : goal.expressions::closures::opt_type-returns-else-at-clause-reads
 unfolding look_of begins_below whole rule items statements expressions patterns types paths there_at shift passes is_silent begins in_mode anew row one_of any_of no_longer longest is_longer
@@ -312,7 +312,7 @@ expressions::closures::opt_type-returns-else-at-clause-reads t c = reads-here (s
 
 pub expressions::closures::closure_body-returns-then-at_pair-clause-reads : goal.expressions::closures::closure_body-returns-then-at_pair-clause-reads
 unfolding look_of begins_below whole rule items statements expressions patterns types paths there_at shift passes is_silent begins in_mode anew row one_of any_of no_longer longest is_longer
-expressions::closures::closure_body-returns-then-at_pair-clause-reads t c = reads-here (saw-so (c.at_pair.ensures.sees c.args.condition) c.if-at_pair.true and nothing) (after-look _ c.at_pair.ensures.peeks.same (reads-then _ (reads-call _ c.ret_type.ensures.gives) (c.expect_block.ensures.reads c.args.condition)))
+expressions::closures::closure_body-returns-then-at_pair-clause-reads t c = reads-here (saw-so (c.at_pair.ensures.sees c.args.condition) c.if-at_pair.true and nothing) (after-look _ c.at_pair.ensures.peeks.same (reads-then _ (reads-call _ (c.ret_type.ensures.gives _)) (c.expect_block.ensures.reads c.args.condition)))
 
 pub expressions::closures::closure_body-returns-clause-reads : goal.expressions::closures::closure_body-returns-clause-reads
 unfolding look_of begins_below whole rule items statements expressions patterns types paths there_at shift passes is_silent begins in_mode anew row one_of any_of no_longer longest is_longer

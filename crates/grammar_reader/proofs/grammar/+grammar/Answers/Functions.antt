@@ -10,7 +10,7 @@ use Rattle.rust_grammar.specs.Rule.{begins, in_mode, anew, is_silent, passes, sh
 use Rattle.rust_grammar.specs.Statements.{statements}
 use Rattle.rust_grammar.specs.Types.{types}
 use Rattle.rust_grammar.specs.Whole.{rule, whole}
-use Rattle.rust_productions.proofs.ByHand.{after-look, completes-wrap, reads-call, reads-nothing, reads-then}
+use Rattle.rust_productions.proofs.ByHand.{after-look, completes-wrap, reads-call, reads-then}
 use Rattle.rust_productions.proofs.Choices.{reads-here}
 use Rattle.rust_productions.proofs.Facts.{nothing, saw-so, ◌and◌}
 use Rattle.rust_productions.proofs.Given.{reads-three}
@@ -20,10 +20,10 @@ pub items::functions::fn_item-fn_words-requires : goal.items::functions::fn_item
 items::functions::fn_item-fn_words-requires t c = record { begins = c.requires.begins.sees; some = c.requires.begins.some }
 
 pub items::functions::fn_item-complete-requires : goal.items::functions::fn_item-complete-requires
-items::functions::fn_item-complete-requires t c = (c.fn_body.ensures.reads true).does.innermost _ (c.opt_where_clause.ensures.reads.does.innermost _ (c.opt_ret_type.ensures.reads.does.innermost _ ((c.expect_params.ensures.reads true).does.innermost _ ((c.opt_generic_params.ensures.reads true).does.innermost _ ((c.expect_name.ensures.reads true).does.innermost _ ((c.fn_words.ensures.reads true).does.innermost _ c.requires.innermost))))))
+items::functions::fn_item-complete-requires t c = (c.fn_body.ensures.reads true).does.innermost _ ((c.opt_where_clause.ensures.reads true).does.innermost _ ((c.opt_ret_type.ensures.reads true).does.innermost _ ((c.expect_params.ensures.reads true).does.innermost _ ((c.opt_generic_params.ensures.reads true).does.innermost _ ((c.expect_name.ensures.reads true).does.innermost _ ((c.fn_words.ensures.reads true).does.innermost _ c.requires.innermost))))))
 
 pub items::functions::fn_item-returns-clause-completes : goal.items::functions::fn_item-returns-clause-completes
-items::functions::fn_item-returns-clause-completes t c = completes-wrap (reads-three _ (c.fn_words.ensures.reads c.args.condition) (reads-then _ (c.expect_name.ensures.reads c.args.condition) (reads-then _ (c.opt_generic_params.ensures.reads c.args.condition) (reads-then _ (c.expect_params.ensures.reads c.args.condition) (reads-then _ c.opt_ret_type.ensures.reads (reads-then _ c.opt_where_clause.ensures.reads (c.fn_body.ensures.reads c.args.condition))))))) c.complete.ensures.closes
+items::functions::fn_item-returns-clause-completes t c = completes-wrap (reads-three _ (c.fn_words.ensures.reads c.args.condition) (reads-then _ (c.expect_name.ensures.reads c.args.condition) (reads-then _ (c.opt_generic_params.ensures.reads c.args.condition) (reads-then _ (c.expect_params.ensures.reads c.args.condition) (reads-then _ (c.opt_ret_type.ensures.reads _) (reads-then _ (c.opt_where_clause.ensures.reads _) (c.fn_body.ensures.reads c.args.condition))))))) c.complete.ensures.closes
 
 pub items::functions::expect_params-returns-then-at-clause-reads : goal.items::functions::expect_params-returns-then-at-clause-reads
 unfolding look_of begins_below whole rule items statements expressions patterns types paths there_at shift passes is_silent begins in_mode anew row one_of any_of no_longer longest is_longer
@@ -32,14 +32,6 @@ items::functions::expect_params-returns-then-at-clause-reads t c = λ cond. read
 pub items::functions::expect_params-returns-clause-reads : goal.items::functions::expect_params-returns-clause-reads
 unfolding look_of begins_below whole rule items statements expressions patterns types paths there_at shift passes is_silent begins in_mode anew row one_of any_of no_longer longest is_longer
 items::functions::expect_params-returns-clause-reads t c = λ cond. reads-here (saw-so (c.at.ensures.sees cond) c.if-at.false and nothing) (after-look cond c.at.ensures.peeks.same (c.error.ensures.reads cond))
-
-pub items::functions::opt_ret_type-returns-then-at_pair-clause-reads : goal.items::functions::opt_ret_type-returns-then-at_pair-clause-reads
-unfolding look_of begins_below whole rule items statements expressions patterns types paths there_at shift passes is_silent begins in_mode anew row one_of any_of no_longer longest is_longer
-items::functions::opt_ret_type-returns-then-at_pair-clause-reads t c = reads-here (saw-so (c.at_pair.ensures.sees c.args.condition) c.if-at_pair.true and nothing) (after-look _ c.at_pair.ensures.peeks.same (reads-call _ c.ret_type.ensures.gives))
-
-pub items::functions::opt_ret_type-returns-else-at_pair-clause-reads : goal.items::functions::opt_ret_type-returns-else-at_pair-clause-reads
-unfolding look_of begins_below whole rule items statements expressions patterns types paths there_at shift passes is_silent begins in_mode anew row one_of any_of no_longer longest is_longer
-items::functions::opt_ret_type-returns-else-at_pair-clause-reads t c = reads-here (saw-so (c.at_pair.ensures.sees c.args.condition) c.if-at_pair.false and nothing) (reads-nothing _ c.at_pair.ensures.peeks.same)
 
 pub items::functions::fn_body-returns-then-at-clause-reads : goal.items::functions::fn_body-returns-then-at-clause-reads
 unfolding look_of begins_below whole rule items statements expressions patterns types paths there_at shift passes is_silent begins in_mode anew row one_of any_of no_longer longest is_longer

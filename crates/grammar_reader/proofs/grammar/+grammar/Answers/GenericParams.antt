@@ -19,23 +19,33 @@ use Rattle.grammar_reader.specs.declared.grammar.paths.Mode.TheVariants as modes
 use Rattle.grammar_reader.proofs.PathArgs.{paths-begin}
 use Rattle.rust_productions.specs.Looks.{tokens}
 use Rattle.rust_productions.specs.Reads.{Saw}
-use Rattle.rust_productions.proofs.ByHand.{after-look, reads-call, reads-node, reads-nothing, reads-then}
-use Rattle.rust_productions.proofs.Choices.{anew-after, gives-anew, reads-here}
+use Rattle.rust_productions.proofs.ByHand.{after-look, reads-call, reads-node, reads-nothing, reads-or, reads-then, reads-when}
+use Rattle.rust_productions.proofs.Choices.{anew-after, anew-here, anew-look, gives-anew, reads-here}
 use Rattle.rust_productions.proofs.Facts.{begun, nothing, saw-so, ◌and◌}
 use Rattle.rust_productions.proofs.Looking.{saw-arm, saw-not}
-use Rattle.rust_productions.proofs.Seen.{begins-else, ends-at-end, saw-after, saw-inside}
+use Rattle.rust_productions.proofs.Seen.{begins-else, ends-at-end, saw-after, saw-before, saw-inside}
 use Rattle.rust_productions.proofs.Turns.{last-turn, next-turn}
 use Rattle.grammar_reader.proofs.grammar.+grammar.Goals as goal
 
-pub generic_params::bound-lifetime_or_path-requires : goal.generic_params::bound-lifetime_or_path-requires
-generic_params::bound-lifetime_or_path-requires t c = (omega arith, ((λ d. saw-inside c.start-node.ensures.opens (c.requires.begins d)), omega arith))
+pub generic_params::bound-plain_bound-requires : goal.generic_params::bound-plain_bound-requires
+generic_params::bound-plain_bound-requires t c = (omega arith, (record { sees = λ d. saw-after c.at_new_bound.ensures.peeks.same (c.requires.begins d); some = omega (arith, c.at_new_bound.ensures.peeks.left) }, (λ d. saw-after c.at_new_bound.ensures.peeks.same (saw-so (c.at_new_bound.ensures.sees d) c.if-at_new_bound.false))))
 
-pub generic_params::bound-complete-requires : goal.generic_params::bound-complete-requires
-generic_params::bound-complete-requires t c = (c.lifetime_or_path.ensures.reads true).does.innermost _ c.start-node.ensures.marker
+pub generic_params::bound-returns-then-at_new_bound-clause-gives : goal.generic_params::bound-returns-then-at_new_bound-clause-gives
+unfolding look_of begins_below whole rule items statements expressions patterns types paths there_at shift passes is_silent begins in_mode anew row one_of any_of no_longer longest is_longer
+generic_params::bound-returns-then-at_new_bound-clause-gives t c = λ cond. gives-anew (anew-after refl (reads-here (saw-so (c.at_new_bound.ensures.sees cond) c.if-at_new_bound.true and nothing) (after-look cond c.at_new_bound.ensures.peeks.same (c.new_bound.ensures.reads cond))))
 
 pub generic_params::bound-returns-clause-gives : goal.generic_params::bound-returns-clause-gives
 unfolding look_of begins_below whole rule items statements expressions patterns types paths there_at shift passes is_silent begins in_mode anew row one_of any_of no_longer longest is_longer
-generic_params::bound-returns-clause-gives t c = λ cond. gives-anew (anew-after refl (reads-node cond c.start-node.ensures.opens (c.lifetime_or_path.ensures.reads cond) c.complete.ensures.closes))
+generic_params::bound-returns-clause-gives t c = λ cond. gives-anew (anew-after refl (reads-here (saw-so (c.at_new_bound.ensures.sees cond) c.if-at_new_bound.false and nothing) (after-look cond c.at_new_bound.ensures.peeks.same (c.plain_bound.ensures.reads cond))))
+
+pub generic_params::plain_bound-lifetime_or_path-requires : goal.generic_params::plain_bound-lifetime_or_path-requires
+generic_params::plain_bound-lifetime_or_path-requires t c = (omega arith, (record { sees = λ d. saw-inside c.start-node.ensures.opens (c.requires.begins.sees d); some = omega (arith, c.requires.begins.some, c.start-node.ensures.stays.left) }, (λ d. saw-inside c.start-node.ensures.opens (c.requires.plain d))))
+
+pub generic_params::plain_bound-complete-requires : goal.generic_params::plain_bound-complete-requires
+generic_params::plain_bound-complete-requires t c = (c.lifetime_or_path.ensures.reads true).does.innermost _ c.start-node.ensures.marker
+
+pub generic_params::plain_bound-returns-clause-reads : goal.generic_params::plain_bound-returns-clause-reads
+generic_params::plain_bound-returns-clause-reads t c = λ cond. reads-node cond c.start-node.ensures.opens (c.lifetime_or_path.ensures.reads cond) c.complete.ensures.closes
 
 pub generic_params::lifetime_or_path-returns-in-LIFETIME_IDENT-clause-reads : goal.generic_params::lifetime_or_path-returns-in-LIFETIME_IDENT-clause-reads
 unfolding look_of begins_below whole rule items statements expressions patterns types paths there_at shift passes is_silent begins in_mode anew row one_of any_of no_longer longest is_longer
@@ -45,13 +55,19 @@ pub generic_params::lifetime_or_path-returns-in-QUESTION-clause-reads : goal.gen
 unfolding look_of begins_below whole rule items statements expressions patterns types paths there_at shift passes is_silent begins in_mode anew row one_of any_of no_longer longest is_longer
 generic_params::lifetime_or_path-returns-in-QUESTION-clause-reads t c = λ cond. reads-here (saw-arm c.in-QUESTION.is (c.current.ensures.sees cond) and nothing) (after-look cond c.current.ensures.peeks.same (c.path_after_question.ensures.reads cond))
 
+pub generic_params::lifetime_or_path-lifetime-requires : goal.generic_params::lifetime_or_path-lifetime-requires
+generic_params::lifetime_or_path-lifetime-requires t c = omega (arith, c.requires.begins.some, c.current.ensures.peeks.left)
+
+pub generic_params::lifetime_or_path-path_after_question-requires : goal.generic_params::lifetime_or_path-path_after_question-requires
+generic_params::lifetime_or_path-path_after_question-requires t c = (omega arith, omega (arith, c.requires.begins.some, c.current.ensures.peeks.left))
+
 pub generic_params::lifetime_or_path-path_type-requires : goal.generic_params::lifetime_or_path-path_type-requires
 unfolding look_of begins_below whole rule items statements expressions patterns types paths there_at shift passes is_silent begins in_mode anew row one_of any_of no_longer longest is_longer
-generic_params::lifetime_or_path-path_type-requires t c = (omega arith, ((λ d. saw-after c.current.ensures.peeks.same (subst (λ (l : Look). Saw d l c.args.p.now true) (paths-begin modes.Type) (begins-else rules.type_path rules.bound refl (saw-not c.in_default.not-LIFETIME_IDENT (c.current.ensures.sees d) and saw-not c.in_default.not-QUESTION (c.current.ensures.sees d) and nothing) (c.requires.begins d) refl))), omega arith))
+generic_params::lifetime_or_path-path_type-requires t c = (omega arith, ((λ d. saw-after c.current.ensures.peeks.same (subst (λ (l : Look). Saw d l c.args.p.now true) (paths-begin modes.Type) (begins-else rules.type_path rules.bound refl (saw-not c.in_default.not-LIFETIME_IDENT (c.current.ensures.sees d) and saw-not c.in_default.not-QUESTION (c.current.ensures.sees d) and c.requires.plain d and nothing) (c.requires.begins.sees d) refl))), omega (arith, c.requires.begins.some, c.current.ensures.peeks.left)))
 
 pub generic_params::lifetime_or_path-returns-in_default-clause-reads : goal.generic_params::lifetime_or_path-returns-in_default-clause-reads
 unfolding look_of begins_below whole rule items statements expressions patterns types paths there_at shift passes is_silent begins in_mode anew row one_of any_of no_longer longest is_longer
-generic_params::lifetime_or_path-returns-in_default-clause-reads t c = λ cond. reads-here (saw-not c.in_default.not-LIFETIME_IDENT (c.current.ensures.sees cond) and saw-not c.in_default.not-QUESTION (c.current.ensures.sees cond) and (begun rules.type_path (begins-else rules.type_path rules.bound refl (saw-not c.in_default.not-LIFETIME_IDENT (c.current.ensures.sees cond) and saw-not c.in_default.not-QUESTION (c.current.ensures.sees cond) and nothing) (c.requires.begins cond) refl) nothing)) (after-look cond c.current.ensures.peeks.same (c.path_type.ensures.reads cond))
+generic_params::lifetime_or_path-returns-in_default-clause-reads t c = λ cond. reads-here (saw-not c.in_default.not-LIFETIME_IDENT (c.current.ensures.sees cond) and saw-not c.in_default.not-QUESTION (c.current.ensures.sees cond) and (begun rules.type_path (begins-else rules.type_path rules.bound refl (saw-not c.in_default.not-LIFETIME_IDENT (c.current.ensures.sees cond) and saw-not c.in_default.not-QUESTION (c.current.ensures.sees cond) and c.requires.plain cond and nothing) (c.requires.begins.sees cond) refl) nothing)) (after-look cond c.current.ensures.peeks.same (c.path_type.ensures.reads cond))
 
 pub generic_params::path_after_question-returns-clause-reads : goal.generic_params::path_after_question-returns-clause-reads
 generic_params::path_after_question-returns-clause-reads t c = λ cond. (reads-then cond (c.take.ensures.reads cond) (c.expect_path_type.ensures.reads cond))
@@ -120,89 +136,132 @@ pub generic_params::bounds_after_colon-returns-else-at-clause-reads : goal.gener
 unfolding look_of begins_below whole rule items statements expressions patterns types paths there_at shift passes is_silent begins in_mode anew row one_of any_of no_longer longest is_longer
 generic_params::bounds_after_colon-returns-else-at-clause-reads t c = λ cond. reads-here (saw-so (c.at.ensures.sees cond) c.if-at.false and nothing) (reads-nothing cond c.at.ensures.peeks.same)
 
+pub generic_params::for_binder-returns-clause-reads : goal.generic_params::for_binder-returns-clause-reads
+generic_params::for_binder-returns-clause-reads t c = λ cond. reads-then cond (c.take.ensures.reads cond) (c.expect_generic_params.ensures.reads cond)
+
+pub generic_params::expect_generic_params-returns-then-at-clause-reads : goal.generic_params::expect_generic_params-returns-then-at-clause-reads
+unfolding look_of begins_below whole rule items statements expressions patterns types paths there_at shift passes is_silent begins in_mode anew row one_of any_of no_longer longest is_longer
+generic_params::expect_generic_params-returns-then-at-clause-reads t c = λ cond. reads-here (saw-so (c.at.ensures.sees cond) c.if-at.true and nothing) (after-look cond c.at.ensures.peeks.same (reads-call cond (c.generic_params.ensures.gives cond)))
+
+pub generic_params::expect_generic_params-returns-clause-reads : goal.generic_params::expect_generic_params-returns-clause-reads
+unfolding look_of begins_below whole rule items statements expressions patterns types paths there_at shift passes is_silent begins in_mode anew row one_of any_of no_longer longest is_longer
+generic_params::expect_generic_params-returns-clause-reads t c = λ cond. reads-here (saw-so (c.at.ensures.sees cond) c.if-at.false and nothing) (after-look cond c.at.ensures.peeks.same (c.error.ensures.reads cond))
+
+pub generic_params::lifetime_and_bounds-returns-clause-reads : goal.generic_params::lifetime_and_bounds-returns-clause-reads
+generic_params::lifetime_and_bounds-returns-clause-reads t c = λ cond. reads-then cond (reads-call cond (c.lifetime.ensures.gives cond)) (c.bounds_after_colon.ensures.reads cond)
+
 pub generic_params::lifetime_param-complete-requires : goal.generic_params::lifetime_param-complete-requires
-generic_params::lifetime_param-complete-requires t c = (c.bounds_after_colon.ensures.reads true).does.innermost _ ((c.lifetime.ensures.gives true).does.innermost _ c.start-node.ensures.marker)
+generic_params::lifetime_param-complete-requires t c = (c.lifetime_and_bounds.ensures.reads true).does.innermost _ c.start-node.ensures.marker
 
 pub generic_params::lifetime_param-returns-clause-reads : goal.generic_params::lifetime_param-returns-clause-reads
-generic_params::lifetime_param-returns-clause-reads t c = λ cond. reads-node cond c.start-node.ensures.opens (reads-then cond (reads-call cond (c.lifetime.ensures.gives cond)) (c.bounds_after_colon.ensures.reads cond)) c.complete.ensures.closes
+generic_params::lifetime_param-returns-clause-reads t c = λ cond. reads-node cond c.start-node.ensures.opens (c.lifetime_and_bounds.ensures.reads cond) c.complete.ensures.closes
 
 pub generic_params::type_param-complete-requires : goal.generic_params::type_param-complete-requires
-generic_params::type_param-complete-requires t c = c.opt_type_after.ensures.reads.does.innermost _ ((c.bounds_after_colon.ensures.reads true).does.innermost _ ((c.name.ensures.gives true).does.innermost _ c.start-node.ensures.marker))
+generic_params::type_param-complete-requires t c = (c.opt_type_after.ensures.reads true).does.innermost _ ((c.bounds_after_colon.ensures.reads true).does.innermost _ ((c.name.ensures.gives true).does.innermost _ c.start-node.ensures.marker))
 
 pub generic_params::type_param-returns-clause-reads : goal.generic_params::type_param-returns-clause-reads
-generic_params::type_param-returns-clause-reads t c = reads-node _ c.start-node.ensures.opens (reads-then _ (reads-call _ (c.name.ensures.gives c.args.condition)) (reads-then _ (c.bounds_after_colon.ensures.reads c.args.condition) c.opt_type_after.ensures.reads)) c.complete.ensures.closes
+generic_params::type_param-returns-clause-reads t c = λ cond. reads-node cond c.start-node.ensures.opens (reads-then cond (reads-call cond (c.name.ensures.gives cond)) (reads-then cond (c.bounds_after_colon.ensures.reads cond) (c.opt_type_after.ensures.reads cond))) c.complete.ensures.closes
+
+pub generic_params::generic_param-returns-then-at_new_param-clause-gives : goal.generic_params::generic_param-returns-then-at_new_param-clause-gives
+unfolding look_of begins_below whole rule items statements expressions patterns types paths there_at shift passes is_silent begins in_mode anew row one_of any_of no_longer longest is_longer
+generic_params::generic_param-returns-then-at_new_param-clause-gives t c = λ cond. gives-anew (anew-here (saw-so (c.at_new_param.ensures.sees cond) c.if-at_new_param.true and nothing) (anew-look c.at_new_param.ensures.peeks.same (c.new_param.ensures.anew cond)))
 
 pub generic_params::generic_param-returns-then-at-clause-gives : goal.generic_params::generic_param-returns-then-at-clause-gives
 unfolding look_of begins_below whole rule items statements expressions patterns types paths there_at shift passes is_silent begins in_mode anew row one_of any_of no_longer longest is_longer
-generic_params::generic_param-returns-then-at-clause-gives t c = gives-anew (anew-after refl (reads-here (saw-so (c.at.ensures.sees c.args.condition) c.if-at.true and nothing) (after-look _ c.at.ensures.peeks.same (c.lifetime_param.ensures.reads c.args.condition))))
+generic_params::generic_param-returns-then-at-clause-gives t c = λ cond. gives-anew (anew-here (saw-so (c.at_new_param.ensures.sees cond) c.if-at_new_param.false and saw-before c.at_new_param.ensures.peeks.same (saw-so (c.at.ensures.sees cond) c.if-at.true) and nothing) (anew-look c.at_new_param.ensures.peeks.same (anew-look c.at.ensures.peeks.same (anew-after refl (c.lifetime_param.ensures.reads cond)))))
 
 pub generic_params::generic_param-returns-clause-gives : goal.generic_params::generic_param-returns-clause-gives
 unfolding look_of begins_below whole rule items statements expressions patterns types paths there_at shift passes is_silent begins in_mode anew row one_of any_of no_longer longest is_longer
-generic_params::generic_param-returns-clause-gives t c = gives-anew (anew-after refl (reads-here (saw-so (c.at.ensures.sees c.args.condition) c.if-at.false and nothing) (after-look _ c.at.ensures.peeks.same c.type_param.ensures.reads)))
+generic_params::generic_param-returns-clause-gives t c = λ cond. gives-anew (anew-here (saw-so (c.at_new_param.ensures.sees cond) c.if-at_new_param.false and saw-before c.at_new_param.ensures.peeks.same (saw-so (c.at.ensures.sees cond) c.if-at.false) and nothing) (anew-look c.at_new_param.ensures.peeks.same (anew-look c.at.ensures.peeks.same (anew-after refl (c.type_param.ensures.reads cond)))))
+
+pub generic_params::lifetime_or_type-lifetime-requires : goal.generic_params::lifetime_or_type-lifetime-requires
+generic_params::lifetime_or_type-lifetime-requires t c = omega (arith, c.requires.begins.some, c.at.ensures.peeks.left)
 
 pub generic_params::lifetime_or_type-any_type-requires : goal.generic_params::lifetime_or_type-any_type-requires
 unfolding look_of begins_below whole rule items statements expressions patterns types paths there_at shift passes is_silent begins in_mode anew row one_of any_of no_longer longest is_longer
-generic_params::lifetime_or_type-any_type-requires t c = (omega arith, (saw-after c.at.ensures.peeks.same (begins-else rules.any_type rules.where_pred refl (saw-so (c.at.ensures.sees c.args.condition) c.if-at.false and nothing) c.requires.begins refl), omega arith))
+generic_params::lifetime_or_type-any_type-requires t c = (omega arith, record { sees = λ d. saw-after c.at.ensures.peeks.same (begins-else rules.any_type rules.where_pred refl (saw-so (c.at.ensures.sees d) c.if-at.false and c.requires.plain d and nothing) (c.requires.begins.sees d) refl); some = omega (arith, c.requires.begins.some, c.at.ensures.peeks.left) })
 
 pub generic_params::lifetime_or_type-returns-then-at-clause-reads : goal.generic_params::lifetime_or_type-returns-then-at-clause-reads
 unfolding look_of begins_below whole rule items statements expressions patterns types paths there_at shift passes is_silent begins in_mode anew row one_of any_of no_longer longest is_longer
-generic_params::lifetime_or_type-returns-then-at-clause-reads t c = reads-here (saw-so (c.at.ensures.sees c.args.condition) c.if-at.true and nothing) (after-look _ c.at.ensures.peeks.same (reads-call _ (c.lifetime.ensures.gives c.args.condition)))
+generic_params::lifetime_or_type-returns-then-at-clause-reads t c = λ cond. reads-here (saw-so (c.at.ensures.sees cond) c.if-at.true and nothing) (after-look cond c.at.ensures.peeks.same (reads-call cond (c.lifetime.ensures.gives cond)))
 
 pub generic_params::lifetime_or_type-returns-clause-reads : goal.generic_params::lifetime_or_type-returns-clause-reads
 unfolding look_of begins_below whole rule items statements expressions patterns types paths there_at shift passes is_silent begins in_mode anew row one_of any_of no_longer longest is_longer
-generic_params::lifetime_or_type-returns-clause-reads t c = reads-here (saw-so (c.at.ensures.sees c.args.condition) c.if-at.false and nothing) (after-look _ c.at.ensures.peeks.same (reads-call _ c.any_type.ensures.gives))
+generic_params::lifetime_or_type-returns-clause-reads t c = λ cond. reads-here (saw-so (c.at.ensures.sees cond) c.if-at.false and nothing) (after-look cond c.at.ensures.peeks.same (reads-call cond (c.any_type.ensures.gives cond)))
 
-pub generic_params::where_pred-lifetime_or_type-requires : goal.generic_params::where_pred-lifetime_or_type-requires
-generic_params::where_pred-lifetime_or_type-requires t c = (omega arith, (saw-inside c.start-node.ensures.opens c.requires.begins, omega arith))
+pub generic_params::pred_bounds-returns-clause-reads : goal.generic_params::pred_bounds-returns-clause-reads
+generic_params::pred_bounds-returns-clause-reads t c = λ cond. reads-then cond (c.expect.ensures.reads cond) (reads-call cond (c.bounds.ensures.gives cond))
 
-pub generic_params::where_pred-complete-requires : goal.generic_params::where_pred-complete-requires
-generic_params::where_pred-complete-requires t c = (c.bounds.ensures.gives true).does.innermost _ ((c.expect.ensures.reads true).does.innermost _ (c.lifetime_or_type.ensures.reads.does.innermost _ c.start-node.ensures.marker))
+pub generic_params::where_pred-binder_pred-requires : goal.generic_params::where_pred-binder_pred-requires
+generic_params::where_pred-binder_pred-requires t c = (omega arith, omega (arith, c.requires.begins.some, c.at_new_pred.ensures.peeks.left))
+
+pub generic_params::where_pred-plain_pred-requires : goal.generic_params::where_pred-plain_pred-requires
+generic_params::where_pred-plain_pred-requires t c = (omega arith, (record { sees = λ d. saw-after c.at_new_pred.ensures.peeks.same (c.requires.begins.sees d); some = omega (arith, c.requires.begins.some, c.at_new_pred.ensures.peeks.left) }, (λ d. saw-after c.at_new_pred.ensures.peeks.same (saw-so (c.at_new_pred.ensures.sees d) c.if-at_new_pred.false))))
+
+pub generic_params::where_pred-returns-then-at_new_pred-clause-gives : goal.generic_params::where_pred-returns-then-at_new_pred-clause-gives
+unfolding look_of begins_below whole rule items statements expressions patterns types paths there_at shift passes is_silent begins in_mode anew row one_of any_of no_longer longest is_longer
+generic_params::where_pred-returns-then-at_new_pred-clause-gives t c = λ cond. gives-anew (anew-after refl (reads-or cond (saw-so (c.at_new_pred.ensures.sees cond) c.if-at_new_pred.true) (reads-when cond (after-look cond c.at_new_pred.ensures.peeks.same (c.binder_pred.ensures.reads cond)))))
 
 pub generic_params::where_pred-returns-clause-gives : goal.generic_params::where_pred-returns-clause-gives
 unfolding look_of begins_below whole rule items statements expressions patterns types paths there_at shift passes is_silent begins in_mode anew row one_of any_of no_longer longest is_longer
-generic_params::where_pred-returns-clause-gives t c = gives-anew (anew-after refl (reads-node _ c.start-node.ensures.opens (reads-then _ c.lifetime_or_type.ensures.reads (reads-then _ (c.expect.ensures.reads c.args.condition) (reads-call _ (c.bounds.ensures.gives c.args.condition)))) c.complete.ensures.closes))
+generic_params::where_pred-returns-clause-gives t c = λ cond. gives-anew (anew-after refl (reads-here (saw-so (c.at_new_pred.ensures.sees cond) c.if-at_new_pred.false and nothing) (after-look cond c.at_new_pred.ensures.peeks.same (c.plain_pred.ensures.reads cond))))
+
+pub generic_params::binder_pred-complete-requires : goal.generic_params::binder_pred-complete-requires
+generic_params::binder_pred-complete-requires t c = (c.pred_bounds.ensures.reads true).does.innermost _ ((c.expect_type.ensures.reads true).does.innermost _ ((c.for_binder.ensures.reads true).does.innermost _ c.start-node.ensures.marker))
+
+pub generic_params::binder_pred-returns-clause-reads : goal.generic_params::binder_pred-returns-clause-reads
+generic_params::binder_pred-returns-clause-reads t c = λ cond. reads-node cond c.start-node.ensures.opens (reads-then cond (c.for_binder.ensures.reads cond) (reads-then cond (c.expect_type.ensures.reads cond) (c.pred_bounds.ensures.reads cond))) c.complete.ensures.closes
+
+pub generic_params::plain_pred-lifetime_or_type-requires : goal.generic_params::plain_pred-lifetime_or_type-requires
+generic_params::plain_pred-lifetime_or_type-requires t c = (omega arith, (record { sees = λ d. saw-inside c.start-node.ensures.opens (c.requires.begins.sees d); some = omega (arith, c.requires.begins.some, c.start-node.ensures.stays.left) }, (λ d. saw-inside c.start-node.ensures.opens (c.requires.plain d))))
+
+pub generic_params::plain_pred-complete-requires : goal.generic_params::plain_pred-complete-requires
+generic_params::plain_pred-complete-requires t c = (c.pred_bounds.ensures.reads true).does.innermost _ ((c.lifetime_or_type.ensures.reads true).does.innermost _ c.start-node.ensures.marker)
+
+pub generic_params::plain_pred-returns-clause-reads : goal.generic_params::plain_pred-returns-clause-reads
+generic_params::plain_pred-returns-clause-reads t c = λ cond. reads-node cond c.start-node.ensures.opens (reads-then cond (c.lifetime_or_type.ensures.reads cond) (c.pred_bounds.ensures.reads cond)) c.complete.ensures.closes
 
 pub generic_params::where_clause-complete-requires : goal.generic_params::where_clause-complete-requires
-generic_params::where_clause-complete-requires t c = c.opt_preds.ensures.reads.does.innermost _ ((c.take.ensures.reads true).does.innermost _ c.start-node.ensures.marker)
+generic_params::where_clause-complete-requires t c = (c.opt_preds.ensures.reads true).does.innermost _ ((c.take.ensures.reads true).does.innermost _ c.start-node.ensures.marker)
 
 pub generic_params::where_clause-returns-clause-gives : goal.generic_params::where_clause-returns-clause-gives
 unfolding look_of begins_below whole rule items statements expressions patterns types paths there_at shift passes is_silent begins in_mode anew row one_of any_of no_longer longest is_longer
-generic_params::where_clause-returns-clause-gives t c = gives-anew (anew-after refl (reads-node _ c.start-node.ensures.opens (reads-then _ (c.take.ensures.reads c.args.condition) c.opt_preds.ensures.reads) c.complete.ensures.closes))
+generic_params::where_clause-returns-clause-gives t c = λ cond. gives-anew (anew-after refl (reads-node cond c.start-node.ensures.opens (reads-then cond (c.take.ensures.reads cond) (c.opt_preds.ensures.reads cond)) c.complete.ensures.closes))
 
 pub generic_params::opt_preds-where_pred-requires : goal.generic_params::opt_preds-where_pred-requires
-generic_params::opt_preds-where_pred-requires t c = (omega arith, ((saw-after c.at_where_pred.ensures.peeks.same (saw-so (c.at_where_pred.ensures.sees c.args.condition) c.if-at_where_pred.true)), omega (arith, c.at_where_pred.ensures.some c.if-at_where_pred.true, c.at_where_pred.ensures.peeks.left)))
+generic_params::opt_preds-where_pred-requires t c = (omega arith, record { sees = λ d. saw-after c.at_where_pred.ensures.peeks.same (saw-so (c.at_where_pred.ensures.sees d) c.if-at_where_pred.true); some = omega (arith, c.at_where_pred.ensures.some c.if-at_where_pred.true, c.at_where_pred.ensures.peeks.left) })
 
 pub generic_params::opt_preds-returns-then-at_where_pred-clause-reads : goal.generic_params::opt_preds-returns-then-at_where_pred-clause-reads
 unfolding look_of begins_below whole rule items statements expressions patterns types paths there_at shift passes is_silent begins in_mode anew row one_of any_of no_longer longest is_longer
-generic_params::opt_preds-returns-then-at_where_pred-clause-reads t c = reads-here (begun rules.where_pred (saw-so (c.at_where_pred.ensures.sees c.args.condition) c.if-at_where_pred.true) nothing) (after-look _ c.at_where_pred.ensures.peeks.same (reads-then _ (reads-call _ c.where_pred.ensures.gives) c.further_preds.ensures.reads))
+generic_params::opt_preds-returns-then-at_where_pred-clause-reads t c = λ cond. reads-here (begun rules.where_pred (saw-so (c.at_where_pred.ensures.sees cond) c.if-at_where_pred.true) nothing) (after-look cond c.at_where_pred.ensures.peeks.same (reads-then cond (reads-call cond (c.where_pred.ensures.gives cond)) (c.further_preds.ensures.reads cond)))
 
 pub generic_params::opt_preds-returns-else-at_where_pred-clause-reads : goal.generic_params::opt_preds-returns-else-at_where_pred-clause-reads
 unfolding look_of begins_below whole rule items statements expressions patterns types paths there_at shift passes is_silent begins in_mode anew row one_of any_of no_longer longest is_longer
-generic_params::opt_preds-returns-else-at_where_pred-clause-reads t c = reads-here (begun rules.where_pred (saw-so (c.at_where_pred.ensures.sees c.args.condition) c.if-at_where_pred.false) nothing) (reads-nothing _ c.at_where_pred.ensures.peeks.same)
+generic_params::opt_preds-returns-else-at_where_pred-clause-reads t c = λ cond. reads-here (begun rules.where_pred (saw-so (c.at_where_pred.ensures.sees cond) c.if-at_where_pred.false) nothing) (reads-nothing cond c.at_where_pred.ensures.peeks.same)
 
 pub generic_params::further_preds-turns-preserved : goal.generic_params::further_preds-turns-preserved
 unfolding tokens look_of begins_below whole rule items statements expressions patterns types paths there_at shift passes is_silent begins in_mode anew row one_of any_of no_longer longest is_longer
 generic_params::further_preds-turns-preserved t c = record {
-  goes = next-turn c.args.condition (One 'comma' ▸ ⁅ WherePred ⁆) (ends-at-end c.args.condition (One 'comma' ▸ ⁅ WherePred ⁆) refl) _ _ _ c.turns.invariant.goes (saw-so (c.at.ensures.sees c.args.condition) c.turns-test.true)
-      (after-look c.args.condition c.at.ensures.peeks.same c.further_pred.ensures.reads) (omega (arith, c.further_pred.ensures.takes.left, c.at.ensures.peeks.left));
+  goes = λ cond. next-turn cond (One 'comma' ▸ ⁅ WherePred ⁆) (ends-at-end cond (One 'comma' ▸ ⁅ WherePred ⁆) refl) _ _ _ (c.turns.invariant.goes cond) (saw-so (c.at.ensures.sees cond) c.turns-test.true)
+      (after-look cond c.at.ensures.peeks.same (c.further_pred.ensures.reads cond)) (omega (arith, c.further_pred.ensures.takes.left, c.at.ensures.peeks.left));
   left = omega (arith, c.turns.invariant.left, c.further_pred.ensures.takes.left, c.at.ensures.peeks.left);
   looks = omega (arith, c.turns.invariant.looks, c.further_pred.ensures.takes.looks, c.at.ensures.peeks.looks);
 }
 
 pub generic_params::further_preds-returns-clause-reads : goal.generic_params::further_preds-returns-clause-reads
 unfolding look_of begins_below whole rule items statements expressions patterns types paths there_at shift passes is_silent begins in_mode anew row one_of any_of no_longer longest is_longer
-generic_params::further_preds-returns-clause-reads t c = last-turn c.args.condition (One 'comma' ▸ ⁅ WherePred ⁆) (ends-at-end c.args.condition (One 'comma' ▸ ⁅ WherePred ⁆) refl) _ _ _ c.turns.invariant.goes (saw-so (c.at.ensures.sees c.args.condition) c.turns-test.false) c.at.ensures.peeks.same
+generic_params::further_preds-returns-clause-reads t c = λ cond. last-turn cond (One 'comma' ▸ ⁅ WherePred ⁆) (ends-at-end cond (One 'comma' ▸ ⁅ WherePred ⁆) refl) _ _ _ (c.turns.invariant.goes cond) (saw-so (c.at.ensures.sees cond) c.turns-test.false) c.at.ensures.peeks.same
 
 pub generic_params::further_pred-returns-clause-reads : goal.generic_params::further_pred-returns-clause-reads
-generic_params::further_pred-returns-clause-reads t c = (reads-then _ (c.take.ensures.reads c.args.condition) c.opt_pred.ensures.reads)
+generic_params::further_pred-returns-clause-reads t c = λ cond. reads-then cond (c.take.ensures.reads cond) (c.opt_pred.ensures.reads cond)
 
 pub generic_params::opt_pred-where_pred-requires : goal.generic_params::opt_pred-where_pred-requires
-generic_params::opt_pred-where_pred-requires t c = (omega arith, ((saw-after c.at_where_pred.ensures.peeks.same (saw-so (c.at_where_pred.ensures.sees c.args.condition) c.if-at_where_pred.true)), omega (arith, c.at_where_pred.ensures.some c.if-at_where_pred.true, c.at_where_pred.ensures.peeks.left)))
+generic_params::opt_pred-where_pred-requires t c = (omega arith, record { sees = λ d. saw-after c.at_where_pred.ensures.peeks.same (saw-so (c.at_where_pred.ensures.sees d) c.if-at_where_pred.true); some = omega (arith, c.at_where_pred.ensures.some c.if-at_where_pred.true, c.at_where_pred.ensures.peeks.left) })
 
 pub generic_params::opt_pred-returns-then-at_where_pred-clause-reads : goal.generic_params::opt_pred-returns-then-at_where_pred-clause-reads
 unfolding look_of begins_below whole rule items statements expressions patterns types paths there_at shift passes is_silent begins in_mode anew row one_of any_of no_longer longest is_longer
-generic_params::opt_pred-returns-then-at_where_pred-clause-reads t c = reads-here (begun rules.where_pred (saw-so (c.at_where_pred.ensures.sees c.args.condition) c.if-at_where_pred.true) nothing) (after-look _ c.at_where_pred.ensures.peeks.same (reads-call _ c.where_pred.ensures.gives))
+generic_params::opt_pred-returns-then-at_where_pred-clause-reads t c = λ cond. reads-here (begun rules.where_pred (saw-so (c.at_where_pred.ensures.sees cond) c.if-at_where_pred.true) nothing) (after-look cond c.at_where_pred.ensures.peeks.same (reads-call cond (c.where_pred.ensures.gives cond)))
 
 pub generic_params::opt_pred-returns-else-at_where_pred-clause-reads : goal.generic_params::opt_pred-returns-else-at_where_pred-clause-reads
 unfolding look_of begins_below whole rule items statements expressions patterns types paths there_at shift passes is_silent begins in_mode anew row one_of any_of no_longer longest is_longer
-generic_params::opt_pred-returns-else-at_where_pred-clause-reads t c = reads-here (begun rules.where_pred (saw-so (c.at_where_pred.ensures.sees c.args.condition) c.if-at_where_pred.false) nothing) (reads-nothing _ c.at_where_pred.ensures.peeks.same)
+generic_params::opt_pred-returns-else-at_where_pred-clause-reads t c = λ cond. reads-here (begun rules.where_pred (saw-so (c.at_where_pred.ensures.sees cond) c.if-at_where_pred.false) nothing) (reads-nothing cond c.at_where_pred.ensures.peeks.same)

@@ -242,11 +242,11 @@ items::opt_generic_params-returns-else-at-clause-reads t c = λ cond. reads-here
 
 pub items::opt_where_clause-returns-then-at-clause-reads : goal.items::opt_where_clause-returns-then-at-clause-reads
 unfolding look_of begins_below whole rule items statements expressions patterns types paths there_at shift passes is_silent begins in_mode anew row one_of any_of no_longer longest is_longer
-items::opt_where_clause-returns-then-at-clause-reads t c = reads-here (saw-so (c.at.ensures.sees c.args.condition) c.if-at.true and nothing) (after-look _ c.at.ensures.peeks.same (reads-call _ c.where_clause.ensures.gives))
+items::opt_where_clause-returns-then-at-clause-reads t c = λ cond. reads-here (saw-so (c.at.ensures.sees cond) c.if-at.true and nothing) (after-look cond c.at.ensures.peeks.same (reads-call cond (c.where_clause.ensures.gives cond)))
 
 pub items::opt_where_clause-returns-else-at-clause-reads : goal.items::opt_where_clause-returns-else-at-clause-reads
 unfolding look_of begins_below whole rule items statements expressions patterns types paths there_at shift passes is_silent begins in_mode anew row one_of any_of no_longer longest is_longer
-items::opt_where_clause-returns-else-at-clause-reads t c = reads-here (saw-so (c.at.ensures.sees c.args.condition) c.if-at.false and nothing) (reads-nothing _ c.at.ensures.peeks.same)
+items::opt_where_clause-returns-else-at-clause-reads t c = λ cond. reads-here (saw-so (c.at.ensures.sees cond) c.if-at.false and nothing) (reads-nothing cond c.at.ensures.peeks.same)
 
 pub items::item_turn-returns-then-at_end_of-clause-ends : goal.items::item_turn-returns-then-at_end_of-clause-ends
 items::item_turn-returns-then-at_end_of-clause-ends t c = λ e. last-turn false _ (over-at-end c.args.end _) _ _ _ first-turn (over item_or_attribute (saw-so (c.at_end_of.ensures.sees false) c.if-at_end_of.true)) c.at_end_of.ensures.peeks.same

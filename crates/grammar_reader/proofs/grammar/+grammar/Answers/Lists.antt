@@ -8,7 +8,7 @@ use Rattle.rust_grammar.specs.Expressions.{expressions}
 use Rattle.rust_grammar.specs.Items.{items, record_field, tuple_field, variant}
 use Rattle.rust_grammar.specs.Meaning.{begins_below, look_of}
 use Rattle.rust_grammar.specs.Notation.{any_of, is_longer, no_longer, longest, one_of, row}
-use Rattle.rust_grammar.specs.Paths.{paths}
+use Rattle.rust_grammar.specs.Paths.{captured, paths, type_arg}
 use Rattle.rust_grammar.specs.Patterns.{patterns}
 use Rattle.rust_grammar.specs.Rule.{begins, in_mode, anew, is_silent, passes, shift, there_at}
 use Rattle.rust_grammar.specs.Statements.{statements}
@@ -17,7 +17,7 @@ use Rattle.rust_grammar.specs.Whole.{rule, whole}
 use Rattle.grammar_reader.specs.Told.{element_of, list_turn, looks_in}
 use Rattle.grammar_reader.specs.declared.grammar.lists.Element.{Element}
 use Rattle.grammar_reader.proofs.Elements.{element-pays, ends, few-looks-before, few-looks-in, more, over, over-there, reads-element, reads-stray, said-element, stray, sure-element}
-use Rattle.grammar_reader.proofs.AnyMode.{param-anywhere, pattern-anywhere, pattern-field-anywhere}
+use Rattle.grammar_reader.proofs.AnyMode.{generic-arg-anywhere, param-anywhere, pattern-anywhere, pattern-field-anywhere, type-anywhere, type-arg-anywhere}
 use Rattle.grammar_reader.proofs.Seeing.{begun-left, param-left, pattern-begins, word-left}
 use Rattle.rust_productions.specs.Looks.{tokens}
 use Rattle.rust_productions.specs.Reads.{looks, Reads, Saw}
@@ -91,6 +91,13 @@ lists::turn-returns-clause-asks t c = record {
   looks = omega (arith, c.at_element.ensures.peeks.looks, c.at_list_end.ensures.peeks.looks, c.at_unexpected.ensures.peeks.looks);
 }
 
+pub lists::read_element-captured-requires : goal.lists::read_element-captured-requires
+unfolding look_of begins_below whole rule items statements expressions patterns types paths there_at shift passes is_silent begins in_mode anew row one_of any_of no_longer longest is_longer
+lists::read_element-captured-requires t c = record { some = begun-left captured refl (subst (λ (e : Element). Saw false (begins looks (element_of e)) c.args.p.now true) c.in-Captured.is c.requires.begins) }
+
+pub lists::read_element-returns-in-Captured-clause-reads : goal.lists::read_element-returns-in-Captured-clause-reads
+lists::read_element-returns-in-Captured-clause-reads t c = subst (λ (e : Element). Reads false (element_of e) c.args.p.now c.captured.new.p) (sym c.in-Captured.is) (c.captured.ensures.reads false)
+
 pub lists::read_element-closure_param-requires : goal.lists::read_element-closure_param-requires
 lists::read_element-closure_param-requires t c =
     let seen = subst (λ (e : Element). Saw false (begins looks (element_of e)) c.args.p.now true) c.in-ClosureParam.is c.requires.begins in
@@ -118,17 +125,17 @@ pub lists::read_element-generic_arg-requires : goal.lists::read_element-generic_
 unfolding look_of begins_below whole rule items statements expressions patterns types paths there_at shift passes is_silent begins in_mode anew row one_of any_of no_longer longest is_longer
 lists::read_element-generic_arg-requires t c =
     let seen = subst (λ (e : Element). Saw false (begins looks (element_of e)) c.args.p.now true) c.in-GenericArg.is c.requires.begins in
-    (omega arith, (seen, word-left (Call rules.generic_arg) refl seen))
+    (omega arith, record { sees = λ d. generic-arg-anywhere seen; some = word-left (Call rules.generic_arg) refl seen })
 
 pub lists::read_element-returns-in-GenericArg-clause-reads : goal.lists::read_element-returns-in-GenericArg-clause-reads
-lists::read_element-returns-in-GenericArg-clause-reads t c = subst (λ (e : Element). Reads false (element_of e) c.args.p.now c.generic_arg.new.p) (sym c.in-GenericArg.is) (reads-call false c.generic_arg.ensures.gives)
+lists::read_element-returns-in-GenericArg-clause-reads t c = subst (λ (e : Element). Reads false (element_of e) c.args.p.now c.generic_arg.new.p) (sym c.in-GenericArg.is) (reads-call false (c.generic_arg.ensures.gives _))
 
 pub lists::read_element-generic_param-requires : goal.lists::read_element-generic_param-requires
 unfolding look_of begins_below whole rule items statements expressions patterns types paths there_at shift passes is_silent begins in_mode anew row one_of any_of no_longer longest is_longer
 lists::read_element-generic_param-requires t c = (omega arith, begun-left (Call rules.generic_param) refl (subst (λ (e : Element). Saw false (begins looks (element_of e)) c.args.p.now true) c.in-GenericParam.is c.requires.begins))
 
 pub lists::read_element-returns-in-GenericParam-clause-reads : goal.lists::read_element-returns-in-GenericParam-clause-reads
-lists::read_element-returns-in-GenericParam-clause-reads t c = subst (λ (e : Element). Reads false (element_of e) c.args.p.now c.generic_param.new.p) (sym c.in-GenericParam.is) (reads-call false c.generic_param.ensures.gives)
+lists::read_element-returns-in-GenericParam-clause-reads t c = subst (λ (e : Element). Reads false (element_of e) c.args.p.now c.generic_param.new.p) (sym c.in-GenericParam.is) (reads-call false (c.generic_param.ensures.gives false))
 
 pub lists::read_element-param-requires : goal.lists::read_element-param-requires
 unfolding look_of begins_below whole rule items statements expressions patterns types paths there_at shift passes is_silent begins in_mode anew row one_of any_of no_longer longest is_longer
@@ -161,10 +168,10 @@ pub lists::read_element-any_type-requires : goal.lists::read_element-any_type-re
 unfolding look_of begins_below whole rule items statements expressions patterns types paths there_at shift passes is_silent begins in_mode anew row one_of any_of no_longer longest is_longer
 lists::read_element-any_type-requires t c =
     let seen = subst (λ (e : Element). Saw false (begins looks (element_of e)) c.args.p.now true) c.in-Type.is c.requires.begins in
-    (omega arith, (seen, word-left (Call rules.any_type) refl seen))
+    (omega arith, record { sees = λ d. type-anywhere seen; some = word-left (Call rules.any_type) refl seen })
 
 pub lists::read_element-returns-in-Type-clause-reads : goal.lists::read_element-returns-in-Type-clause-reads
-lists::read_element-returns-in-Type-clause-reads t c = subst (λ (e : Element). Reads false (element_of e) c.args.p.now c.any_type.new.p) (sym c.in-Type.is) (reads-call false c.any_type.ensures.gives)
+lists::read_element-returns-in-Type-clause-reads t c = subst (λ (e : Element). Reads false (element_of e) c.args.p.now c.any_type.new.p) (sym c.in-Type.is) (reads-call false (c.any_type.ensures.gives _))
 
 pub lists::elements-turns-preserved : goal.lists::elements-turns-preserved
 lists::elements-turns-preserved t c = record {
@@ -276,3 +283,12 @@ lists::tuple_fields-complete-requires t c = (c.rest_of_list.ensures.reads true).
 pub lists::tuple_fields-returns-clause-gives : goal.lists::tuple_fields-returns-clause-gives
 unfolding look_of begins_below whole rule items statements expressions patterns types paths there_at shift passes is_silent begins in_mode anew row one_of any_of no_longer longest is_longer
 lists::tuple_fields-returns-clause-gives t c = λ cond. gives-anew (anew-after refl (reads-node cond c.start-list.ensures.opens (reads-then cond (c.take.ensures.reads cond) (c.rest_of_list.ensures.reads cond)) c.complete.ensures.closes))
+
+pub lists::read_element-type_arg-requires : goal.lists::read_element-type_arg-requires
+unfolding look_of begins_below whole rule items statements expressions patterns types paths there_at shift passes is_silent begins in_mode anew row one_of any_of no_longer longest is_longer
+lists::read_element-type_arg-requires t c =
+    let seen = subst (λ (e : Element). Saw false (begins looks (element_of e)) c.args.p.now true) c.in-TypeArg.is c.requires.begins in
+    (omega arith, record { sees = λ d. type-arg-anywhere seen; some = word-left type_arg refl seen })
+
+pub lists::read_element-returns-in-TypeArg-clause-reads : goal.lists::read_element-returns-in-TypeArg-clause-reads
+lists::read_element-returns-in-TypeArg-clause-reads t c = subst (λ (e : Element). Reads false (element_of e) c.args.p.now c.type_arg.new.p) (sym c.in-TypeArg.is) (c.type_arg.ensures.reads false)

@@ -21,6 +21,7 @@ use Rattle.rust_productions.proofs.Facts.{begun, nothing, ◌and◌}
 use Rattle.rust_productions.proofs.Given.{reads-three, reads-two}
 use Rattle.rust_productions.proofs.Looking.{saw-arm, saw-not}
 use Rattle.rust_productions.proofs.Seen.{saw-after, saw-else, saw-inside, saw-told}
+use Rattle.grammar_reader.proofs.AnyMode.{type-mode}
 use Rattle.grammar_reader.proofs.grammar.+grammar.Goals as goal
 
 pub items::members::variant-named-requires : goal.items::members::variant-named-requires
@@ -38,10 +39,10 @@ unfolding look_of begins_below whole rule items statements expressions patterns 
 items::members::record_field-named-requires t c = (omega arith, (saw-inside c.start-field.ensures.opens c.requires.begins, omega arith))
 
 pub items::members::record_field-complete-requires : goal.items::members::record_field-complete-requires
-items::members::record_field-complete-requires t c = c.expect_type.ensures.reads.does.innermost _ ((c.expect.ensures.reads true).does.innermost _ (c.named.ensures.reads.does.innermost _ c.start-field.ensures.marker))
+items::members::record_field-complete-requires t c = (c.expect_type.ensures.reads true).does.innermost _ ((c.expect.ensures.reads true).does.innermost _ (c.named.ensures.reads.does.innermost _ c.start-field.ensures.marker))
 
 pub items::members::record_field-returns-clause-reads : goal.items::members::record_field-returns-clause-reads
-items::members::record_field-returns-clause-reads t c = reads-node false c.start-field.ensures.opens (reads-three false c.named.ensures.reads (reads-then false (c.expect.ensures.reads false) c.expect_type.ensures.reads)) c.complete.ensures.closes
+items::members::record_field-returns-clause-reads t c = reads-node false c.start-field.ensures.opens (reads-three false c.named.ensures.reads (reads-then false (c.expect.ensures.reads false) (c.expect_type.ensures.reads _))) c.complete.ensures.closes
 
 pub items::members::tuple_field-typed-requires : goal.items::members::tuple_field-typed-requires
 unfolding look_of begins_below whole rule items statements expressions patterns types paths there_at shift passes is_silent begins in_mode anew row one_of any_of no_longer longest is_longer
@@ -73,19 +74,19 @@ unfolding look_of begins_below whole rule items statements expressions patterns 
 items::members::typed-attributes_and_visibility-requires t c = (omega arith, ((λ d. saw-after c.current.ensures.peeks.same (saw-told (saw-arm c.in-POUND.is (c.current.ensures.sees d) and nothing) refl)), omega arith))
 
 pub items::members::typed-returns-in-POUND-clause-reads : goal.items::members::typed-returns-in-POUND-clause-reads
-items::members::typed-returns-in-POUND-clause-reads t c = after-look false c.current.ensures.peeks.same (reads-two false (c.attributes_and_visibility.ensures.reads false) c.expect_type.ensures.reads)
+items::members::typed-returns-in-POUND-clause-reads t c = after-look false c.current.ensures.peeks.same (reads-two false (c.attributes_and_visibility.ensures.reads false) (c.expect_type.ensures.reads _))
 
 pub items::members::typed-returns-in-PUB_KW-clause-reads : goal.items::members::typed-returns-in-PUB_KW-clause-reads
 unfolding look_of begins_below whole rule items statements expressions patterns types paths there_at shift passes is_silent begins in_mode anew row one_of any_of no_longer longest is_longer
-items::members::typed-returns-in-PUB_KW-clause-reads t c = reads-here (saw-arm c.in-PUB_KW.is (c.current.ensures.sees false) and nothing) (after-look false c.current.ensures.peeks.same (reads-then false (reads-call false (c.visibility.ensures.gives false)) c.expect_type-in-PUB_KW.ensures.reads))
+items::members::typed-returns-in-PUB_KW-clause-reads t c = reads-here (saw-arm c.in-PUB_KW.is (c.current.ensures.sees false) and nothing) (after-look false c.current.ensures.peeks.same (reads-then false (reads-call false (c.visibility.ensures.gives false)) (c.expect_type-in-PUB_KW.ensures.reads _)))
 
 pub items::members::typed-any_type-requires : goal.items::members::typed-any_type-requires
 unfolding look_of begins_below whole rule items statements expressions patterns types paths there_at shift passes is_silent begins in_mode anew row one_of any_of no_longer longest is_longer
-items::members::typed-any_type-requires t c = (omega arith, (saw-after c.current.ensures.peeks.same (saw-else (looks rules.any_type) (begins looks (Attribute * ▸ ⁅ Visibility ⁆ ▸ AnyType !)) (saw-not c.in_default.not-POUND (c.current.ensures.sees false) and saw-not c.in_default.not-PUB_KW (c.current.ensures.sees false) and nothing) c.requires.begins refl), omega arith))
+items::members::typed-any_type-requires t c = (omega arith, record { sees = λ d. saw-after c.current.ensures.peeks.same (type-mode (saw-else (looks rules.any_type) (begins looks (Attribute * ▸ ⁅ Visibility ⁆ ▸ AnyType !)) (saw-not c.in_default.not-POUND (c.current.ensures.sees false) and saw-not c.in_default.not-PUB_KW (c.current.ensures.sees false) and nothing) c.requires.begins refl)); some = omega (arith, c.requires.some, c.current.ensures.peeks.left) })
 
 pub items::members::typed-returns-in_default-clause-reads : goal.items::members::typed-returns-in_default-clause-reads
 unfolding look_of begins_below whole rule items statements expressions patterns types paths there_at shift passes is_silent begins in_mode anew row one_of any_of no_longer longest is_longer
-items::members::typed-returns-in_default-clause-reads t c = reads-here (saw-not c.in_default.not-POUND (c.current.ensures.sees false) and saw-not c.in_default.not-PUB_KW (c.current.ensures.sees false) and begun rules.any_type (saw-else (looks rules.any_type) (begins looks (Attribute * ▸ ⁅ Visibility ⁆ ▸ AnyType !)) (saw-not c.in_default.not-POUND (c.current.ensures.sees false) and saw-not c.in_default.not-PUB_KW (c.current.ensures.sees false) and nothing) c.requires.begins refl) nothing) (after-look false c.current.ensures.peeks.same (reads-call false c.any_type.ensures.gives))
+items::members::typed-returns-in_default-clause-reads t c = reads-here (saw-not c.in_default.not-POUND (c.current.ensures.sees false) and saw-not c.in_default.not-PUB_KW (c.current.ensures.sees false) and begun rules.any_type (saw-else (looks rules.any_type) (begins looks (Attribute * ▸ ⁅ Visibility ⁆ ▸ AnyType !)) (saw-not c.in_default.not-POUND (c.current.ensures.sees false) and saw-not c.in_default.not-PUB_KW (c.current.ensures.sees false) and nothing) c.requires.begins refl) nothing) (after-look false c.current.ensures.peeks.same (reads-call false (c.any_type.ensures.gives _)))
 
 pub items::members::opt_fields-record_fields-requires : goal.items::members::opt_fields-record_fields-requires
 items::members::opt_fields-record_fields-requires t c = (omega arith, omega (arith, c.current.ensures.peeks.left, c.current.ensures.some (λ e. absurd (omega (arith, sym (ap raw_of c.in-L_CURLY.is) ∙ e)))))

@@ -39,10 +39,10 @@ pub params::pattern_param-pattern-requires : goal.params::pattern_param-pattern-
 params::pattern_param-pattern-requires t c = (omega arith, ((λ d. saw-inside c.start-node.ensures.opens (c.requires.begins d)), omega arith))
 
 pub params::pattern_param-complete-requires : goal.params::pattern_param-complete-requires
-params::pattern_param-complete-requires t c = c.expect_type.ensures.reads.does.innermost _ ((c.expect.ensures.reads true).does.innermost _ ((c.pattern.ensures.gives true).does.innermost _ c.start-node.ensures.marker))
+params::pattern_param-complete-requires t c = (c.expect_type.ensures.reads true).does.innermost _ ((c.expect.ensures.reads true).does.innermost _ ((c.pattern.ensures.gives true).does.innermost _ c.start-node.ensures.marker))
 
 pub params::pattern_param-returns-clause-reads : goal.params::pattern_param-returns-clause-reads
-params::pattern_param-returns-clause-reads t c = reads-node _ c.start-node.ensures.opens (reads-then _ (reads-call _ (c.pattern.ensures.gives c.args.condition)) (reads-then _ (c.expect.ensures.reads c.args.condition) c.expect_type.ensures.reads)) c.complete.ensures.closes
+params::pattern_param-returns-clause-reads t c = reads-node _ c.start-node.ensures.opens (reads-then _ (reads-call _ (c.pattern.ensures.gives c.args.condition)) (reads-then _ (c.expect.ensures.reads c.args.condition) (c.expect_type.ensures.reads _))) c.complete.ensures.closes
 
 pub params::self_param-returns-in-AMP-clause-gives : goal.params::self_param-returns-in-AMP-clause-gives
 unfolding look_of begins_below whole rule items statements expressions patterns types paths there_at shift passes is_silent begins in_mode anew row one_of any_of no_longer longest is_longer

@@ -18,13 +18,14 @@ use Rattle.rust_grammar.specs.Statements.{statements}
 use Rattle.rust_grammar.specs.Types.{types}
 use Rattle.rust_grammar.specs.Whole.{rule, whole}
 use Rattle.grammar_reader.specs.Told.{args_of}
+use Rattle.grammar_reader.specs.declared.grammar.paths.Mode.TheVariants as modes
 use Rattle.grammar_reader.proofs.PathArgs.{args-begin, path-row, reads-in-place}
 use Rattle.rust_productions.specs.Looks.{tokens}
 use Rattle.rust_productions.specs.Reads.{Anew}
-use Rattle.rust_productions.proofs.ByHand.{after-look, completes-leave, completes-then, reads-call, reads-node, reads-nothing, reads-none, reads-opt, reads-then, reads-unless, reads-when, reads-wrap}
+use Rattle.rust_productions.proofs.ByHand.{after-look, completes-leave, completes-then, does-then, reads-call, reads-node, reads-nothing, reads-none, reads-opt, reads-then, reads-unless, reads-when, reads-wrap}
 use Rattle.rust_productions.proofs.Choices.{anew-after, anew-completes, gives-anew, reads-here}
-use Rattle.rust_productions.proofs.Facts.{begun, nothing, saw-so}
-use Rattle.rust_productions.proofs.Seen.{ends-at-end, saw-after, saw-inside}
+use Rattle.rust_productions.proofs.Facts.{begun, nothing, saw-so, ◌and◌}
+use Rattle.rust_productions.proofs.Seen.{ends-at-end, saw-after, saw-before, saw-inside}
 use Rattle.rust_productions.proofs.Turns.{last-turn, next-turn}
 use Rattle.grammar_reader.proofs.grammar.+grammar.Goals as goal
 
@@ -37,17 +38,6 @@ paths::generic_args-complete-requires t c = (c.rest_of_list.ensures.reads true).
 pub paths::generic_args-returns-clause-gives : goal.paths::generic_args-returns-clause-gives
 unfolding look_of begins_below whole rule items statements expressions patterns types paths there_at shift passes is_silent begins in_mode anew row one_of any_of no_longer longest is_longer
 paths::generic_args-returns-clause-gives t c = λ cond. gives-anew (anew-after refl (reads-when cond (reads-node cond c.start-list.ensures.opens (reads-then cond (c.opt_colons.ensures.reads cond) (reads-then cond (c.take.ensures.reads cond) (c.rest_of_list.ensures.reads cond))) c.complete.ensures.closes)))
-
-pub paths::opt_args-generic_args-requires : goal.paths::opt_args-generic_args-requires
-paths::opt_args-generic_args-requires t c = (omega arith, (λ cond. saw-after c.at_args.ensures.peeks.same (args-begin c.args.mode (saw-so (c.at_args.ensures.sees cond) c.if-at_args.true)), omega (arith, c.at_args.ensures.some c.if-at_args.true, c.at_args.ensures.peeks.left)))
-
-pub paths::opt_args-returns-then-at_args-clause-reads : goal.paths::opt_args-returns-then-at_args-clause-reads
-unfolding begins
-paths::opt_args-returns-then-at_args-clause-reads t c = λ cond. reads-opt cond (saw-so (c.at_args.ensures.sees cond) c.if-at_args.true) (after-look cond c.at_args.ensures.peeks.same (reads-when cond (reads-call cond (c.generic_args.ensures.gives cond))))
-
-pub paths::opt_args-returns-else-at_args-clause-reads : goal.paths::opt_args-returns-else-at_args-clause-reads
-unfolding begins
-paths::opt_args-returns-else-at_args-clause-reads t c = λ cond. reads-none cond (saw-so (c.at_args.ensures.sees cond) c.if-at_args.false) c.at_args.ensures.peeks.same
 
 pub paths::first_segment-first_word-requires-clause-begins : goal.paths::first_segment-first_word-requires-clause-begins
 paths::first_segment-first_word-requires-clause-begins t c = λ cond. saw-inside c.start-segment.ensures.opens (saw-inside c.start-path.ensures.opens (c.requires.begins cond))
@@ -114,3 +104,82 @@ paths::opt_generic_args-returns-then-at_generic_args-clause-reads t c = λ cond.
 pub paths::opt_generic_args-returns-else-at_generic_args-clause-reads : goal.paths::opt_generic_args-returns-else-at_generic_args-clause-reads
 unfolding look_of begins_below whole rule items statements expressions patterns types paths there_at shift passes is_silent begins in_mode anew row one_of any_of no_longer longest is_longer
 paths::opt_generic_args-returns-else-at_generic_args-clause-reads t c = λ cond. reads-here (begun rules.generic_args (saw-so (c.at_generic_args.ensures.sees cond) c.if-at_generic_args.false) nothing) (reads-nothing cond c.at_generic_args.ensures.peeks.same)
+
+pub paths::fn_args-paren_args-requires : goal.paths::fn_args-paren_args-requires
+paths::fn_args-paren_args-requires t c = (omega arith, c.requires.begins)
+
+pub paths::fn_args-returns-clause-reads : goal.paths::fn_args-returns-clause-reads
+paths::fn_args-returns-clause-reads t c = λ cond. reads-then _ (c.paren_args.ensures.reads cond) (c.opt_ret_type.ensures.reads cond)
+
+pub paths::paren_args-opt_colons_before_paren-requires : goal.paths::paren_args-opt_colons_before_paren-requires
+paths::paren_args-opt_colons_before_paren-requires t c = record { begins = record { sees = λ d. saw-inside c.start-list.ensures.opens (c.requires.begins.sees d); some = omega (arith, c.requires.begins.some, c.start-list.ensures.stays.left) } }
+
+pub paths::paren_args-complete-requires : goal.paths::paren_args-complete-requires
+paths::paren_args-complete-requires t c = (c.rest_of_list.ensures.reads true).does.innermost _ ((c.take.ensures.reads true).does.innermost _ ((c.opt_colons_before_paren.ensures.reads true).does.innermost _ c.start-list.ensures.marker))
+
+pub paths::paren_args-returns-clause-reads : goal.paths::paren_args-returns-clause-reads
+paths::paren_args-returns-clause-reads t c = λ cond. reads-node cond c.start-list.ensures.opens (reads-then cond (c.opt_colons_before_paren.ensures.reads cond) (reads-then cond (c.take.ensures.reads cond) (c.rest_of_list.ensures.reads cond))) c.complete.ensures.closes
+
+pub paths::opt_type_args-fn_args-requires : goal.paths::opt_type_args-fn_args-requires
+paths::opt_type_args-fn_args-requires t c = (omega arith, record { sees = λ d. saw-after c.at_fn_args.ensures.peeks.same (saw-so (c.at_fn_args.ensures.sees d) c.if-at_fn_args.true); some = omega (arith, c.at_fn_args.ensures.some c.if-at_fn_args.true, c.at_fn_args.ensures.peeks.left) })
+
+pub paths::opt_type_args-returns-then-at_fn_args-clause-reads : goal.paths::opt_type_args-returns-then-at_fn_args-clause-reads
+unfolding look_of begins_below whole rule items statements expressions patterns types paths there_at shift passes is_silent begins in_mode anew row one_of any_of no_longer longest is_longer
+paths::opt_type_args-returns-then-at_fn_args-clause-reads t c = λ cond. reads-here (saw-so (c.at_fn_args.ensures.sees cond) c.if-at_fn_args.true and nothing) (after-look _ c.at_fn_args.ensures.peeks.same (c.fn_args.ensures.reads cond))
+
+pub paths::opt_type_args-generic_args-requires : goal.paths::opt_type_args-generic_args-requires
+paths::opt_type_args-generic_args-requires t c = (omega arith, (λ cond. saw-after c.at_args.ensures.peeks.same (args-begin modes.Type (saw-so (c.at_args.ensures.sees cond) c.if-at_args.true)), omega (arith, c.at_args.ensures.some c.if-at_args.true, c.at_args.ensures.peeks.left)))
+
+pub paths::opt_type_args-returns-then-at_args-clause-reads : goal.paths::opt_type_args-returns-then-at_args-clause-reads
+unfolding look_of begins_below whole rule items statements expressions patterns types paths there_at shift passes is_silent begins in_mode anew row one_of any_of no_longer longest is_longer
+paths::opt_type_args-returns-then-at_args-clause-reads t c = λ cond. reads-here (saw-so (c.at_fn_args.ensures.sees cond) c.if-at_fn_args.false and saw-before c.at_fn_args.ensures.peeks.same (saw-so (c.at_args.ensures.sees cond) c.if-at_args.true) and nothing) (after-look _ c.at_fn_args.ensures.peeks.same (after-look _ c.at_args.ensures.peeks.same (reads-call _ (c.generic_args.ensures.gives cond))))
+
+pub paths::opt_type_args-returns-else-at_args-clause-reads : goal.paths::opt_type_args-returns-else-at_args-clause-reads
+unfolding look_of begins_below whole rule items statements expressions patterns types paths there_at shift passes is_silent begins in_mode anew row one_of any_of no_longer longest is_longer
+paths::opt_type_args-returns-else-at_args-clause-reads t c = λ cond. reads-here (saw-so (c.at_fn_args.ensures.sees cond) c.if-at_fn_args.false and saw-before c.at_fn_args.ensures.peeks.same (saw-so (c.at_args.ensures.sees cond) c.if-at_args.false) and nothing) (reads-nothing _ (does-then c.at_fn_args.ensures.peeks.same c.at_args.ensures.peeks.same))
+
+pub paths::opt_args-returns-in-Expr-clause-reads : goal.paths::opt_args-returns-in-Expr-clause-reads
+paths::opt_args-returns-in-Expr-clause-reads t c = λ cond. rw c.in-Expr.is (c.opt_expr_args.ensures.reads cond)
+
+pub paths::opt_args-returns-in-Type-clause-reads : goal.paths::opt_args-returns-in-Type-clause-reads
+paths::opt_args-returns-in-Type-clause-reads t c = λ cond. rw c.in-Type.is (c.opt_type_args.ensures.reads cond)
+
+pub paths::opt_expr_args-generic_args-requires : goal.paths::opt_expr_args-generic_args-requires
+paths::opt_expr_args-generic_args-requires t c = (omega arith, (λ cond. saw-after c.at_args.ensures.peeks.same (args-begin modes.Expr (saw-so (c.at_args.ensures.sees cond) c.if-at_args.true)), omega (arith, c.at_args.ensures.some c.if-at_args.true, c.at_args.ensures.peeks.left)))
+
+pub paths::opt_expr_args-returns-then-at_args-clause-reads : goal.paths::opt_expr_args-returns-then-at_args-clause-reads
+unfolding look_of begins_below whole rule items statements expressions patterns types paths there_at shift passes is_silent begins in_mode anew row one_of any_of no_longer longest is_longer
+paths::opt_expr_args-returns-then-at_args-clause-reads t c = λ cond. reads-here (saw-so (c.at_args.ensures.sees cond) c.if-at_args.true and nothing) (after-look _ c.at_args.ensures.peeks.same (reads-call _ (c.generic_args.ensures.gives cond)))
+
+pub paths::opt_expr_args-returns-else-at_args-clause-reads : goal.paths::opt_expr_args-returns-else-at_args-clause-reads
+unfolding look_of begins_below whole rule items statements expressions patterns types paths there_at shift passes is_silent begins in_mode anew row one_of any_of no_longer longest is_longer
+paths::opt_expr_args-returns-else-at_args-clause-reads t c = λ cond. reads-here (saw-so (c.at_args.ensures.sees cond) c.if-at_args.false and nothing) (reads-nothing _ c.at_args.ensures.peeks.same)
+
+pub paths::qualified_path-next_segments-requires : goal.paths::qualified_path-next_segments-requires
+paths::qualified_path-next_segments-requires t c = (omega arith, (c.qualifier.ensures.reads true).does.innermost _ c.requires.innermost)
+
+pub paths::qualified_path-returns-clause-reads : goal.paths::qualified_path-returns-clause-reads
+paths::qualified_path-returns-clause-reads t c = λ cond. reads-then _ (c.qualifier.ensures.reads cond) (c.next_segments.ensures.reads cond)
+
+pub paths::qualifier-complete-requires : goal.paths::qualifier-complete-requires
+paths::qualifier-complete-requires t c = (c.anchor.ensures.reads true).does.innermost _ c.start-segment.ensures.marker
+
+pub paths::qualifier-complete-requires-2 : goal.paths::qualifier-complete-requires-2
+paths::qualifier-complete-requires-2 t c = c.complete.ensures.closes.innermost _ ((c.anchor.ensures.reads true).does.innermost _ (c.start-segment.ensures.opens.innermost _ c.start-path.ensures.marker))
+
+pub paths::qualifier-returns-clause-reads : goal.paths::qualifier-returns-clause-reads
+paths::qualifier-returns-clause-reads t c = λ cond. reads-node cond c.start-path.ensures.opens (reads-node cond c.start-segment.ensures.opens (c.anchor.ensures.reads cond) c.complete.ensures.closes) c.complete-2.ensures.closes
+
+pub paths::anchor-complete-requires : goal.paths::anchor-complete-requires
+paths::anchor-complete-requires t c = (c.expect.ensures.reads true).does.innermost _ ((c.opt_as_trait.ensures.reads true).does.innermost _ ((c.expect_type.ensures.reads true).does.innermost _ ((c.take.ensures.reads true).does.innermost _ c.start-node.ensures.marker)))
+
+pub paths::anchor-returns-clause-reads : goal.paths::anchor-returns-clause-reads
+paths::anchor-returns-clause-reads t c = λ cond. reads-node _ c.start-node.ensures.opens (reads-then _ (c.take.ensures.reads cond) (reads-then _ (c.expect_type.ensures.reads cond) (reads-then _ (c.opt_as_trait.ensures.reads cond) (c.expect.ensures.reads cond)))) c.complete.ensures.closes
+
+pub paths::opt_as_trait-returns-then-at-clause-reads : goal.paths::opt_as_trait-returns-then-at-clause-reads
+unfolding look_of begins_below whole rule items statements expressions patterns types paths there_at shift passes is_silent begins in_mode anew row one_of any_of no_longer longest is_longer
+paths::opt_as_trait-returns-then-at-clause-reads t c = λ cond. reads-opt _ (saw-so (c.at.ensures.sees cond) c.if-at.true) (after-look _ c.at.ensures.peeks.same (reads-then _ (c.take.ensures.reads cond) (c.expect_path_type.ensures.reads cond)))
+
+pub paths::opt_as_trait-returns-else-at-clause-reads : goal.paths::opt_as_trait-returns-else-at-clause-reads
+unfolding look_of begins_below whole rule items statements expressions patterns types paths there_at shift passes is_silent begins in_mode anew row one_of any_of no_longer longest is_longer
+paths::opt_as_trait-returns-else-at-clause-reads t c = λ cond. reads-none _ (saw-so (c.at.ensures.sees cond) c.if-at.false) c.at.ensures.peeks.same

@@ -20,19 +20,19 @@ pub items::traits::impl_item-unsafe_word-requires : goal.items::traits::impl_ite
 items::traits::impl_item-unsafe_word-requires t c = record { begins = record { sees = c.requires.begins.sees; some = c.requires.begins.some }; word = record { other = λ e. absurd (omega (arith, e)); inside = λ e. absurd (omega (arith, e)) } }
 
 pub items::traits::impl_item-complete-requires : goal.items::traits::impl_item-complete-requires
-items::traits::impl_item-complete-requires t c = (c.expect_assoc_items.ensures.reads true).does.innermost _ (c.opt_where_clause.ensures.reads.does.innermost _ (c.opt_type_after.ensures.reads.does.innermost _ (c.expect_type.ensures.reads.does.innermost _ ((c.opt_generic_params.ensures.reads true).does.innermost _ ((c.unsafe_word.ensures.reads true).does.innermost _ c.requires.innermost)))))
+items::traits::impl_item-complete-requires t c = (c.expect_assoc_items.ensures.reads true).does.innermost _ ((c.opt_where_clause.ensures.reads true).does.innermost _ ((c.opt_type_after.ensures.reads true).does.innermost _ ((c.expect_type.ensures.reads true).does.innermost _ ((c.opt_generic_params.ensures.reads true).does.innermost _ ((c.unsafe_word.ensures.reads true).does.innermost _ c.requires.innermost)))))
 
 pub items::traits::impl_item-returns-clause-completes : goal.items::traits::impl_item-returns-clause-completes
-items::traits::impl_item-returns-clause-completes t c = completes-wrap (reads-two _ (c.unsafe_word.ensures.reads c.args.condition) (reads-then _ (c.opt_generic_params.ensures.reads c.args.condition) (reads-then _ c.expect_type.ensures.reads (reads-then _ c.opt_type_after.ensures.reads (reads-then _ c.opt_where_clause.ensures.reads (c.expect_assoc_items.ensures.reads c.args.condition)))))) c.complete.ensures.closes
+items::traits::impl_item-returns-clause-completes t c = completes-wrap (reads-two _ (c.unsafe_word.ensures.reads c.args.condition) (reads-then _ (c.opt_generic_params.ensures.reads c.args.condition) (reads-then _ (c.expect_type.ensures.reads _) (reads-then _ (c.opt_type_after.ensures.reads _) (reads-then _ (c.opt_where_clause.ensures.reads _) (c.expect_assoc_items.ensures.reads c.args.condition)))))) c.complete.ensures.closes
 
 pub items::traits::trait_item-unsafe_word-requires : goal.items::traits::trait_item-unsafe_word-requires
 items::traits::trait_item-unsafe_word-requires t c = record { begins = record { sees = c.requires.begins.sees; some = c.requires.begins.some }; word = record { other = λ e. absurd (omega (arith, e)); inside = λ e. absurd (omega (arith, e)) } }
 
 pub items::traits::trait_item-complete-requires : goal.items::traits::trait_item-complete-requires
-items::traits::trait_item-complete-requires t c = (c.expect_assoc_items.ensures.reads true).does.innermost _ (c.opt_where_clause.ensures.reads.does.innermost _ ((c.bounds_after_colon.ensures.reads true).does.innermost _ ((c.opt_generic_params.ensures.reads true).does.innermost _ ((c.expect_name.ensures.reads true).does.innermost _ ((c.unsafe_word.ensures.reads true).does.innermost _ c.requires.innermost)))))
+items::traits::trait_item-complete-requires t c = (c.expect_assoc_items.ensures.reads true).does.innermost _ ((c.opt_where_clause.ensures.reads true).does.innermost _ ((c.bounds_after_colon.ensures.reads true).does.innermost _ ((c.opt_generic_params.ensures.reads true).does.innermost _ ((c.expect_name.ensures.reads true).does.innermost _ ((c.unsafe_word.ensures.reads true).does.innermost _ c.requires.innermost)))))
 
 pub items::traits::trait_item-returns-clause-completes : goal.items::traits::trait_item-returns-clause-completes
-items::traits::trait_item-returns-clause-completes t c = completes-wrap (reads-two _ (c.unsafe_word.ensures.reads c.args.condition) (reads-then _ (c.expect_name.ensures.reads c.args.condition) (reads-then _ (c.opt_generic_params.ensures.reads c.args.condition) (reads-then _ (c.bounds_after_colon.ensures.reads c.args.condition) (reads-then _ c.opt_where_clause.ensures.reads (c.expect_assoc_items.ensures.reads c.args.condition)))))) c.complete.ensures.closes
+items::traits::trait_item-returns-clause-completes t c = completes-wrap (reads-two _ (c.unsafe_word.ensures.reads c.args.condition) (reads-then _ (c.expect_name.ensures.reads c.args.condition) (reads-then _ (c.opt_generic_params.ensures.reads c.args.condition) (reads-then _ (c.bounds_after_colon.ensures.reads c.args.condition) (reads-then _ (c.opt_where_clause.ensures.reads _) (c.expect_assoc_items.ensures.reads c.args.condition)))))) c.complete.ensures.closes
 
 pub items::traits::expect_assoc_items-returns-then-at-clause-reads : goal.items::traits::expect_assoc_items-returns-then-at-clause-reads
 unfolding look_of begins_below whole rule items statements expressions patterns types paths there_at shift passes is_silent begins in_mode anew row one_of any_of no_longer longest is_longer

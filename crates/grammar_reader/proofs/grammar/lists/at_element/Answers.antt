@@ -19,6 +19,17 @@ use Rattle.rust_productions.specs.Reads.{looks, Saw}
 use Rattle.rust_productions.proofs.Ranges.{begins-call}
 use Rattle.grammar_reader.proofs.grammar.lists.at_element.Goals as goal
 
+pub returns-in-Captured-clause-sees : goal.returns-in-Captured-clause-sees
+unfolding look_of begins_below whole rule items statements expressions patterns types paths there_at shift passes is_silent begins in_mode anew row one_of any_of no_longer longest is_longer
+returns-in-Captured-clause-sees c = subst (λ (e : Element). Saw false (begins looks (element_of e)) c.args.p.now c.at_captured.result) (sym c.in-Captured.is) (c.at_captured.ensures.sees false)
+
+pub returns-in-Captured-clause-peeks : goal.returns-in-Captured-clause-peeks
+returns-in-Captured-clause-peeks c = record {
+  same = search rules;
+  left = omega arith;
+  looks = subst (λ (e : Element). spent c.at_captured.new.p ≤ spent c.args.p.now + looks_before e) (sym c.in-Captured.is) (omega (arith, c.at_captured.ensures.peeks.looks));
+}
+
 pub returns-in-ClosureParam-clause-sees : goal.returns-in-ClosureParam-clause-sees
 unfolding begins
 returns-in-ClosureParam-clause-sees c = subst (λ (e : Element). Saw false (begins looks (element_of e)) c.args.p.now c.at_single_pattern.result) (sym c.in-ClosureParam.is) (closure-param-begins (c.at_single_pattern.ensures.sees false))
@@ -149,4 +160,15 @@ returns-in-Variant-clause-peeks c = record {
   same = search rules;
   left = omega arith;
   looks = subst (λ (e : Element). spent c.at_named_member-in-Variant.new.p ≤ spent c.args.p.now + looks_before e) (sym c.in-Variant.is) (omega (arith, c.at_named_member-in-Variant.ensures.peeks.looks));
+}
+
+pub returns-in-TypeArg-clause-sees : goal.returns-in-TypeArg-clause-sees
+unfolding look_of begins_below whole rule items statements expressions patterns types paths there_at shift passes is_silent begins in_mode anew row one_of any_of no_longer longest is_longer
+returns-in-TypeArg-clause-sees c = subst (λ (e : Element). Saw false (begins looks (element_of e)) c.args.p.now c.at_type-in-TypeArg.result) (sym c.in-TypeArg.is) (c.at_type-in-TypeArg.ensures.sees false)
+
+pub returns-in-TypeArg-clause-peeks : goal.returns-in-TypeArg-clause-peeks
+returns-in-TypeArg-clause-peeks c = record {
+  same = search rules;
+  left = omega arith;
+  looks = subst (λ (e : Element). spent c.at_type-in-TypeArg.new.p ≤ spent c.args.p.now + looks_before e) (sym c.in-TypeArg.is) (omega (arith, c.at_type-in-TypeArg.ensures.peeks.looks));
 }

@@ -1,0 +1,87 @@
+//! Renames identifiers, unless the new name is an identifier of the text already.
+#![tactic(auto)]
+
+ghost use Rattle.std.specs.Prelude.{◌≡◌, ◌≤◌, length, IfErr, IfOk};
+ghost use Rattle.rename_tool.specs.Answers.{Answers};
+ghost use Rattle.rust_source.specs.Identifiers.{IsPlain, LacksRoom, MAX_TEXT, present, renamed_text};
+
+use rust_source::{RenameError, Source};
+
+/// The outcome of a renaming.
+#[derive(Clone, Copy, Debug, PartialEq, Eq)]
+pub enum Renaming {
+    Done,
+    /// The new name is an identifier of the text already.
+    NameIsTaken,
+}
+
+/// Renames the identifiers `old` to `new`, in macro calls too. Nothing else in the text changes. If
+/// both names are plain and no identifier `old` is the prefix of a literal, only memory, tree numbers
+/// and the length of the new text can refuse it.
+///
+/// # Errors
+///
+/// As of [`Source::rename`]. On error, the document is unchanged.
+pub fn rename(source: &mut Source, old: &str, new: &str) -> Result<Renaming, RenameError>
+    ensures answers { IfOk result
+        (Answers old.now new.now source.old.document source.new.document) }
+    ensures plain { IfErr result (λ error. IsPlain source.old.document old.now new.now
+        → length (renamed_text old.now new.now (present source.old.document)) ≤ MAX_TEXT
+        → LacksRoom source.old.next new.now error) }
+    ensures kept { IfErr result (λ _. source.new.document ≡ source.old.document) }
+{
+    if source.has_identifier(new) {
+        return Ok(Renaming::NameIsTaken);
+    }
+    source.rename(old, new)?;
+    Ok(Renaming::Done)
+}
+
+#[cfg(test)]
+mod tests {
+    use super::{Renaming, rename};
+    use rust_source::{CommitError, Edition, RenameError, Source};
+    use std::test::Fail;
+
+    /// A text, the old and the new name, what is answered, and the text then.
+    type Row = (
+        &'static str,
+        &'static str,
+        &'static str,
+        Result<Renaming, RenameError>,
+        &'static str,
+    );
+
+    const TEXT: &str = "fn f(a: u8) -> u8 { m!(a, r#a, \"a\") + b } // a\n";
+
+    const ROWS: &[Row] = &[
+        (
+            TEXT,
+            "a",
+            "c",
+            Ok(Renaming::Done),
+            "fn f(c: u8) -> u8 { m!(c, r#a, \"a\") + b } // a\n",
+        ),
+        (TEXT, "a", "b", Ok(Renaming::NameIsTaken), TEXT),
+        (
+            TEXT,
+            "a",
+            "fn",
+            Err(RenameError::Refused(CommitError::Unfaithful)),
+            TEXT,
+        ),
+        ("fn f( {", "f", "g", Ok(Renaming::Done), "fn g( {"),
+    ];
+
+    #[test]
+    fn identifiers_are_renamed(rt: HostRuntime) -> Result<(), Fail> {
+        for (text, old, new, answer, wanted) in ROWS {
+            let mut source = Source::open(rt.alloc(), Edition::Edition2021, *text)?;
+            let done = rename(&mut source, *old, *new);
+            let is_right = (done == *answer) & (source.text() == *wanted);
+            drop(source);
+            assert!(rt; is_right);
+        }
+        Ok(())
+    }
+}

@@ -1,0 +1,240 @@
+-- The walk through a tree enters each of its leaves, so the new text has all of them renamed.
+use Rattle.std.proofs.Common.{◌≡◌, ℕ, zero, suc, ◌+◌, List, [], ◌∷◌, ◌++◌, drop, map, Bool, true, false, not, ◌&&◌, nat_eq, Option, Some, slice_get, refl, ap, sym, ◌∙◌, arith, subst, inl, inr, if◌then◌else◌}
+use Rattle.std.proofs.lemmas.Bool.{cases_Bool, eq-eqb, false≢true}
+use Rattle.rowan_green.specs.Leaf.{Leaf, same_leaf}
+use Rattle.rowan_green.specs.Forest.{Forest, empty, node, leaf, Tree, forest_text, tree_text}
+use Rattle.rowan_green.specs.Term.{Term, terms, forest_of, terms-forest_of, forest_of-terms}
+use Rattle.rowan_green.specs.declared.utility_types.NodeOrToken.TheVariants.{Node, Token}
+use Rattle.rowan.specs.Place.{Place, term_by, term_at, children_in, kind_in, text_in, kind_at, text_at}
+use Rattle.rowan.specs.Walk.{Event, walk_forest, entered}
+use Rattle.rowan.specs.declared.utility_types.WalkEvent.TheVariants.{Enter, Leave}
+use Rattle.syntax_tree.specs.Element.{Way, Element, element_at, term_of}
+use Rattle.syntax_tree.specs.Handle.{element_of, with_number, with_cursor}
+use Rattle.syntax_tree.specs.Mapping.{Mapping}
+use Rattle.syntax_tree.specs.Search.{elements}
+use Rattle.syntax_tree.specs.declared.element.SyntaxElement.{SyntaxElement}
+use Rattle.syntax_tree.specs.declared.element.SyntaxElement.TheVariants as handles
+use Rattle.tree_rewrite.specs.Change.{Change, has_collision}
+use Rattle.tree_rewrite.specs.Marked.{forest_in}
+use Rattle.tree_rewrite.specs.Moved.{same_kind}
+use Rattle.tree_rewrite.specs.Rewrite.{rewrite}
+use Rattle.plain_names.specs.Replacements.{with_leaves}
+use Rattle.plain_changes.specs.LeafChanges.{change_of, replacement_of}
+use Rattle.plain_changes.proofs.Orders.{leaves-replaced}
+use Rattle.syntax_editor.specs.Editing.{Editing, untouched, with_changes}
+use Rattle.syntax_editor.specs.Recording.{BadTarget, Foreign, Recorded, is_one_node, is_root, is_target, replacing, with_single}
+use Rattle.rust_document.specs.Reading.{root_of}
+use Rattle.rust_document.specs.Rewrite.{rewritten}
+use Rattle.renamer.specs.Renamed.{identifier, is_named, renamed_leaves, renamed_text}
+use Rattle.renamer.proofs.Changes.{changes_after, ways_after, changes-are, no-collision, with_way, has_way, Covered, covered, AreNamed, named-with, named-at, leaf_change, changes-of, all-replace, leaf-after}
+use Rattle.rowan_green.specs.Same.{same_leaf-Decides}
+
+there : {X : Type 0} (xs : List X) (i : ℕ) (x : X) (ys : List X) → drop i xs ≡ x ∷ ys → (slice_get xs i ≡ Some x) × (drop (i + 1) xs ≡ ys)
+there [] zero x ys e = absurd (let z : [] ≡ x ∷ ys = e in cc)
+there [] (suc i) x ys e = absurd (let z : [] ≡ x ∷ ys = e in cc)
+there (z ∷ xs) zero x ys e = (let same : z ≡ x = cc in ap Some same, let rest : xs ≡ ys = cc in rest)
+there (z ∷ xs) (suc i) x ys e =
+    let more = there xs i x ys e in
+    (more.0, ap (λ (n : ℕ). drop n (z ∷ xs)) (let n : suc i + 1 ≡ suc (i + 1) = omega arith in n) ∙ more.1)
+
+abbrev at : Tree → Way → Place
+at t w = record { root = t; up = w }
+
+-- ---- each token that is entered is a leaf of the tree
+
+abbrev IsLeafOf : Tree → Place → Type 0
+IsLeafOf t p = (l : Leaf) × (term_by t p.up ≡ Some (Token l)) × (p.root ≡ t)
+
+abbrev EntersLeaves : Tree → List Event → Type 0
+EntersLeaves t [] = Unit {0}
+EntersLeaves t (Enter (Node p) ∷ v) = EntersLeaves t v
+EntersLeaves t (Enter (Token p) ∷ v) = IsLeafOf t p × EntersLeaves t v
+EntersLeaves t (Leave c ∷ v) = EntersLeaves t v
+
+enters-both : (t : Tree) (v w : List Event) → EntersLeaves t v → EntersLeaves t w → EntersLeaves t (v ++ w)
+enters-both t [] w a b = b
+enters-both t (Enter (Node p) ∷ v) w a b = enters-both t v w a b
+enters-both t (Enter (Token p) ∷ v) w a b = (a.0, enters-both t v w a.1 b)
+enters-both t (Leave c ∷ v) w a b = enters-both t v w a b
+
+enters-leaves : (t : Tree) (w : Way) (i : ℕ) (f : Forest) → drop i (children_in (term_by t w)) ≡ terms f → EntersLeaves t (walk_forest (at t w) i f)
+enters-leaves t w i empty h = tt
+enters-leaves t w i (node k f r) h =
+    let found = there (children_in (term_by t w)) i (Node (record { kind = k; forest = f })) (terms r) h in
+    enters-both t (walk_forest (at t (i ∷ w)) 0 f) (Leave (Node (at t (i ∷ w))) ∷ walk_forest (at t w) (i + 1) r)
+    (enters-leaves t (i ∷ w) 0 f (ap children_in found.0)) (enters-leaves t w (i + 1) r found.1)
+enters-leaves t w i (leaf l r) h =
+    let found = there (children_in (term_by t w)) i (Token l) (terms r) h in
+    ((l, found.0, refl), enters-leaves t w (i + 1) r found.1)
+
+-- ---- so each recorded change is at an identifier with the name
+
+leaf-is : (old : List ℕ) (p : Place) (l : Leaf) → term_at p ≡ Some (Token l) → same_leaf (record { kind = kind_at p; text = text_at p }) (identifier old) ≡ same_leaf l (identifier old)
+leaf-is old p l h = ap (λ (o : Option Term). same_leaf (record { kind = kind_in o; text = text_in o }) (identifier old)) h
+
+named-leaf : (old : List ℕ) (t : Tree) (p : Place) → IsLeafOf t p → same_leaf (record { kind = kind_at p; text = text_at p }) (identifier old) ≡ true → term_by t p.up ≡ Some (Token (identifier old))
+named-leaf old t p is h =
+    let here : term_at p ≡ Some (Token is.0) = ap (λ (r : Tree). term_by r p.up) is.2 ∙ is.1 in
+    is.1 ∙ ap (λ (l : Leaf). Some (Token l)) ((same_leaf-Decides is.0 (identifier old)).0 (sym (leaf-is old p is.0 here) ∙ h))
+
+named-after : (old : List ℕ) (n : ℕ) (t : Tree) (v : List Event) (ws : List Way) → AreNamed old t ws → EntersLeaves t v → AreNamed old t (ways_after old ws (map (with_cursor n) (entered v)))
+named-after old n t [] ws a e = a
+named-after old n t (Enter (Node p) ∷ v) ws a e = named-after old n t v ws a e
+named-after old n t (Enter (Token p) ∷ v) ws a e =
+    named-after old n t v (if is_named old (handles.Token (with_number n p)) then with_way ws p.up else ws) (by_test (is_named old (handles.Token (with_number n p))) refl) e.1
+  where
+    by_test : (b : Bool) → is_named old (handles.Token (with_number n p)) ≡ b → AreNamed old t (if b then with_way ws p.up else ws)
+    by_test true y = named-with old t ws p.up a (named-leaf old t p e.0 y)
+    by_test false y = a
+named-after old n t (Leave c ∷ v) ws a e = named-after old n t v ws a e
+
+-- ---- the elements of a tree
+
+all-enter : (t : Tree) → EntersLeaves t (Enter (Node (at t [])) ∷ walk_forest (at t []) 0 (forest_of (terms t.forest)) ++ Leave (Node (at t [])) ∷ [])
+all-enter t =
+    enters-both t (walk_forest (at t []) 0 (forest_of (terms t.forest))) (Leave (Node (at t [])) ∷ [])
+    (enters-leaves t [] 0 (forest_of (terms t.forest)) (sym (terms-forest_of (terms t.forest)))) tt
+
+pub named-tree : (old : List ℕ) (n : ℕ) (t : Tree) → AreNamed old t (ways_after old [] (elements (element_at n t [])))
+named-tree old n t =
+    named-after old n t (Enter (Node (at t [])) ∷ walk_forest (at t []) 0 (forest_of (terms t.forest)) ++ Leave (Node (at t [])) ∷ []) [] tt (all-enter t)
+
+-- each token is a leaf of the tree of this number
+abbrev pub AreOfTree : ℕ → Tree → List SyntaxElement → Type 0
+AreOfTree n t [] = Unit {0}
+AreOfTree n t (handles.Node e ∷ xs) = AreOfTree n t xs
+AreOfTree n t (handles.Token e ∷ xs) = ((e.number ≡ n) × IsLeafOf t e.place) × AreOfTree n t xs
+
+of-tree : (n : ℕ) (t : Tree) (v : List Event) → EntersLeaves t v → AreOfTree n t (map (with_cursor n) (entered v))
+of-tree n t [] e = tt
+of-tree n t (Enter (Node p) ∷ v) e = of-tree n t v e
+of-tree n t (Enter (Token p) ∷ v) e = ((refl, e.0), of-tree n t v e.1)
+of-tree n t (Leave c ∷ v) e = of-tree n t v e
+
+pub tree-elements : (n : ℕ) (t : Tree) → AreOfTree n t (elements (element_at n t []))
+tree-elements n t = of-tree n t (Enter (Node (at t [])) ∷ walk_forest (at t []) 0 (forest_of (terms t.forest)) ++ Leave (Node (at t [])) ∷ []) (all-enter t)
+
+pub of-tree-rest : (n : ℕ) (t : Tree) (x : SyntaxElement) (left rest : List SyntaxElement) → left ≡ x ∷ rest → AreOfTree n t left → AreOfTree n t rest
+of-tree-rest n t (handles.Node e) left rest is h = subst (λ (xs : List SyntaxElement). AreOfTree n t xs) is h
+of-tree-rest n t (handles.Token e) left rest is h = (subst (λ (xs : List SyntaxElement). AreOfTree n t xs) is h).1
+
+-- ---- an identifier with the name can be replaced
+
+own-kind : (o : Option Term) (l : Leaf) → o ≡ Some (Token l) → same_kind o o ≡ true
+own-kind o l h = ap (λ (p : Option Term). same_kind p p) h ∙ eq-eqb l.kind l.kind refl
+
+no-root : (t : Tree) (l : Leaf) (w : Way) → term_by t w ≡ Some (Token l) → is_root w ≡ false
+no-root t l [] h = absurd (let z : Some (Node t) ≡ Some (Token l) = h in cc)
+no-root t l (i ∷ w) h = refl
+
+leaf-target : (n : ℕ) (t : Tree) (s : Element) → s.number ≡ n → IsLeafOf t s.place → is_target (element_at n t []) s ≡ true
+leaf-target n t s number found =
+    let own : term_of s ≡ term_by t s.place.up = ap (λ (r : Tree). term_by r s.place.up) found.2 in
+    (λ i. nat_eq (number i) n && same_kind (term_by t s.place.up) (own i)) ∙ (λ i. eq-eqb n n refl i && own-kind (term_by t s.place.up) found.0 found.1 i)
+
+token-recorded : (n : ℕ) (t : Tree) (e : Element) (before : Editing) (s : Element) → s.number ≡ n → IsLeafOf t s.place → before.top ≡ element_at n t []
+    → replacing before s (e ∷ []) ≡ Recorded (with_single before.changes s.place.up (e ∷ []))
+token-recorded n t e before s number here top =
+    let put = Recorded (with_single before.changes s.place.up (e ∷ [])) in
+    let found : is_target before.top s ≡ true = ap (λ (x : Element). is_target x s) top ∙ leaf-target n t s number here in
+    let inner : is_root s.place.up ≡ false = no-root t here.0 s.place.up here.1 in
+    λ i. if not (found i) then Foreign else if inner i && not (is_one_node (e ∷ [])) then BadTarget else put
+
+pub named-recorded : (old : List ℕ) (n : ℕ) (t : Tree) (e : Element) (before : Editing) (x : SyntaxElement) (left rest : List SyntaxElement) → left ≡ x ∷ rest → AreOfTree n t left
+    → is_named old x ≡ true → before.top ≡ element_at n t [] → replacing before (element_of x) (e ∷ []) ≡ Recorded (with_single before.changes (element_of x).place.up (e ∷ []))
+named-recorded old n t e before (handles.Node s) left rest is h named top = absurd (false≢true named)
+named-recorded old n t e before (handles.Token s) left rest is h named top =
+    let own = (subst (λ (xs : List SyntaxElement). AreOfTree n t xs) is h).0 in
+    token-recorded n t e before s own.0 own.1 top
+
+-- ---- each identifier with the name that is entered has a change
+
+module _ (old : List ℕ) (n : ℕ) (ws : List Way) where
+  abbrev HasEach : List Event → Type 0
+  HasEach [] = Unit {0}
+  HasEach (Enter (Node p) ∷ v) = HasEach v
+  HasEach (Enter (Token p) ∷ v) = (is_named old (handles.Token (with_number n p)) ≡ true → has_way ws p.up ≡ true) × HasEach v
+  HasEach (Leave c ∷ v) = HasEach v
+
+  has-each : (v : List Event) → Covered old ws (map (with_cursor n) (entered v)) → HasEach v
+  has-each [] c = tt
+  has-each (Enter (Node p) ∷ v) c = has-each v c.1
+  has-each (Enter (Token p) ∷ v) c = (c.0, has-each v c.1)
+  has-each (Leave d ∷ v) c = has-each v c
+
+  each-front : (v w : List Event) → HasEach (v ++ w) → HasEach v
+  each-front [] w h = tt
+  each-front (Enter (Node p) ∷ v) w h = each-front v w h
+  each-front (Enter (Token p) ∷ v) w h = (h.0, each-front v w h.1)
+  each-front (Leave c ∷ v) w h = each-front v w h
+
+  each-back : (v w : List Event) → HasEach (v ++ w) → HasEach w
+  each-back [] w h = h
+  each-back (Enter (Node p) ∷ v) w h = each-back v w h
+  each-back (Enter (Token p) ∷ v) w h = each-back v w h.1
+  each-back (Leave c ∷ v) w h = each-back v w h
+
+  -- the text of a leaf afterwards
+  new-text : (t : Tree) (new l : Leaf) (u : Way) → AreNamed old t ws → term_by t u ≡ Some (Token l)
+      → (is_named old (handles.Token (with_number n (at t u))) ≡ true → has_way ws u ≡ true)
+      → (if has_way ws u then new else l).text ≡ (if same_leaf l (identifier old) then new.text else l.text)
+  new-text t new l u a here each = elim (cases_Bool (has_way ws u)) [
+    | inl y ↦
+        let one : Some (Token l) ≡ Some (Token (identifier old)) = sym here ∙ named-at old t ws u a y in
+        let same : l ≡ identifier old = cc in
+        ap (λ (b : Bool). (if b then new else l).text) y
+        ∙ sym (ap (λ (b : Bool). if b then new.text else l.text) (ap (λ (m : Leaf). same_leaf m (identifier old)) same ∙ (same_leaf-Decides (identifier old) (identifier old)).1 refl))
+    | inr y ↦ ap (λ (b : Bool). (if b then new else l).text) y ∙ elim (cases_Bool (same_leaf l (identifier old))) [
+      | inl z ↦ absurd (false≢true (sym y ∙ each (leaf-is old (at t u) l here ∙ z)))
+      | inr z ↦ sym (ap (λ (b : Bool). if b then new.text else l.text) z)
+    ]
+  ]
+
+  renamed : (t : Tree) (new : Leaf) (e : Element) (w : Way) (i : ℕ) (f : Forest) → AreNamed old t ws
+      → drop i (children_in (term_by t w)) ≡ terms f → HasEach (walk_forest (at t w) i f)
+      → forest_text (with_leaves (map replacement_of (map (leaf_change old new e) ws)) w i f) ≡ renamed_leaves old new.text f
+  renamed t new e w i empty a h c = refl
+  renamed t new e w i (node k f r) a h c =
+      let found = there (children_in (term_by t w)) i (Node (record { kind = k; forest = f })) (terms r) h in
+      let v = walk_forest (at t (i ∷ w)) 0 f in
+      let x = Leave (Node (at t (i ∷ w))) ∷ walk_forest (at t w) (i + 1) r in
+      let low = renamed t new e (i ∷ w) 0 f a (ap children_in found.0) (each-front v x c) in
+      let rest = renamed t new e w (i + 1) r a found.1 (each-back v x c) in
+      λ j. low j ++ rest j
+  renamed t new e w i (leaf l r) a h c =
+      let found = there (children_in (term_by t w)) i (Token l) (terms r) h in
+      let own = ap (λ (m : Leaf). m.text) (leaf-after old new e ws (i ∷ w) l) ∙ new-text t new l (i ∷ w) a found.0 c.0 in
+      let rest = renamed t new e w (i + 1) r a found.1 c.1 in
+      λ j. own j ++ rest j
+
+-- ---- the whole tree
+
+-- the new text, if all elements of a tree were taken in turn
+pub renamed-tree : (old : List ℕ) (n : ℕ) (t : Tree) (new : Leaf) (e : Element) (ms : Mapping) → term_of e ≡ Some (Token new)
+    → let top = element_at n t [] in
+    tree_text (root_of (forest_in (rewrite top (changes_after old e [] (elements top)) ms))) ≡ renamed_text old new.text t
+renamed-tree old n t new e ms is =
+    let top = element_at n t [] in
+    let ws = ways_after old [] (elements top) in
+    let gs = map (leaf_change old new e) ws in
+    let f = forest_of (terms t.forest) in
+    let v = walk_forest (at t []) 0 f ++ Leave (Node (at t [])) ∷ [] in
+    let named : AreNamed old t ws = named-tree old n t in
+    let each : HasEach old n ws (walk_forest (at t []) 0 f) =
+    each-front old n ws (walk_forest (at t []) 0 f) (Leave (Node (at t [])) ∷ []) (has-each old n ws (Enter (Node (at t [])) ∷ v) (covered old [] (elements top))) in
+    let are : changes_after old e [] (elements top) ≡ map change_of gs = changes-are old e [] (elements top) ∙ sym (changes-of old new e ws) in
+    let apart : has_collision (map change_of gs) ≡ false = ap has_collision (changes-of old new e ws) ∙ no-collision old e (elements top) in
+    let made = leaves-replaced top gs ms refl (all-replace old new e t ws named is) apart in
+    ap (λ (cs : List Change). tree_text (root_of (forest_in (rewrite top cs ms)))) are
+    ∙ ap (λ (g : Forest). tree_text (root_of g)) made.1
+    ∙ renamed old n ws t new e [] 0 t.forest named refl (subst (λ (g : Forest). HasEach old n ws (walk_forest (at t []) 0 g)) (forest_of-terms t.forest) each)
+
+-- the new text of an editor that took all elements of its tree
+pub renamed-editor :
+    (old : List ℕ) (n : ℕ) (t : Tree) (new : Leaf) (e : Element) (editor : Editing) (left : List SyntaxElement) → term_of e ≡ Some (Token new) → left ≡ []
+    → editor ≡ with_changes (untouched (element_at n t [])) editor.changes → changes_after old e editor.changes left ≡ changes_after old e [] (elements (element_at n t []))
+    → tree_text (rewritten editor) ≡ renamed_text old new.text t
+renamed-editor old n t new e editor left is none own rest =
+    let top = element_at n t [] in
+    let cs : editor.changes ≡ changes_after old e [] (elements top) = sym (ap (λ (xs : List SyntaxElement). changes_after old e editor.changes xs) none) ∙ rest in
+    ap (λ (x : Editing). tree_text (rewritten x)) (own ∙ ap (λ (xs : List Change). with_changes (untouched top) xs) cs) ∙ renamed-tree old n t new e [] is

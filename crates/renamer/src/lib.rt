@@ -1,0 +1,162 @@
+//! Renames the identifiers of a document. The contract rests on the document's.
+#![tactic(auto)]
+
+ghost use Rattle.std.specs.Prelude.{◌≡◌, ◌≤◌, ◌+◌, length, IfErr, OnOk};
+ghost use Rattle.rust_document.specs.Step.{MAX_TEXT, present};
+ghost use Rattle.renamer.specs.Plain.{IsPlain, LacksRoom};
+ghost use Rattle.renamer.specs.Renamed.{is_named, renamed_text};
+
+use parser_input::syntax_kind::SyntaxKind;
+use rust_document::{CommitError, Document, PayloadEntry, PayloadError, RecordError, payload};
+use std::alloc::{AllocError, Global};
+use syntax_tree::{SyntaxElement, TreeIds};
+use thiserror::Error;
+
+/// The error of a renaming.
+#[derive(Clone, Copy, Debug, PartialEq, Eq, Error)]
+pub enum RenameError {
+    /// The new name is no token.
+    #[error(transparent)]
+    NoToken(PayloadError),
+    /// A change is not recorded.
+    #[error(transparent)]
+    NotRecorded(RecordError),
+    /// The new text would not read as the renamed tree, or another error of a commit.
+    #[error(transparent)]
+    Refused(CommitError),
+    /// An allocation failed.
+    #[error("out of memory")]
+    NoMemory,
+}
+
+impl From<AllocError> for RenameError {
+    ghost use Rattle.renamer.specs.declared.RenameError.TheVariants.{NoMemory};
+    ghost use Rattle.std.specs.Prelude.{◌≡◌};
+
+    ghost from_gives = { λ _ e. e ≡ NoMemory };
+
+    fn from(_refused: AllocError) -> RenameError {
+        RenameError::NoMemory
+    }
+}
+
+impl From<PayloadError> for RenameError {
+    ghost use Rattle.renamer.specs.declared.RenameError.TheVariants.{NoToken};
+    ghost use Rattle.std.specs.Prelude.{◌≡◌};
+
+    ghost from_gives = { λ f e. e ≡ NoToken f };
+
+    fn from(error: PayloadError) -> RenameError {
+        RenameError::NoToken(error)
+    }
+}
+
+impl From<RecordError> for RenameError {
+    ghost use Rattle.renamer.specs.declared.RenameError.TheVariants.{NotRecorded};
+    ghost use Rattle.std.specs.Prelude.{◌≡◌};
+
+    ghost from_gives = { λ f e. e ≡ NotRecorded f };
+
+    fn from(error: RecordError) -> RenameError {
+        RenameError::NotRecorded(error)
+    }
+}
+
+impl From<CommitError> for RenameError {
+    ghost use Rattle.renamer.specs.declared.RenameError.TheVariants.{Refused};
+    ghost use Rattle.std.specs.Prelude.{◌≡◌};
+
+    ghost from_gives = { λ f e. e ≡ Refused f };
+
+    fn from(error: CommitError) -> RenameError {
+        RenameError::Refused(error)
+    }
+}
+
+/// Returns `true` if `element` is the identifier `name`.
+fn is_named(element: &SyntaxElement, name: &str) -> bool
+    ensures { result ≡ is_named name.now element.now }
+{
+    match element {
+        SyntaxElement::Token(token) => token.kind() == SyntaxKind::IDENT && token.text() == name,
+        SyntaxElement::Node(_) => false,
+    }
+}
+
+/// Renames the identifiers `old` to `new`, all at once, in macro calls too. Nothing else in the text
+/// changes. On error, `document` is unchanged.
+///
+/// If both names are plain and no identifier `old` is the prefix of a literal, only memory, tree
+/// numbers and the length of the new text can refuse it.
+pub fn rename(
+    alloc: Global,
+    document: &mut Document,
+    old: &str,
+    new: &str,
+    ids: &mut TreeIds,
+) -> Result<(), RenameError>
+    ensures text { OnOk result (document.new.text
+        ≡ renamed_text old.now new.now (present document.old)) }
+    ensures edition { OnOk result (document.new.edition ≡ document.old.edition) }
+    ensures tree { OnOk result (document.new.number ≡ ids.old + 1) }
+    ensures number { OnOk result (ids.new ≡ ids.old + 2) }
+    ensures numbers { IfErr result (λ _. (ids.old ≤ ids.new) × (ids.new ≤ ids.old + 1)) }
+    ensures plain { IfErr result (λ error. IsPlain document.old old.now new.now
+        → length (renamed_text old.now new.now (present document.old)) ≤ MAX_TEXT
+        → LacksRoom ids.old new.now error) }
+    ensures kept { IfErr result (λ _. document.new ≡ document.old) }
+{
+    let token = payload(alloc, PayloadEntry::Token, document.edition(), new, ids)?;
+    let mut editor = document.editor(alloc)?;
+    for element in document.root().descendants_with_tokens(alloc)? {
+        let element = element?;
+        if is_named(&element, old) {
+            editor.replace(alloc, &element, &token)?;
+        }
+    }
+    document.commit(alloc, editor, ids)?;
+    Ok(())
+}
+
+/// Opens a text and renames in it, as a test does.
+#[cfg(test)]
+mod tests {
+    use super::{RenameError, rename};
+    use parser_input::edition::Edition;
+    use rust_document::{CommitError, Document};
+    use std::test::Fail;
+    use syntax_tree::TreeIds;
+
+    #[test]
+    fn a_keyword_and_a_name(rt: HostRuntime) -> Result<(), Fail> {
+        let alloc = rt.alloc();
+        let mut ids = TreeIds::new();
+        let text = "struct S;\n\nfn f(s: S) -> S { s }\n";
+        let mut document = Document::open(alloc, Edition::Edition2021, text, &mut ids)?;
+        let refused = rename(alloc, &mut document, "S", "struct", &mut ids);
+        let is_kept = document.text() == text;
+        let renamed = rename(alloc, &mut document, "S", "Point", &mut ids);
+        let is_right = document.text() == "struct Point;\n\nfn f(s: Point) -> Point { s }\n";
+        drop(document);
+        assert!(rt;
+            (refused == Err(RenameError::Refused(CommitError::Unfaithful)))
+                & is_kept
+                & renamed.is_ok()
+                & is_right
+        );
+        Ok(())
+    }
+
+    #[test]
+    fn a_macro_call_and_a_comment(rt: HostRuntime) -> Result<(), Fail> {
+        let alloc = rt.alloc();
+        let mut ids = TreeIds::new();
+        let text = "fn a() { a!(a, r#a) } // a";
+        let mut document = Document::open(alloc, Edition::Edition2021, text, &mut ids)?;
+        let renamed = rename(alloc, &mut document, "a", "b", &mut ids);
+        let is_right = document.text() == "fn b() { b!(b, r#a) } // a";
+        drop(document);
+        assert!(rt; renamed.is_ok() & is_right);
+        Ok(())
+    }
+}

@@ -1,0 +1,100 @@
+//! Const arguments.
+
+ghost use Rattle.std.specs.Prelude.{◌≤◌, Bool, false, IsTrue};
+ghost use Rattle.rust_productions.specs.Looks.{tokens, Takes, Peeks, Stays};
+ghost use Rattle.rust_grammar.specs.Notation.{◌before_any◌};
+ghost use Rattle.rust_grammar.specs.Paths as rows;
+ghost use Rattle.rust_grammar.specs.Rule as rules;
+ghost use Rattle.rust_grammar.specs.Rule.{begins};
+ghost use Rattle.rust_grammar.specs.Shared.{literal_words};
+ghost use Rattle.rust_grammar.specs.Words.{'-'};
+ghost use Rattle.rust_productions.specs.Reads.{looks, Gives, Reads, Saw};
+
+use crate::grammar::names::{at_literal, literal};
+use crate::grammar::paths::at_path;
+use crate::grammar::{abandon, at, complete, current, error, nth, start, take};
+use parser_events::message::Message;
+use parser_events::parser::Parser;
+use parser_input::syntax_kind::SyntaxKind;
+
+/// Returns `true` if `-` is next, and a literal after it.
+pub fn at_negated(p: &mut Parser<'_>) -> bool
+    ensures sees { (c : Bool) → Saw c ('-' before_any literal_words) p.old result }
+    ensures some { IsTrue result → 2 ≤ tokens p.old }
+    ensures peeks { Peeks 2 p.old p.new }
+{
+    if !at(p, SyntaxKind::MINUS) {
+        return false;
+    }
+    match nth(p, 1) {
+        SyntaxKind::INT_NUMBER
+        | SyntaxKind::FLOAT_NUMBER
+        | SyntaxKind::CHAR
+        | SyntaxKind::BYTE
+        | SyntaxKind::STRING
+        | SyntaxKind::BYTE_STRING
+        | SyntaxKind::C_STRING
+        | SyntaxKind::TRUE_KW
+        | SyntaxKind::FALSE_KW => true,
+        _ => false,
+    }
+}
+
+/// Parses a `-` and the literal after it.
+// -1
+pub fn negated_literal(p: &mut Parser<'_>)
+    requires some { 2 ≤ tokens p.old }
+    ensures reads { (c : Bool) → Reads c rows.negated_literal p.old p.new }
+    ensures takes { Takes 8000 p.old p.new }
+{
+    let node = start(p);
+    take(p, SyntaxKind::MINUS);
+    literal(p);
+    complete(p, node, SyntaxKind::PREFIX_EXPR);
+}
+
+/// Returns `true` if a const argument starts here.
+pub fn at_const_arg(p: &mut Parser<'_>) -> bool
+    ensures sees { (c : Bool) → Saw c (begins looks rows.const_arg) p.old result }
+    ensures some { IsTrue result → 1 ≤ tokens p.old }
+    ensures peeks { Peeks 7 p.old p.new }
+{
+    if at_path(p) {
+        return true;
+    }
+    if at_literal(p) {
+        return true;
+    }
+    if at_negated(p) {
+        return true;
+    }
+    match current(p) {
+        SyntaxKind::L_CURLY => true,
+        _ => false,
+    }
+}
+
+/// Parses a path without a segment: emits an error within the nodes of the path.
+pub fn missing_expr_path(p: &mut Parser<'_>)
+    requires none { (c : Bool) → Saw c (looks rules.path) p.old false }
+    ensures gives { (c : Bool) → Gives rules.expr_path c p.old p.new }
+    ensures stays { Stays p.old p.new }
+{
+    let frame = start(p);
+    missing_segment(p);
+    abandon(p, frame);
+}
+
+/// Emits an error for the segment of a path, within the nodes of the path.
+fn missing_segment(p: &mut Parser<'_>)
+    requires none { (c : Bool) → Saw c (looks rules.path) p.old false }
+    ensures reads { (c : Bool) → Reads c (rows.first_segment rows.expr_args) p.old p.new }
+    ensures ends { (c : Bool) → Saw c (looks rules.path) p.new false }
+    ensures stays { Stays p.old p.new }
+{
+    let path = start(p);
+    let segment = start(p);
+    error(p, Message::Expected(SyntaxKind::NAME_REF));
+    complete(p, segment, SyntaxKind::PATH_SEGMENT);
+    complete(p, path, SyntaxKind::PATH);
+}

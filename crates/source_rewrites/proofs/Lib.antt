@@ -1,0 +1,3 @@
+pub mod RewriteLemmas
+pub mod CommandLemmas
+pub mod MemberLemmas
