@@ -1,4 +1,5 @@
-"""Tests of docs/GUIDE.md: its code is in the sources, and its tables of what is read are those of a test."""
+"""Tests of docs/GUIDE.md: its code is in the sources, and its tables of what is read are those of a test. Of docs/ARCHITECTURE.md: the files of
+definitions that it names exist."""
 import os
 import re
 import unittest
@@ -13,6 +14,7 @@ TABLE = re.compile(r"^\| construct \| example \|(?: whole language \|)?\n(?:\|--
 CELL = re.compile(r"^\| .*? \| (`+) ?(.*?) ?\1 \|(?: (?:yes|no) \|)?$", re.M)
 CONSTANT = re.compile(r"^const \w+: &\[&str\] = &\[\n(.*?)^\];", re.M | re.S)
 TEXT = re.compile(r'^    "(.*)",$', re.M)
+SPECS = re.compile(r"`(\w+)/specs/(?:\{([^}]*)\}|(\w+))`")
 
 
 def read(path):
@@ -42,6 +44,17 @@ class Guide(unittest.TestCase):
         rows = [[text.replace('\\"', '"').replace("\\\\", "\\") for text in TEXT.findall(body)] for body in CONSTANT.findall(read(ROWS))]
         self.assertEqual(len(tables), 2)
         self.assertEqual(tables, rows)
+
+
+class Architecture(unittest.TestCase):
+    """Are the files that the map names there?"""
+
+    def test_files_of_definitions_exist(self):
+        named = SPECS.findall(read(f"{TOP}/docs/ARCHITECTURE.md"))
+        self.assertGreaterEqual(len(named), 50)
+        for crate, group, single in named:
+            for name in (group or single).split(","):
+                self.assertTrue(os.path.isfile(f"{TOP}/crates/{crate}/specs/{name}.antt"), f"{crate}/specs/{name}")
 
 
 if __name__ == "__main__":
