@@ -24,7 +24,8 @@ USE = re.compile(r"^(pub )?use Rattle\.(\w+)\.specs\.([\w.]+?)(?:\.\{([^}]*)\}| 
 HEAD = re.compile(r"^( *)(?:(?:abbrev|unfoldable|opaque|pub|private) +)*(?:(data|record) +([^\s(){}:]+)|([^\s(){}:]+|'[^' ]+') +:(?: |$))")
 BLOCK = re.compile(r"^(?:abbrev )?(?:mutual|module)\b")
 IMPL = re.compile(r"^impl\b(?:<.*?>)? ?(.*?) for ([\w:]+).*?\{", re.S)
-GHOST = re.compile(r"^ +ghost (?!use\b|invariant\b|laws\b|coded\b)\w+ = (.*?);$", re.M | re.S)
+# What an impl says of a trait's items; the others are proofs.
+GHOST = re.compile(r"^ +ghost (?!(?:use|invariant|laws|coded|size|size_decreases|respects_eq|undoes)\b)\w+ = (.*?);$", re.M | re.S)
 CLAUSES = re.compile(r"^ *(?:ensures|requires)\b.*", re.M | re.S)
 LABEL = re.compile(r"\b(?:ensures|requires) +\w* *\{")
 SPLIT = re.compile(r"[\s(){},;]+")
@@ -37,7 +38,7 @@ HEADLINE = """# Definitions to believe
 - *laws*: only contracts of public laws cite it (a law does nothing: its contract is the statement).
 - *proofs*: no public contract cites it. It serves private functions and proofs, which `rt check` judges: no reader has to believe it.
 
-What each file is about, its first comment says; [`ARCHITECTURE.md`](ARCHITECTURE.md#definitions) has them by subject.
+The model of a type counts as cited where a contract speaks of the type; its invariant does not, since it is proved. Crates of tests are not listed. What each file is about, its first comment says; [`ARCHITECTURE.md`](ARCHITECTURE.md#definitions) has them by subject.
 
 | crate | documents | crates | laws | proofs |
 |---|---|---|---|---|
@@ -100,7 +101,7 @@ class Spec:
         self.file, lines = (crate, name), without_comments(text).splitlines()
         self.names = Names(lines)
         self.home, self.texts, shared = {}, {}, []
-        current, in_block, in_data = None, False, False
+        current, in_block = None, False
         for line in lines:
             if not line.strip() or USE.match(line):
                 continue
@@ -112,8 +113,8 @@ class Spec:
             found = HEAD.match(line)
             if found:
                 indent, kind, name = len(found[1]), found[2], found[3] or found[4]
-                if indent == 0 or in_block and indent == 2 and not in_data or kind:
-                    current, in_data = name, bool(kind)
+                if indent == 0 or in_block and indent == 2 or kind:
+                    current = name
                 self.home.setdefault(name, set()).add(current or name)
             if current:
                 self.texts[current] = self.texts.get(current, "") + line + "\n"
