@@ -172,9 +172,10 @@ class Crate:
             self.exported.update((name, module) for name in (names_in(group) if group else [single]))
         self.types, self.homes, self.functions = {}, {}, []
         sources = [(True, Source("", head))] + [(bool(public), source) for public, module in self.modules for source in self.files(folder, module)]
+        self.sources = [source for _, source in sources]
         for is_public, source in sources:
             self.add(is_public, source)
-        for _, source in sources:
+        for source in self.sources:
             self.fill(source)
 
     @staticmethod
