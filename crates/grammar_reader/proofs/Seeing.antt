@@ -164,12 +164,12 @@ saw-without l m {c} {fs} {v} known saw excludes = record { at = λ s e. one s (s
 
 -- where a function pointer type is next, its rule begins
 pub fn-ptr-begins : {c : Bool} {v : View} → Saw c fn_ptr_begins v true → Saw c (begins looks fn_ptr_type) v true
-unfolding begins sees one_of any_of row no_longer longest is_longer there_at is_silent passes shift
+unfolding begins anew sees one_of any_of row no_longer longest is_longer there_at is_silent passes shift
 fn-ptr-begins {c} {v} saw = record { at = λ s e. one s ((ahead 0 s.rest).kind == FN_KW) ((ahead 0 s.rest).kind == UNSAFE_KW) ((ahead 0 s.rest).kind == EXTERN_KW) refl refl refl (saw.at s e) }
   where
     one : (s : Reading) (f u x : Bool) → ((ahead 0 s.rest).kind == FN_KW) ≡ f → ((ahead 0 s.rest).kind == UNSAFE_KW) ≡ u → ((ahead 0 s.rest).kind == EXTERN_KW) ≡ x
         → sees c s fn_ptr_begins ≡ true → sees c s (begins looks fn_ptr_type) ≡ true
     one s f true x is iu ix there = rw iu refl
     one s f false true is iu ix there = rw (iu, ix) refl
-    one s true false false is iu ix there = rw (is, iu, ix) refl
+    one s true false false is iu ix there = rw (iu, ix, is) refl
     one s false false false is iu ix there = absurd (let z : false ≡ true = rw (is, iu, ix) at there in cc)

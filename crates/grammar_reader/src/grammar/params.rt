@@ -63,7 +63,7 @@ pub(crate) fn param(p: &mut Parser<'_>, condition: bool)
     requires begins { (c : Bool) → Saw c (looks rules.param) p.old true }
     requires some { 1 ≤ tokens p.old }
     ensures gives { Gives rules.param condition p.old p.new }
-    ensures takes { Takes 2880 p.old p.new }
+    ensures takes { Takes 2860 p.old p.new }
 {
     if at_new_param(p) {
         new_param(p, condition);
@@ -206,7 +206,7 @@ fn pattern_param(p: &mut Parser<'_>, condition: bool)
     requires begins { (c : Bool) → Saw c (looks rules.pattern) p.old true }
     requires some { 1 ≤ tokens p.old }
     ensures reads { Reads condition rows.pattern_param p.old p.new }
-    ensures takes { Takes 2883 p.old p.new }
+    ensures takes { Takes 2880 p.old p.new }
 {
     let node = start(p);
     pattern(p);

@@ -2766,6 +2766,9 @@ fields::after_attributes-complete-requires-then-at_attributed_named_field = fiel
 pub fields::after_attributes-complete-requires-2 : goal.fields::after_attributes-complete-requires-2
 fields::after_attributes-complete-requires-2 = fields.fields::after_attributes-complete-requires-2
 
+pub attributes::outer_attributes-attribute-requires : goal.attributes::outer_attributes-attribute-requires
+attributes::outer_attributes-attribute-requires = attributes.attributes::outer_attributes-attribute-requires
+
 pub attributes::outer_attributes-turns-preserved : goal.attributes::outer_attributes-turns-preserved
 attributes::outer_attributes-turns-preserved = attributes.attributes::outer_attributes-turns-preserved
 

@@ -1030,7 +1030,7 @@ abbrev pub decreases-patterns::qualified_pat : goal.decreases-patterns::qualifie
 decreases-patterns::qualified_pat l = 512 * tokens l.p.now + 3
 
 abbrev pub decreases-attributes::outer_attributes : goal.decreases-attributes::outer_attributes
-decreases-attributes::outer_attributes l = 512 * tokens l.p.now
+decreases-attributes::outer_attributes l = 512 * tokens l.p.now + 1
 
 abbrev pub decreases-attributes::path_meta : goal.decreases-attributes::path_meta
 decreases-attributes::path_meta l = 512 * tokens l.p.now

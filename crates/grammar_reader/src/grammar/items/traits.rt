@@ -29,7 +29,7 @@ pub(crate) fn impl_item(p: &mut Parser<'_>, item: Marker, condition: bool)
     requires begins { Starts rows.impl_begins p.old }
     requires innermost { IsInnermost item p.old.nodes }
     ensures completes { Completes condition rows.impl_item p.old p.new }
-    ensures takes { Takes 4070 p.old p.new }
+    ensures takes { Takes 4060 p.old p.new }
 {
     unsafe_word(p, SyntaxKind::IMPL_KW);
     after_impl(p);

@@ -94,3 +94,6 @@ attributes::unsafe_meta-returns-clause-reads t c = reads-node c.args.condition c
 
 pub attributes::unsafe_meta-complete-requires : goal.attributes::unsafe_meta-complete-requires
 attributes::unsafe_meta-complete-requires t c = (c.expect-2.ensures.reads true).does.innermost _ (c.opt_value.ensures.reads.does.innermost _ ((c.expect_path.ensures.reads true).does.innermost _ ((c.expect.ensures.reads true).does.innermost _ ((c.take.ensures.reads true).does.innermost _ (c.start-meta.ensures.marker)))))
+
+pub attributes::outer_attributes-attribute-requires : goal.attributes::outer_attributes-attribute-requires
+attributes::outer_attributes-attribute-requires t c = (omega (arith, c.turns.invariant.left, c.at_new.ensures.peeks.left), omega (arith, c.at_new.ensures.some c.turns-test.true, c.at_new.ensures.peeks.left))
