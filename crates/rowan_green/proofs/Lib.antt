@@ -1,5 +1,6 @@
 pub mod Lengths
 pub mod Counts
+pub mod Dropping
 pub mod Refusals
 pub mod OpenNodeLemmas
 pub mod Found

@@ -35,9 +35,32 @@ const _: () = prove!(size_of::<NodeData>() == 40);
 
 /// A node of a green tree. A clone shares the kind and the children; cloning does not allocate.
 #[cycle(green)]
-#[derive(Drop)]
 pub struct GreenNode {
     shared: Rc<NodeData>,
+}
+
+// A loop goes on with one child, and only the other children are dropped by calls. Those have at
+// most half of the node's text each, so the calls nest to the logarithm of the text's length.
+impl Drop for GreenNode {
+    #[cycle(node_drop)]
+    fn drop(mut self) {
+        'down: loop {
+            let GreenNode { shared } = self;
+            let Some(data) = Rc::into_inner(shared) else {
+                return;
+            };
+            let NodeData {
+                kind: _,
+                fingerprint: _,
+                text_len: _,
+                children,
+            } = data;
+            match children.into_longest() {
+                Some(node) => self = node,
+                None => return,
+            }
+        }
+    }
 }
 
 impl Model for GreenNode {
