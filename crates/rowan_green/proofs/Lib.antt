@@ -1,4 +1,5 @@
 pub mod Lengths
+pub mod Comparing
 pub mod Counts
 pub mod Dropping
 pub mod Refusals
