@@ -1,5 +1,7 @@
 //! What no contract says: that calls succeed where memory is ample, the worked cases, and that a
 //! refused growth is answered with `NoMemory` and changes nothing.
+mod deep;
+
 use rowan_green::{
     GreenElement, GreenError, GreenNode, GreenNodeBuilder, GreenToken, NodeCache, NodeOrToken,
     SyntaxKind, TextRange, TextSize,

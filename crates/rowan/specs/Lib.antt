@@ -18,4 +18,5 @@ pub mod Text
 pub mod Pieces
 pub mod Reading
 pub mod Comparing
+pub mod Matching
 pub mod Debug

@@ -33,9 +33,29 @@ enum Spot {
 
 /// A node where it stands. A clone shares the way up to the root, and takes no memory.
 #[cycle(cursor)]
-#[derive(Drop)]
 pub struct SyntaxNode {
     shared: Rc<NodeData>,
+}
+
+// A loop, since a derived drop would take a call for each node on the way up.
+impl Drop for SyntaxNode {
+    fn drop(mut self) {
+        'up: loop {
+            let SyntaxNode { shared } = self;
+            let Some(data) = Rc::into_inner(shared) else {
+                return;
+            };
+            let NodeData {
+                green: _,
+                offset: _,
+                spot,
+            } = data;
+            match spot {
+                Spot::Root => return,
+                Spot::Child(parent, _) => self = parent,
+            }
+        }
+    }
 }
 
 impl Model for SyntaxNode {
@@ -318,11 +338,17 @@ impl Clone for SyntaxToken {
 pub(crate) fn same_way(a: &SyntaxNode, b: &SyntaxNode) -> bool
     ensures { result ≡ pointwise nat_eq a.now.up b.now.up }
 {
-    match (&a.shared.spot, &b.shared.spot) {
-        (Spot::Root, Spot::Root) => true,
-        (Spot::Child(above_a, i), Spot::Child(above_b, j)) => *i == *j
-            && same_way(above_a, above_b),
-        _ => false,
+    let mut one = a;
+    let mut two = b;
+    'up: loop {
+        match (&one.shared.spot, &two.shared.spot) {
+            (Spot::Root, Spot::Root) => return true,
+            (Spot::Child(above, i), Spot::Child(other, j)) if *i == *j => {
+                one = above;
+                two = other;
+            }
+            _ => return false,
+        }
     }
 }
 
@@ -330,9 +356,10 @@ pub(crate) fn same_way(a: &SyntaxNode, b: &SyntaxNode) -> bool
 pub(crate) fn hash_way<H: Hasher>(node: &SyntaxNode, state: &mut H)
     ensures { state.new ≡ fold H.write state.old (numbers_fed node.now.up) }
 {
-    if let Spot::Child(above, index) = &node.shared.spot {
+    let mut here = node;
+    'up: while let Spot::Child(above, index) = &here.shared.spot {
         index.hash(state);
-        hash_way(above, state);
+        here = above;
     }
 }
 

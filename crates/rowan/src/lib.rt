@@ -11,6 +11,10 @@
 //! Steps to a sibling that is a node pass over the tokens between. Comparing two cursors reads both
 //! roots.
 //!
+//! A cursor is dropped, compared and hashed by loops. Comparing a text with a string and finding the
+//! character at an offset nest calls to the binary logarithm of the text's length at most; printing a
+//! text, reading its chunks and comparing two texts go one call deeper for each level of the tree.
+//!
 //! What makes cursors wants memory, so it answers a `Result`. An iterator gives one `Err`, and then
 //! ends.
 #![tactic(auto)]
@@ -36,6 +40,7 @@ pub mod ptr;
 mod replace;
 pub mod syntax_children;
 pub mod syntax_text;
+mod text_bytes;
 mod text_chunks;
 mod text_compare;
 mod text_search;

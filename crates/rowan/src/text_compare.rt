@@ -9,39 +9,8 @@ ghost use Rattle.rowan.specs.Comparing.{IsStretch, IsHead, Passes, PassesBoth, D
 
 use crate::chunks::Part;
 use crate::syntax_text::SyntaxText;
+use crate::text_bytes::has_bytes;
 use rowan_green::{GreenElement, GreenNode, GreenToken, NodeOrToken};
-
-/// Whether these bytes stand in a node's text after the first `skip`. Goes down only where they
-/// would stand.
-fn has_bytes(node: &GreenNode, skip: usize, bytes: &[u8]) -> bool
-    ensures { result ≡ bytes_eq (take (length bytes.now) (drop skip (tree_text node.now))) bytes.now }
-{
-    let mut offset = skip;
-    let mut left = bytes;
-    for child in node.children() {
-        if left.is_empty() {
-            return true;
-        }
-        let size = child.text_len().0 as usize;
-        if size <= offset {
-            offset -= size;
-            continue;
-        }
-        let (here, after) = left.split_at(left.len().min(size - offset));
-        let same = match child {
-            NodeOrToken::Node(node) => has_bytes(node, offset, here),
-            NodeOrToken::Token(token) => {
-                &token.text().as_bytes()[offset..offset + here.len()] == here
-            }
-        };
-        if !same {
-            return false;
-        }
-        offset = 0;
-        left = after;
-    }
-    left.is_empty()
-}
 
 /// A stretch of a node's text, read from its front: `left` bytes that begin `offset` bytes after
 /// the start of the child of number `index`.

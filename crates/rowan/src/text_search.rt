@@ -81,13 +81,22 @@ fn char_in(node: &GreenNode, byte: u32, end: u32) -> Option<char>
     requires before { byte < end }
     ensures { IsCharAt (take end (tree_text node.now)) byte result }
 {
-    let found = node.child_at_offset(TextSize(byte))?;
-    let child = node.child(found.index)?;
-    let offset = byte - found.start.0;
-    let within = (end - found.start.0).min(child.text_len().0);
-    match child {
-        NodeOrToken::Node(node) => char_in(node, offset, within),
-        NodeOrToken::Token(token) => char_of(&token.text()[..within as usize], offset),
+    let mut inside = node;
+    let mut byte = byte;
+    let mut end = end;
+    'down: loop {
+        let found = inside.child_at_offset(TextSize(byte))?;
+        let child = inside.child(found.index)?;
+        let offset = byte - found.start.0;
+        let within = (end - found.start.0).min(child.text_len().0);
+        match child {
+            NodeOrToken::Node(node) => {
+                inside = node;
+                byte = offset;
+                end = within;
+            }
+            NodeOrToken::Token(token) => return char_of(&token.text()[..within as usize], offset),
+        }
     }
 }
 

@@ -1,5 +1,7 @@
 pub mod Lengths
+pub mod Comparing
 pub mod Counts
+pub mod Dropping
 pub mod Refusals
 pub mod OpenNodeLemmas
 pub mod Found

@@ -10,3 +10,4 @@ pub mod OpenNodes
 pub mod ChildAt
 pub mod Balanced
 pub mod Falls
+pub mod Comparing

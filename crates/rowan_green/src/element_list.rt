@@ -1,12 +1,14 @@
 //! The children of a node: a balanced tree over blocks of them, whose parts lists share.
 ghost use Rattle.std.specs.Prelude.{◌≡◌, ◌≢◌, ◌+◌, ◌*◌, ◌<◌, ◌≤◌, ◌^◌, ◌++◌, max, length, slice_get, slice_index_or, take, IfOk, IfSome, OnOk, MatchOption, drop, [], ◌∷◌};
 ghost use Rattle.std.specs.Option.{option_copied};
-ghost use Rattle.rowan_green.specs.Term.{texts_of, FitsNode};
+ghost use Rattle.rowan_green.specs.Forest.{tree_count, forest_count};
+ghost use Rattle.rowan_green.specs.Term.{forest_of, texts_of, FitsNode};
 ghost use Rattle.rowan_green.specs.ChildAt.{IsChildAt};
 ghost use Rattle.rowan_green.specs.Balanced.{fewest, IsJoined};
 
 use crate::element::GreenElement;
-use crate::element_search::{Place, find_in_block};
+use crate::element_search::{Place, find_in_block, longest_node};
+use crate::node::GreenNode;
 use std::alloc::{AllocError, Global};
 use std::marker::Model;
 use std::rc::Rc;
@@ -234,6 +236,40 @@ impl ElementList {
             Link::Block(_, elements) => elements,
             Link::One(_) => unreachable!(),
             Link::Fork(_, _, _, _, _) => unreachable!(),
+        }
+    }
+
+    /// Drops the elements except one node, which it returns: of a fork it drops the side with the
+    /// shorter text, of a block all but the node with the longest text. Returns `None` if no node
+    /// is left, or if another list shares the side that is left.
+    #[cycle(node_drop)]
+    pub(crate) fn into_longest(self) -> Option<GreenNode>
+        ensures { IfSome result (λ n. tree_count n ≤ forest_count (forest_of self.0)) }
+    {
+        let mut list = self;
+        'down: loop {
+            let ElementList { link } = list;
+            match link {
+                Link::One(element) => return element.into_node(),
+                Link::Block(_, elements) => {
+                    let mut elements = elements;
+                    let index = longest_node(&elements)?;
+                    return elements.swap_remove(index).into_node();
+                }
+                Link::Fork(_, left, right, _, _) => {
+                    let (long, short) = if left.text_len() < right.text_len() {
+                        (right, left)
+                    } else {
+                        (left, right)
+                    };
+                    drop(short);
+                    let Part {
+                        text_len: _,
+                        list: inner,
+                    } = Rc::into_inner(long)?;
+                    list = inner;
+                }
+            }
         }
     }
 

@@ -1,10 +1,11 @@
 //! The element of a block at an offset in its text.
-ghost use Rattle.std.specs.Prelude.{◌≡◌, ◌+◌, ◌<◌, ◌≤◌, ◌^◌, ◌/◌, length, take};
+ghost use Rattle.std.specs.Prelude.{◌≡◌, ◌+◌, ◌<◌, ◌≤◌, ◌^◌, ◌/◌, length, take, IfSome};
 ghost use Rattle.rowan_green.specs.Term.{texts_of};
 ghost use Rattle.rowan_green.specs.ChildAt.{IsChildAt};
 
 use crate::element::GreenElement;
 use crate::element_list::FEWEST;
+use crate::utility_types::NodeOrToken;
 
 /// The element at an offset: its number, where it starts, and how many lengths were looked at.
 #[derive(Clone, Copy)]
@@ -75,4 +76,22 @@ fn find_by_scan(elements: &[GreenElement], offset: u32) -> Place
         start = end;
     }
     unreachable!()
+}
+
+/// Returns the index of the first node with the longest text, or `None` if no element is a node.
+pub(crate) fn longest_node(elements: &[GreenElement]) -> Option<usize>
+    ensures { IfSome result (λ i. i < length elements.now) }
+{
+    let mut best = None;
+    let mut most = 0;
+    for index in 0..elements.len() {
+        if let NodeOrToken::Node(node) = &elements[index] {
+            let len = node.text_len().0;
+            if best.is_none() || len > most {
+                best = Some(index);
+                most = len;
+            }
+        }
+    }
+    best
 }

@@ -8,8 +8,9 @@
 //! `children` take constant time, and `child`, `child_at_offset` and each step through the children
 //! that of the list's height, which is 0 for up to 16 children. An edit takes the time of the new
 //! children and of a few ways through the list, whose other parts it shares; a build that of its
-//! calls. Equality reads both values through. Dropping, printing and comparing go one call deeper
-//! for each level.
+//! calls. Equality reads both values through. Printing goes one call deeper for each level. Dropping
+//! and comparing go on with the longest child by a loop: their calls nest to the binary logarithm of
+//! the text's length, and as deep as nodes without text lie in one another.
 #![tactic(auto)]
 
 pub mod builder;
@@ -19,6 +20,7 @@ pub mod element;
 mod element_list;
 mod element_list_join;
 mod element_search;
+mod equality;
 pub mod error;
 mod fingerprint;
 pub mod node;

@@ -10,6 +10,7 @@ ghost use Rattle.rowan_green.specs.Refusal.{RefusesUnless};
 use crate::child_at::ChildAt;
 use crate::element::GreenElement;
 use crate::element_list::{ElementList, MOST, Part};
+use crate::equality::same_node;
 use crate::error::GreenError;
 use crate::fingerprint::{self, Fingerprint, SmallNode};
 use crate::node_children::Children;
@@ -35,9 +36,32 @@ const _: () = prove!(size_of::<NodeData>() == 40);
 
 /// A node of a green tree. A clone shares the kind and the children; cloning does not allocate.
 #[cycle(green)]
-#[derive(Drop)]
 pub struct GreenNode {
     shared: Rc<NodeData>,
+}
+
+// A loop goes on with one child, and only the other children are dropped by calls. Those have at
+// most half of the node's text each, so the calls nest to the logarithm of the text's length.
+impl Drop for GreenNode {
+    #[cycle(node_drop)]
+    fn drop(mut self) {
+        'down: loop {
+            let GreenNode { shared } = self;
+            let Some(data) = Rc::into_inner(shared) else {
+                return;
+            };
+            let NodeData {
+                kind: _,
+                fingerprint: _,
+                text_len: _,
+                children,
+            } = data;
+            match children.into_longest() {
+                Some(node) => self = node,
+                None => return,
+            }
+        }
+    }
 }
 
 impl Model for GreenNode {
@@ -349,53 +373,6 @@ pub(crate) fn fitting_len(children: &[GreenElement]) -> Option<u32>
         text_len = text_len.checked_add(child.text_len().0)?;
     }
     Some(text_len)
-}
-
-#[cycle(same)]
-fn same_node(a: &GreenNode, b: &GreenNode) -> bool
-    ensures { result ≡ same_tree a.now b.now }
-{
-    a.shared.kind == b.shared.kind && same_lists(&a.shared.children, &b.shared.children)
-}
-
-#[cycle(same)]
-fn same_lists(a: &ElementList, b: &ElementList) -> bool
-    ensures { result ≡ same_forest (forest_of a.now.0) (forest_of b.now.0) }
-{
-    if a.len() != b.len() {
-        return false;
-    }
-    for i in 0..a.len() {
-        if !same_element(a.at(i), b.at(i)) {
-            return false;
-        }
-    }
-    true
-}
-
-pub(crate) fn same_elements(a: &[GreenElement], b: &[GreenElement]) -> bool
-    ensures { result ≡ same_forest (forest_of a.now) (forest_of b.now) }
-{
-    if a.len() != b.len() {
-        return false;
-    }
-    for i in 0..a.len() {
-        if !same_element(&a[i], &b[i]) {
-            return false;
-        }
-    }
-    true
-}
-
-#[cycle(same)]
-pub(crate) fn same_element(a: &GreenElement, b: &GreenElement) -> bool
-    ensures { result ≡ same_term a.now b.now }
-{
-    match (a, b) {
-        (NodeOrToken::Node(a), NodeOrToken::Node(b)) => same_node(a, b),
-        (NodeOrToken::Token(a), NodeOrToken::Token(b)) => a == b,
-        _ => false,
-    }
 }
 
 impl Clone for GreenNode {

@@ -7,9 +7,10 @@ ghost use Rattle.rowan_green.specs.Term.{tree_of, FitsToken, FitsNode};
 ghost use Rattle.rowan_green.specs.Refusal.{RefusesUnless};
 
 use crate::element::GreenElement;
+use crate::equality::{same_element, same_elements};
 use crate::error::GreenError;
 use crate::fingerprint::{self, SmallNode};
-use crate::node::{GreenNode, same_element, same_elements};
+use crate::node::GreenNode;
 use crate::syntax_kind::SyntaxKind;
 use crate::token::GreenToken;
 use std::alloc::{AllocError, Global};
