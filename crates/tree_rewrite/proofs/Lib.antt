@@ -23,3 +23,4 @@ pub mod PutMarkLemmas
 pub mod RangeLemmas
 pub mod WayMapLemmas
 pub mod HeldLemmas
+pub mod ListedLemmas

@@ -19,3 +19,4 @@ pub mod Puts
 pub mod Growing
 pub mod WayMap
 pub mod Held
+pub mod Listed

@@ -21,6 +21,7 @@ pub mod laws;
 pub mod lists;
 pub mod moved;
 pub mod nesting;
+mod on_payloads;
 pub mod origins;
 pub mod piece;
 pub mod plan;
