@@ -1,11 +1,11 @@
 -- What the code goes by that lists what was put in by the sheets of payloads.
-use Rattle.std.proofs.Common.{◌≡◌, ℕ, zero, suc, ◌+◌, ◌≤◌, ◌<◌, List, [], ◌∷◌, ◌++◌, length, reverse, Option, Some, None, Bool, true, false, cond, refl, ap, sym, ◌∙◌, arith, subst, slice_get, append_assoc, append-nil}
+use Rattle.std.proofs.Common.{◌≡◌, ℕ, zero, suc, ◌≤◌, ◌<◌, List, [], ◌∷◌, ◌++◌, length, reverse, Option, Some, None, Bool, true, false, cond, refl, ap, sym, ◌∙◌, arith, subst, slice_get, append_assoc, append-nil}
 use Rattle.std.proofs.lemmas.List.{reverse-append}
 use Rattle.syntax_tree.specs.Element.{Way, same_way}
 use Rattle.tree_rewrite.specs.Rewrite.{Job, same_sheet, puts, terms_of}
-use Rattle.tree_rewrite.specs.Fill.{Given, IsGiven, AreGiven, HaveGiven, HavePut}
+use Rattle.tree_rewrite.specs.Fill.{Given, IsGiven, AreGiven}
 use Rattle.tree_rewrite.specs.Below.{OnSheet}
-use Rattle.tree_rewrite.specs.Listed.{count_to, IsChain, no_more, one_more, HaveChains, IsListedAt, IsListed}
+use Rattle.tree_rewrite.specs.Listed.{count_to, IsChain, no_more, one_more, IsListedAt, IsListed}
 use Rattle.tree_rewrite.specs.WayMap.{number_at}
 use Rattle.tree_rewrite.specs.declared.piece.Put.{Put}
 use Rattle.tree_rewrite.specs.declared.on_payloads.OnPayloads.{OnPayloads}

@@ -29,4 +29,5 @@ mod put;
 pub mod sheet;
 pub mod tree_change;
 pub mod way_map;
+pub mod way_trie;
 pub mod ways;

@@ -1,4 +1,4 @@
-use Rattle.std.proofs.Common.{◌≡◌, ℕ, [], ◌∷◌, Option, None, refl, ap, sym, subst, List, length, ◌∙◌}
+use Rattle.std.proofs.Common.{◌≡◌, ℕ, [], Option, None, refl, ap, sym, subst, length}
 use Rattle.std.specs.Map.{lookup}
 use Rattle.syntax_tree.specs.Element.{Way, same_way}
 use Rattle.tree_rewrite.specs.Listed.{IsChain, no_more}

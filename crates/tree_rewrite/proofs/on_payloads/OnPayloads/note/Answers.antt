@@ -1,5 +1,5 @@
 -- What a job puts in is the last on the sheet on which the job is made, and on no other.
-use Rattle.std.proofs.Common.{◌≡◌, ℕ, List, ◌∷◌, ◌++◌, [], Some, None, refl, sym, ap, ◌∙◌, Option, cond, length, arith}
+use Rattle.std.proofs.Common.{◌≡◌, ℕ, List, ◌∷◌, ◌++◌, [], Some, refl, sym, ap, ◌∙◌, Option, cond, length, arith}
 use Rattle.syntax_tree.specs.Element.{same_way}
 use Rattle.tree_rewrite.specs.Recorded.{way_of}
 use Rattle.tree_rewrite.specs.WayMap.{number_at}

@@ -1,9 +1,8 @@
 -- From the last number on, each with the one before it, until there is none.
-use Rattle.std.proofs.Common.{◌≡◌, ℕ, List, ◌++◌, ◌∷◌, [], ◌<◌, suc, reverse, Option, Some, None, slice_get, refl, sym, ap, ◌∙◌, subst, arith, append-nil}
+use Rattle.std.proofs.Common.{◌≡◌, ℕ, List, ◌++◌, suc, reverse, Option, Some, sym, ap, ◌∙◌, subst, arith}
 use Rattle.std.specs.Option.{option_copied}
 use Rattle.tree_rewrite.specs.Below.{OnSheet}
 use Rattle.tree_rewrite.specs.Listed.{count_to, IsChain}
-use Rattle.tree_rewrite.specs.WayMap.{number_at}
 use Rattle.tree_rewrite.proofs.ListedLemmas.{ChainStep, chain_step, chain_stands, chain_end, all_left, one_taken}
 use Rattle.tree_rewrite.proofs.on_payloads.OnPayloads.numbers.Goals as goal
 
