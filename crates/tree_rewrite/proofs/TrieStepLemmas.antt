@@ -1,10 +1,11 @@
 -- What the code of a trie goes by.
-use Rattle.std.proofs.Common.{◌≡◌, ℕ, suc, ◌+◌, ◌≤◌, List, [], ◌∷◌, ◌++◌, length, set, drop, slice_index, Option, Some, None, option_and_then, is_some, true, false, ◌&&◌, cond, eqb, refl, ap, sym, ◌∙◌, arith, subst}
+use Rattle.std.proofs.Common.{◌||◌, Bool, leb, ltb, ◌≡◌, ℕ, suc, ◌+◌, ◌≤◌, List, [], ◌∷◌, ◌++◌, length, set, drop, slice_index, Option, Some, None, option_and_then, is_some, true, false, ◌&&◌, cond, eqb, refl, ap, sym, ◌∙◌, arith, subst}
 use Rattle.std.proofs.lemmas.Bool.{false≢true}
 use Rattle.std.proofs.lemmas.List.{length_push, length-set}
 use Rattle.syntax_tree.specs.Element.{Way, same_way}
 use Rattle.tree_rewrite.specs.WayTrie.{child_in, node_by, number_of, node_at, number_at, IsTrie, IsSound, HasNode}
-use Rattle.tree_rewrite.specs.Held.{IsPut, IsTaken}
+use Rattle.tree_rewrite.specs.Change.{covers}
+use Rattle.tree_rewrite.specs.Held.{IsPut, IsTaken, is_among}
 use Rattle.tree_rewrite.specs.declared.way_trie.WayTrie.{WayTrie}
 use Rattle.tree_rewrite.proofs.OrderLemmas.{same_way-sound, same_way-own}
 use Rattle.tree_rewrite.proofs.TrieLemmas.{number_put, trie_more, node_new, node_kept, number_kept, way_step, way_top}
@@ -82,3 +83,43 @@ module _ (t s r : WayTrie) (v : Way) (k number : ℕ) (has : HasNode v k t s) (n
 
 pub put_sound : (s : WayTrie) (k number : ℕ) → IsSound s → IsTrie (child_in s.children) (length (set s.numbers.items k (Some number)))
 put_sound s k number sound = subst (IsTrie (child_in s.children)) (sym (length-set s.numbers.items k (Some number))) sound
+
+-- ---- a row
+among_more : (a k : ℕ) (p w : Way) → is_among a p (k + 1) w ≡ (same_way ((a + k) ∷ p) w || is_among a p k w)
+among_more a k p [] = refl
+among_more a k p (i ∷ w) = by_above (same_way p w)
+  where
+    by_above : (b : Bool) → (b && (leb a i && ltb i (a + (k + 1)))) ≡ ((eqb (a + k) i && b) || (b && (leb a i && ltb i (a + k))))
+    by_above false = grind arith
+    by_above true = grind arith
+
+module _ (a k : ℕ) (p : Way) (number : ℕ) (m s r : WayTrie) (one : IsPut (is_among a p k) number m s) (two : IsPut (same_way ((a + k) ∷ p)) number s r) where
+  free_more : (w : Way) (x y : Bool) → same_way ((a + k) ∷ p) w ≡ x → is_among a p k w ≡ y → (x || y) ≡ true → number_at m w ≡ None
+  free_more w x true e d h = one.free w d
+  free_more w false false e d h = absurd (false≢true h)
+  free_more w true false e d h = sym (one.put w ∙ ap (λ b. cond b (Some number) (number_at m w)) d) ∙ two.free w e
+
+  both : (x y : Bool) (n o : Option ℕ) → cond x n (cond y n o) ≡ cond (x || y) n o
+  both true y n o = refl
+  both false y n o = refl
+
+  pub row_more : IsPut (is_among a p (k + 1)) number m r
+  row_more = record {
+    free = λ w h. free_more w (same_way ((a + k) ∷ p) w) (is_among a p k w) refl refl (sym (among_more a k p w) ∙ h);
+    put = λ w.
+        two.put w
+        ∙ ap (cond (same_way ((a + k) ∷ p) w) (Some number)) (one.put w)
+        ∙ both (same_way ((a + k) ∷ p) w) (is_among a p k w) (Some number) (number_at m w)
+        ∙ ap (λ b. cond b (Some number) (number_at m w)) (sym (among_more a k p w));
+  }
+
+covers_among : (a n : ℕ) (p w : Way) → covers (a ∷ p) n w ≡ is_among a p (n + 1) w
+covers_among a n p [] = refl
+covers_among a n p (i ∷ w) =
+    let last : leb i (a + n) ≡ ltb i (a + (n + 1)) = grind arith in
+    ap (λ b. same_way p w && (leb a i && b)) last
+
+pub row_all : (a k n : ℕ) (p : Way) (number : ℕ) (m r : WayTrie) → k ≡ n → IsPut (is_among a p (k + 1)) number m r → IsPut (covers (a ∷ p) n) number m r
+row_all a k n p number m r same put =
+    let is : (w : Way) → covers (a ∷ p) n w ≡ is_among a p (k + 1) w = λ w. covers_among a n p w ∙ ap (λ j. is_among a p (j + 1) w) (sym same) in
+    record { free = λ w h. put.free w (sym (is w) ∙ h); put = λ w. put.put w ∙ ap (λ b. cond b (Some number) (number_at m w)) (sym (is w)) }

@@ -12,7 +12,6 @@ use std::alloc::{AllocError, Global};
 /// Gives the children of a node, from one on and so many after it, a number, if none of them has
 /// one.
 fn put_children(
-    alloc: Global,
     start: usize,
     above: &[usize],
     more: usize,
@@ -24,11 +23,10 @@ fn put_children(
     ensures put { IfOk result (IsPutOrTaken (covers (start ∷ above.now) more) number held.old held.new) }
     ensures sound { OnOk result (IsSound held.new) }
 {
+    let parent = held.enter_way(above)?;
     let mut step = 0;
     loop {
-        let mut way = vec![in alloc; start + step]?;
-        way.extend_from_slice(above)?;
-        if !held.put_free(&way, number)? {
+        if !held.put_child(parent, start + step, number)? {
             return Ok(false);
         }
         if step == more {
@@ -40,7 +38,6 @@ fn put_children(
 
 /// Gives the elements of a row a number, if none of them has one.
 fn put_row(
-    alloc: Global,
     first: &[usize],
     more: usize,
     number: usize,
@@ -52,18 +49,13 @@ fn put_row(
     ensures sound { OnOk result (IsSound held.new) }
 {
     match first.split_first() {
-        Some((start, above)) => put_children(alloc, *start, above, more, number, held),
+        Some((start, above)) => put_children(*start, above, more, number, held),
         None => held.put_free(&[], number),
     }
 }
 
 /// Gives the elements that a change replaces its number, if none of them has one.
-fn put_change(
-    alloc: Global,
-    change: &TreeChange,
-    number: usize,
-    held: &mut WayTrie,
-) -> Result<bool, AllocError>
+fn put_change(change: &TreeChange, number: usize, held: &mut WayTrie) -> Result<bool, AllocError>
     requires row { FitsRow change.now }
     requires sound { IsSound held.old }
     ensures put { IfOk result (IsPutOrTaken (replaces change.now) number held.old held.new) }
@@ -71,7 +63,7 @@ fn put_change(
 {
     match change.target() {
         Target::Gap { .. } => Ok(true),
-        Target::Slots { first, more, .. } => put_row(alloc, first, *more, number, held),
+        Target::Slots { first, more, .. } => put_row(first, *more, number, held),
     }
 }
 
@@ -84,7 +76,7 @@ pub fn held_ways(alloc: Global, changes: &[TreeChange]) -> Result<Option<WayTrie
 {
     let mut held = WayTrie::new(alloc)?;
     for (number, change) in changes.iter().enumerate() {
-        if !put_change(alloc, change, number, &mut held)? {
+        if !put_change(change, number, &mut held)? {
             return Ok(None);
         }
     }

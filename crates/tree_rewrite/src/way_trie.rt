@@ -1,9 +1,10 @@
 //! A trie of ways: a number for each of some ways, so that one walk down a way finds the numbers of
 //! all ways above it.
-ghost use Rattle.std.specs.Prelude.{◌≡◌, ◌∷◌, ◌<◌, Some, None, length, option_and_then, IfOk, OnOk};
+ghost use Rattle.std.specs.Prelude.{◌≡◌, ◌∷◌, ℕ, Some, None, option_and_then, IfOk, OnOk};
 ghost use Rattle.syntax_tree.specs.Element.{Way, same_way};
 ghost use Rattle.tree_rewrite.specs.WayTrie.{child_in, number_of, node_at, number_at, IsSound, HasNode};
 ghost use Rattle.tree_rewrite.specs.Held.{IsPutOrTaken};
+ghost use Rattle.tree_rewrite.specs.declared.way_trie.WayTrie.{WayTrie};
 
 use std::alloc::{AllocError, Global};
 use std::collections::HashMap;
@@ -89,7 +90,7 @@ impl WayTrie {
     }
 
     /// Returns the node of a way, with new nodes for all on it that have none.
-    fn enter_way(&mut self, way: &[usize]) -> Result<usize, AllocError>
+    pub fn enter_way(&mut self, way: &[usize]) -> Result<usize, AllocError>
         requires sound { IsSound self.old }
         ensures { IfOk result (λ k. HasNode way.now k self.old self.new) }
     {
@@ -102,6 +103,22 @@ impl WayTrie {
         Ok(node)
     }
 
+    /// Gives a node a number. Returns `false` if it has one; that stays.
+    fn put_node(&mut self, node: usize, number: usize) -> bool
+        requires sound { IsSound self.old }
+        requires node { (v : Way) × (node_at self.old v ≡ Some node) }
+        ensures put { (v : Way) (t : WayTrie) → HasNode v node t self.old
+            → IsPutOrTaken (same_way v) number t self.new result }
+        ensures sound { IsSound self.new }
+        ensures nodes { (w : Way) → node_at self.new w ≡ node_at self.old w }
+    {
+        if self.number(Some(node)).is_some() {
+            return false;
+        }
+        self.numbers[node] = Some(number);
+        true
+    }
+
     /// Gives a way a number. Returns `false` if it has one; that stays.
     pub fn put_free(&mut self, way: &[usize], number: usize) -> Result<bool, AllocError>
         requires sound { IsSound self.old }
@@ -109,10 +126,25 @@ impl WayTrie {
         ensures sound { OnOk result (IsSound self.new) }
     {
         let node = self.enter_way(way)?;
-        if self.number(Some(node)).is_some() {
-            return Ok(false);
-        }
-        self.numbers[node] = Some(number);
-        Ok(true)
+        Ok(self.put_node(node, number))
+    }
+
+    /// Gives a child of a node a number. Returns `false` if it has one; that stays.
+    pub fn put_child(
+        &mut self,
+        parent: usize,
+        index: usize,
+        number: usize,
+    ) -> Result<bool, AllocError>
+        requires sound { IsSound self.old }
+        requires parent { (u : Way) × (node_at self.old u ≡ Some parent) }
+        ensures put { (u : Way) → node_at self.old u ≡ Some parent
+            → IfOk result (IsPutOrTaken (same_way (index ∷ u)) number self.old self.new) }
+        ensures sound { OnOk result (IsSound self.new) }
+        ensures nodes { OnOk result ((w : Way) (k : ℕ) → node_at self.old w ≡ Some k
+            → node_at self.new w ≡ Some k) }
+    {
+        let node = self.enter(parent, index)?;
+        Ok(self.put_node(node, number))
     }
 }
