@@ -1,6 +1,5 @@
 -- Which change replaces an element.
-use Rattle.std.proofs.Common.{◌≡◌, ℕ, suc, ◌+◌, ◌≤◌, List, [], ◌∷◌, ◌++◌, length, Bool, true, false, ◌&&◌, ◌||◌, cond, refl, ap, sym, ◌∙◌, arith, Option, Some, None, option_map, option_and_then, slice_get, is_some, Vec, Bor, IfSome, map, get_or, subst, leb, ltb}
-use Rattle.std.specs.HashMap.{HashMap}
+use Rattle.std.proofs.Common.{◌≡◌, ℕ, suc, ◌+◌, ◌≤◌, List, [], ◌∷◌, ◌++◌, length, Bool, true, false, ◌&&◌, ◌||◌, cond, refl, ap, sym, ◌∙◌, arith, Option, Some, None, option_map, option_and_then, slice_get, is_some, is_none, Bor, IfSome, map, get_or, subst, leb, ltb}
 use Rattle.std.specs.List.{list_any}
 use Rattle.std.specs.Option.{option_copied}
 use Rattle.std.proofs.lemmas.Option.{slice_get-get_or, slice_get_past}
@@ -9,8 +8,9 @@ use Rattle.syntax_tree.specs.Element.{Way, same_way, Element}
 use Rattle.tree_rewrite.specs.Change.{Change, insert, replace, covers, replaces, meets, has_collision, rows_meet, is_nested}
 use Rattle.tree_rewrite.specs.Rewrite.{payload_of, payload_at}
 use Rattle.tree_rewrite.specs.Held.{first_of, replacing, Holds, IsPut, IsTaken, leads_through, splits}
-use Rattle.tree_rewrite.specs.WayMap.{number_at}
-use Rattle.tree_rewrite.proofs.JobLemmas.{covers_meet}
+use Rattle.tree_rewrite.specs.WayTrie.{number_at}
+use Rattle.tree_rewrite.specs.declared.way_trie.WayTrie.{WayTrie}
+use Rattle.tree_rewrite.proofs.JobLemmas.{covers_meet, some_same}
 use Rattle.tree_rewrite.proofs.OrderLemmas.{same_way-sound, same_way-own}
 
 -- ---- the first that passes
@@ -169,7 +169,7 @@ item-at xs i (Some x) h is = ap Some is ∙ sym (slice_get-get_or xs i x.now (lt
 
 -- ---- one change more in the map
 
-pub held-more : {Z S : Type 0} (m k : HashMap (Vec ℕ Z) ℕ S) (cs : List Change) (c : Change) → IsPut (λ w. replaces c w) (length cs) m k → Holds m cs → has_collision cs ≡ false
+pub held-more : (m k : WayTrie) (cs : List Change) (c : Change) → IsPut (λ w. replaces c w) (length cs) m k → Holds m cs → has_collision cs ≡ false
     → Holds k (cs ++ c ∷ []) × (has_collision (cs ++ c ∷ []) ≡ false)
 held-more m k cs c put has apart = (
   record { numbers = λ w. put.put w ∙ by_test w (replaces c w) refl },
@@ -180,7 +180,7 @@ held-more m k cs c put has apart = (
     by_test w true x = sym (first-none (λ r. replaces r w) cs c (sym (has.numbers w) ∙ put.free w x) ∙ ap (λ b. cond b (Some (length cs)) None) x)
     by_test w false x = has.numbers w ∙ sym (first-same (λ r. replaces r w) cs c x)
 
-pub held-taken : {Z S : Type 0} (m : HashMap (Vec ℕ Z) ℕ S) (cs : List Change) (c : Change) (ds : List Change) → IsTaken (λ w. replaces c w) m → Holds m cs → has_collision (cs ++ c ∷ ds) ≡ true
+pub held-taken : (m : WayTrie) (cs : List Change) (c : Change) (ds : List Change) → IsTaken (λ w. replaces c w) m → Holds m cs → has_collision (cs ++ c ∷ ds) ≡ true
 held-taken m cs c ds taken has = collides cs c ds taken.0 taken.1 (sym (first-any (λ r. replaces r taken.0) cs) ∙ ap is_some (sym (has.numbers taken.0)) ∙ taken.2)
 
 -- ---- the one change that replaces an element
@@ -230,7 +230,7 @@ first-change w (c ∷ cs) = by_test (replaces c w) (first_of (λ r. replaces r w
     by_test false (Some n) e = e
 
 -- the change of the number in the map
-pub held-change : {Z S : Type 0} (m : HashMap (Vec ℕ Z) ℕ S) (cs : List Change) (w : Way) → Holds m cs → option_and_then (λ n. slice_get cs n) (number_at m w) ≡ replacing w cs
+pub held-change : (m : WayTrie) (cs : List Change) (w : Way) → Holds m cs → option_and_then (λ n. slice_get cs n) (number_at m w) ≡ replacing w cs
 held-change m cs w has = ap (option_and_then (λ n. slice_get cs n)) (has.numbers w) ∙ first-change w cs
 
 -- the payload there
@@ -353,21 +353,23 @@ dropped-root k cs c (i ∷ f) n new s is at = absurd (omega (arith, at))
 
 -- ---- from an element to those above
 
-pub lost-above : (k : Change → Bool) (cs : List Change) (w : Way) (i : ℕ) (up : Way) → w ≡ i ∷ up → list_any (λ r. replaces r w && k r) cs ≡ false
-    → list_any (λ r. leads_through w r && k r) cs ≡ list_any (λ r. leads_through up r && k r) cs
-lost-above k cs w i up is h =
-    ap (λ v. list_any (λ r. leads_through v r && k r) cs) is
-    ∙ any-same (λ r. leads_through (i ∷ up) r && k r) (λ r. (replaces r (i ∷ up) || leads_through up r) && k r) (λ r. ap (λ b. b && k r) (through-child i up r)) cs
-    ∙ any-or (λ r. replaces r (i ∷ up)) (leads_through up) k cs
-    ∙ ap (λ b. b || list_any (λ r. leads_through up r && k r) cs) (ap (λ v. list_any (λ r. replaces r v && k r) cs) (sym is) ∙ h)
+-- what lies in a replaced element, by the element itself and by those above it
+pub lost-step : (k : Change → Bool) (cs : List Change) (w : Way) (i : ℕ) (up : Way) → w ≡ i ∷ up
+    → list_any (λ r. leads_through w r && k r) cs ≡ (list_any (λ r. replaces r w && k r) cs || list_any (λ r. leads_through up r && k r) cs)
+lost-step k cs w i up is =
+    subst (λ (v : Way). list_any (λ r. leads_through v r && k r) cs ≡ (list_any (λ r. replaces r v && k r) cs || list_any (λ r. leads_through up r && k r) cs)) (sym is)
+    (any-same (λ r. leads_through (i ∷ up) r && k r) (λ r. (replaces r (i ∷ up) || leads_through up r) && k r) (λ r. ap (λ b. b && k r) (through-child i up r)) cs
+    ∙ any-or (λ r. replaces r (i ∷ up)) (leads_through up) k cs)
 
 pub lost-root : (k : Change → Bool) (cs : List Change) (w : Way) → length w ≡ 0 → list_any (λ r. leads_through w r && k r) cs ≡ list_any (λ r. replaces r w && k r) cs
 lost-root k cs [] at = any-same (λ r. leads_through [] r && k r) (λ r. replaces r [] && k r) (λ r. ap (λ b. b && k r) (through-root r)) cs
 lost-root k cs (i ∷ w) at = absurd (omega (arith, at))
 
-pub lost-here : (k : Change → Bool) (cs : List Change) (w : Way) → list_any (λ r. replaces r w && k r) cs ≡ true → list_any (λ r. leads_through w r && k r) cs ≡ true
-lost-here k cs [] h = lost-root k cs [] refl ∙ h
-lost-here k cs (i ∷ w) h =
-    any-same (λ r. leads_through (i ∷ w) r && k r) (λ r. (replaces r (i ∷ w) || leads_through w r) && k r) (λ r. ap (λ b. b && k r) (through-child i w r)) cs
-    ∙ any-or (λ r. replaces r (i ∷ w)) (leads_through w) k cs
-    ∙ or_left _ _ h
+-- the change that is found there replaces the element
+pub replacing-there : (w : Way) (cs : List Change) (c : Change) → replacing w cs ≡ Some c → replaces c w ≡ true
+replacing-there w [] c h = absurd (false≢true (sym (ap is_none h)))
+replacing-there w (d ∷ cs) c h = by_test (replaces d w) refl (λ e. replacing-there w cs c e) h
+  where
+    by_test : (b : Bool) → replaces d w ≡ b → (replacing w cs ≡ Some c → replaces c w ≡ true) → cond b (Some d) (replacing w cs) ≡ Some c → replaces c w ≡ true
+    by_test true x rest e = subst (λ r. replaces r w ≡ true) (some_same d c e) x
+    by_test false x rest e = rest e

@@ -22,4 +22,7 @@ pub mod ChangedLemmas
 pub mod PutMarkLemmas
 pub mod RangeLemmas
 pub mod WayMapLemmas
+pub mod TrieLemmas
+pub mod TrieStepLemmas
 pub mod HeldLemmas
+pub mod ListedLemmas

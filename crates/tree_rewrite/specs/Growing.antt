@@ -8,7 +8,6 @@ use Rattle.rowan.specs.Place.{kind_at}
 use Rattle.syntax_tree.specs.Element.{Element, term_of}
 use Rattle.tree_rewrite.specs.Marked.{Marked, nothing, inner, token, forest_in}
 use Rattle.tree_rewrite.specs.Pieces.{Around, outside, in_node, in_group, Stand}
-use Rattle.tree_rewrite.specs.Fits.{new_fits}
 use Rattle.tree_rewrite.specs.declared.error.ExecuteError.{ExecuteError}
 use Rattle.tree_rewrite.specs.declared.error.ExecuteError.TheVariants.{TooLong, NoMemory}
 use Rattle.tree_rewrite.specs.declared.green.Begun.{Begun}

@@ -1,9 +1,9 @@
 -- Which of some changes replaces an element, as the code looks it up.
-use Rattle.std.specs.Prelude.{◌≡◌, ℕ, suc, ◌+◌, ◌-◌, ◌<◌, ◌^◌, List, [], ◌∷◌, Option, Some, None, option_map, is_some, Bool, true, false, ◌&&◌, nat_le, nat_lt, if◌then◌else◌, Vec}
-use Rattle.std.specs.HashMap.{HashMap}
+use Rattle.std.specs.Prelude.{◌≡◌, ℕ, suc, ◌+◌, ◌<◌, ◌^◌, List, [], ◌∷◌, Option, Some, None, option_map, is_some, Bool, true, false, ◌&&◌, nat_le, nat_lt, if◌then◌else◌}
 use Rattle.syntax_tree.specs.Element.{Way, same_way}
-use Rattle.tree_rewrite.specs.WayMap.{number_at}
-use Rattle.tree_rewrite.specs.Change.{Change, insert, replace, covers, replaces, is_within, is_between}
+use Rattle.tree_rewrite.specs.WayTrie.{number_at}
+use Rattle.tree_rewrite.specs.declared.way_trie.WayTrie.{WayTrie}
+use Rattle.tree_rewrite.specs.Change.{Change, insert, replace, replaces, is_within, is_between}
 
 -- the number of the first that passes, none where none does
 abbrev pub first_of : {A : Type 0} → (A → Bool) → List A → Option ℕ
@@ -15,8 +15,8 @@ abbrev pub replacing : Way → List Change → Option Change
 replacing w [] = None
 replacing w (c ∷ cs) = if replaces c w then Some c else replacing w cs
 
--- the map has the number of that of each way, and no others
-pub record Holds {Z S : Type 0} (m : HashMap (Vec ℕ Z) ℕ S) (cs : List Change) : Type 0 where
+-- the trie has the number of that of each way, and no others
+pub record Holds (m : WayTrie) (cs : List Change) : Type 0 where
   pub numbers : (w : Way) → number_at m w ≡ first_of (λ c. replaces c w) cs
 
 -- the number of the last child of a row fits a word
@@ -33,16 +33,16 @@ is_among a p k [] = false
 is_among a p k (i ∷ w) = same_way p w && (nat_le a i && nat_lt i (a + k))
 
 -- none of the row had a number, and each has this one now
-pub record IsPut {Z S : Type 0} (row : Way → Bool) (number : ℕ) (m k : HashMap (Vec ℕ Z) ℕ S) : Type 0 where
+pub record IsPut (row : Way → Bool) (number : ℕ) (m k : WayTrie) : Type 0 where
   pub free : (w : Way) → row w ≡ true → number_at m w ≡ None
   pub put : (w : Way) → number_at k w ≡ (if row w then Some number else number_at m w)
 
 -- one of the row had a number
-abbrev pub IsTaken : {Z S : Type 0} → (Way → Bool) → HashMap (Vec ℕ Z) ℕ S → Type 0
+abbrev pub IsTaken : (Way → Bool) → WayTrie → Type 0
 IsTaken row m = (w : Way) × (row w ≡ true) × (is_some (number_at m w) ≡ true)
 
 -- the row was put, or was not free
-abbrev pub IsPutOrTaken : {Z S : Type 0} → (Way → Bool) → ℕ → HashMap (Vec ℕ Z) ℕ S → HashMap (Vec ℕ Z) ℕ S → Bool → Type 0
+abbrev pub IsPutOrTaken : (Way → Bool) → ℕ → WayTrie → WayTrie → Bool → Type 0
 IsPutOrTaken row number m k true = IsPut row number m k
 IsPutOrTaken row number m k false = IsTaken row m
 

@@ -18,4 +18,7 @@ pub mod Tracking
 pub mod Puts
 pub mod Growing
 pub mod WayMap
+pub mod WayTrie
 pub mod Held
+pub mod Walk
+pub mod Listed

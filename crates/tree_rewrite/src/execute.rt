@@ -7,11 +7,12 @@ ghost use Rattle.tree_rewrite.specs.Rewrite.{Job, puts, sheet_of, terms_of};
 ghost use Rattle.tree_rewrite.specs.Orders.{with_picked, picked};
 ghost use Rattle.tree_rewrite.specs.Recorded.{way_of};
 ghost use Rattle.tree_rewrite.specs.Fill.{HavePut};
+ghost use Rattle.tree_rewrite.specs.Listed.{IsListed};
 ghost use Rattle.tree_rewrite.specs.Pieces.{Adds, Say};
 
 use crate::fill::{push_standing, push_whole};
 use crate::job::Job;
-use crate::lists::on_sheet;
+use crate::on_payloads::OnPayloads;
 use crate::piece::{Piece, Put};
 use std::alloc::{AllocError, Global};
 use syntax_tree::SyntaxElement;
@@ -22,10 +23,12 @@ fn push_payload(
     alloc: Global,
     jobs: &[Job],
     made: &[Put],
+    listed: &OnPayloads,
     own: &Option<Vec<usize>>,
     element: &SyntaxElement,
     pieces: &mut Vec<Piece>,
 ) -> Result<(), AllocError>
+    requires { IsListed jobs.now made.now listed.now }
     ensures { (js : List Job) → HavePut jobs.now made.now js → OnOk result
         (Adds pieces.old.items pieces.new.items
         (reading_of (sheet_of (puts js) (way_of own.now)) (element_of element.now))) }
@@ -33,8 +36,8 @@ fn push_payload(
     let copy = element.clone()?;
     match own {
         None => push_whole(copy, pieces)?,
-        Some(_) => {
-            let numbers = on_sheet(alloc, jobs, made, own)?;
+        Some(way) => {
+            let numbers = listed.numbers(alloc, way)?;
             push_standing(alloc, jobs, made, &numbers, own, copy, &[], pieces)?;
         }
     }
@@ -46,15 +49,17 @@ fn content_of(
     alloc: Global,
     jobs: &[Job],
     made: &[Put],
+    listed: &OnPayloads,
     job: &Job,
 ) -> Result<Vec<Piece>, AllocError>
+    requires { IsListed jobs.now made.now listed.now }
     ensures { (js : List Job) → HavePut jobs.now made.now js
         → IfOk result (λ v. Say v.items (terms_of (puts js) job.now)) }
 {
     let mut pieces = Vec::new(alloc);
     pieces.push(Piece::Group(job.is_outer()))?;
     for element in job.payload() {
-        push_payload(alloc, jobs, made, job.own(), element, &mut pieces)?;
+        push_payload(alloc, jobs, made, listed, job.own(), element, &mut pieces)?;
     }
     pieces.push(Piece::Close)?;
     Ok(pieces)
@@ -68,12 +73,21 @@ fn job_at(jobs: &[Job], number: usize) -> Option<&Job>
 }
 
 /// Makes the job of a number after these, if there is one.
-fn make(alloc: Global, jobs: &[Job], number: usize, made: &mut Vec<Put>) -> Result<(), AllocError>
-    ensures { (js : List Job) → HavePut jobs.now made.old.items js → OnOk result
+fn make(
+    alloc: Global,
+    jobs: &[Job],
+    number: usize,
+    made: &mut Vec<Put>,
+    listed: &mut OnPayloads,
+) -> Result<(), AllocError>
+    requires { IsListed jobs.now made.old.items listed.old }
+    ensures put { (js : List Job) → HavePut jobs.now made.old.items js → OnOk result
         (HavePut jobs.now made.new.items (with_picked (slice_get jobs.now number) js)) }
+    ensures listed { OnOk result (IsListed jobs.now made.new.items listed.new) }
 {
     if let Some(job) = job_at(jobs, number) {
-        let pieces = content_of(alloc, jobs, made, job)?;
+        let pieces = content_of(alloc, jobs, made, listed, job)?;
+        listed.note(alloc, job)?;
         made.push(Put { number, pieces })?;
     }
     Ok(())
@@ -84,8 +98,9 @@ pub fn make_all(alloc: Global, jobs: &[Job], order: &[usize]) -> Result<Vec<Put>
     ensures { IfOk result (λ v. HavePut jobs.now v.items (picked jobs.now order.now [])) }
 {
     let mut made = Vec::new(alloc);
+    let mut listed = OnPayloads::new(alloc);
     for number in order {
-        make(alloc, jobs, *number, &mut made)?;
+        make(alloc, jobs, *number, &mut made, &mut listed)?;
     }
     Ok(made)
 }

@@ -1,44 +1,32 @@
 //! Which change replaces an element, looked up by its way.
-ghost use Rattle.std.specs.Prelude.{◌≡◌, ◌+◌, ◌<◌, ◌∷◌, ◌^◌, [], true, is_none, IfOk, IfSome};
+ghost use Rattle.std.specs.Prelude.{◌≡◌, ◌+◌, ◌<◌, ◌∷◌, ◌^◌, [], true, is_none, IfOk, IfSome, OnOk};
 ghost use Rattle.std.specs.List.{All};
-ghost use Rattle.syntax_tree.specs.Element.{same_way};
 ghost use Rattle.tree_rewrite.specs.Change.{covers, replace, replaces, has_collision};
 ghost use Rattle.tree_rewrite.specs.Held.{IsPutOrTaken, FitsRow, Holds};
+ghost use Rattle.tree_rewrite.specs.WayTrie.{IsSound};
 
 use crate::tree_change::{Target, TreeChange};
-use crate::way_map::{WayMap, number_at, put};
+use crate::way_trie::WayTrie;
 use std::alloc::{AllocError, Global};
-use std::collections::HashMap;
-
-/// Gives one way a number, if it has none.
-fn put_free(held: &mut WayMap, way: Vec<usize>, number: usize) -> Result<bool, AllocError>
-    ensures { IfOk result (IsPutOrTaken (same_way way.items) number held.old held.new) }
-{
-    if number_at(held, &way).is_some() {
-        return Ok(false);
-    }
-    put(held, way, number)?;
-    Ok(true)
-}
 
 /// Gives the children of a node, from one on and so many after it, a number, if none of them has
 /// one.
 fn put_children(
-    alloc: Global,
     start: usize,
     above: &[usize],
     more: usize,
     number: usize,
-    held: &mut WayMap,
+    held: &mut WayTrie,
 ) -> Result<bool, AllocError>
-    requires { start + more < 2 ^ 64 }
-    ensures { IfOk result (IsPutOrTaken (covers (start ∷ above.now) more) number held.old held.new) }
+    requires row { start + more < 2 ^ 64 }
+    requires sound { IsSound held.old }
+    ensures put { IfOk result (IsPutOrTaken (covers (start ∷ above.now) more) number held.old held.new) }
+    ensures sound { OnOk result (IsSound held.new) }
 {
+    let parent = held.enter_way(above)?;
     let mut step = 0;
     loop {
-        let mut way = vec![in alloc; start + step]?;
-        way.extend_from_slice(above)?;
-        if !put_free(held, way, number)? {
+        if !held.put_child(parent, start + step, number)? {
             return Ok(false);
         }
         if step == more {
@@ -50,47 +38,45 @@ fn put_children(
 
 /// Gives the elements of a row a number, if none of them has one.
 fn put_row(
-    alloc: Global,
     first: &[usize],
     more: usize,
     number: usize,
-    held: &mut WayMap,
+    held: &mut WayTrie,
 ) -> Result<bool, AllocError>
-    requires { FitsRow (replace first.now more [] true) }
-    ensures { IfOk result (IsPutOrTaken (covers first.now more) number held.old held.new) }
+    requires row { FitsRow (replace first.now more [] true) }
+    requires sound { IsSound held.old }
+    ensures put { IfOk result (IsPutOrTaken (covers first.now more) number held.old held.new) }
+    ensures sound { OnOk result (IsSound held.new) }
 {
     match first.split_first() {
-        Some((start, above)) => put_children(alloc, *start, above, more, number, held),
-        None => put_free(held, Vec::new(alloc), number),
+        Some((start, above)) => put_children(*start, above, more, number, held),
+        None => held.put_free(&[], number),
     }
 }
 
 /// Gives the elements that a change replaces its number, if none of them has one.
-fn put_change(
-    alloc: Global,
-    change: &TreeChange,
-    number: usize,
-    held: &mut WayMap,
-) -> Result<bool, AllocError>
-    requires { FitsRow change.now }
-    ensures { IfOk result (IsPutOrTaken (replaces change.now) number held.old held.new) }
+fn put_change(change: &TreeChange, number: usize, held: &mut WayTrie) -> Result<bool, AllocError>
+    requires row { FitsRow change.now }
+    requires sound { IsSound held.old }
+    ensures put { IfOk result (IsPutOrTaken (replaces change.now) number held.old held.new) }
+    ensures sound { OnOk result (IsSound held.new) }
 {
     match change.target() {
         Target::Gap { .. } => Ok(true),
-        Target::Slots { first, more, .. } => put_row(alloc, first, *more, number, held),
+        Target::Slots { first, more, .. } => put_row(first, *more, number, held),
     }
 }
 
 /// The number of the change that replaces an element, by the way of that; none where two of the
 /// changes replace one.
-pub fn held_ways(alloc: Global, changes: &[TreeChange]) -> Result<Option<WayMap>, AllocError>
+pub fn held_ways(alloc: Global, changes: &[TreeChange]) -> Result<Option<WayTrie>, AllocError>
     requires { All FitsRow changes.now }
     ensures collision { IfOk result (λ held. is_none held ≡ has_collision changes.now) }
     ensures holds { IfOk result (λ held. IfSome held (λ m. Holds m changes.now)) }
 {
-    let mut held = HashMap::new(alloc);
+    let mut held = WayTrie::new(alloc)?;
     for (number, change) in changes.iter().enumerate() {
-        if !put_change(alloc, change, number, &mut held)? {
+        if !put_change(change, number, &mut held)? {
             return Ok(None);
         }
     }

@@ -68,6 +68,13 @@ impl Job {
         Job { sheet, change, own }
     }
 
+    /// The payload on whose sheet it is made, by the node that it replaces; none for the tree itself.
+    pub(crate) fn sheet(&self) -> &Option<Vec<usize>>
+        ensures { way_of result.now ≡ self.now.sheet }
+    {
+        &self.sheet
+    }
+
     /// What it puts in.
     pub(crate) fn payload(&self) -> &[SyntaxElement]
         ensures { map element_of result.now ≡ payload_of self.now.change }

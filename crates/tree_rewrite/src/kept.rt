@@ -11,7 +11,7 @@ use crate::job::Job;
 use crate::moved::change_in;
 use crate::nesting::{change_at, is_dropped, is_node_by_node, owner_of};
 use crate::tree_change::{Target, TreeChange};
-use crate::way_map::WayMap;
+use crate::way_trie::WayTrie;
 use rowan_green::GreenNode;
 use std::alloc::{AllocError, Global};
 use syntax_tree::{SyntaxElement, SyntaxMapping, SyntaxNode};
@@ -19,7 +19,7 @@ use syntax_tree::{SyntaxElement, SyntaxMapping, SyntaxNode};
 /// The payload of what replaces the element at a way.
 fn payload_at<'a>(
     changes: &'a [TreeChange],
-    held: &WayMap,
+    held: &WayTrie,
     way: &[usize],
 ) -> Option<&'a SyntaxElement>
     requires apart { has_collision changes.now ≡ false }
@@ -51,7 +51,7 @@ fn job_of(
     alloc: Global,
     root: &SyntaxNode,
     changes: &[TreeChange],
-    held: &WayMap,
+    held: &WayTrie,
     mapping: &SyntaxMapping,
     change: &TreeChange,
 ) -> Result<Option<Job>, AllocError>
@@ -88,7 +88,7 @@ pub fn jobs_of(
     alloc: Global,
     root: &SyntaxNode,
     changes: &[TreeChange],
-    held: &WayMap,
+    held: &WayTrie,
     mapping: &SyntaxMapping,
 ) -> Result<Option<Vec<Job>>, AllocError>
     requires top { root.now.place.up ≡ [] }

@@ -1,14 +1,19 @@
 //! Which recorded changes lie in what others replace, and which are dropped with that.
-ghost use Rattle.std.specs.Prelude.{◌≡◌, ◌&&◌, false, not, option_map, IfOk};
+ghost use Rattle.std.specs.Prelude.{◌≡◌, ◌∷◌, ◌&&◌, ℕ, Some, true, false, if◌then◌else◌, not, slice_get, option_map, IfOk};
 ghost use Rattle.std.specs.List.{list_any};
 ghost use Rattle.std.specs.Option.{option_copied};
+ghost use Rattle.rowan_green.specs.Forest.{Tree};
+ghost use Rattle.syntax_tree.specs.Element.{Way, is_node};
 ghost use Rattle.syntax_tree.specs.Referred.{referred_term};
 ghost use Rattle.rowan.specs.Place.{term_by};
 ghost use Rattle.tree_rewrite.specs.Change.{replaces, is_node_by_node, is_dropped, holder_of, owner_of, has_collision};
 ghost use Rattle.tree_rewrite.specs.Held.{Holds, replacing, leads_through, splits};
+ghost use Rattle.tree_rewrite.specs.Walk.{node_in, children_below, names_node};
+ghost use Rattle.tree_rewrite.specs.Rewrite.{first_way};
+ghost use Rattle.tree_rewrite.specs.WayTrie.{node_at};
 
 use crate::tree_change::{Target, TreeChange};
-use crate::way_map::{WayMap, number_at};
+use crate::way_trie::WayTrie;
 use crate::ways::{covers, is_between};
 use rowan_green::{GreenNode, GreenToken, NodeOrToken};
 use std::alloc::{AllocError, Global};
@@ -35,38 +40,74 @@ impl TreeChange {
     }
 }
 
+/// Returns the change that replaces the element of a node of the trie, if one does.
+fn change_of<'a>(
+    changes: &'a [TreeChange],
+    held: &WayTrie,
+    node: Option<usize>,
+) -> Option<&'a TreeChange>
+    requires { Holds held.now changes.now }
+    ensures { (w : Way) → node ≡ node_at held.now w → option_copied result ≡ replacing w changes.now }
+{
+    let number = held.number(node)?;
+    changes.get(number)
+}
+
 /// The change that replaces the element at a way, if one does.
 pub(crate) fn change_at<'a>(
     changes: &'a [TreeChange],
-    held: &WayMap,
+    held: &WayTrie,
     way: &[usize],
 ) -> Option<&'a TreeChange>
     requires { Holds held.now changes.now }
     ensures { option_copied result ≡ replacing way.now changes.now }
 {
-    let number = number_at(held, way)?;
-    changes.get(number)
+    change_of(changes, held, held.node_at(way))
+}
+
+/// Returns `true` if a change replaces the element of a node of the trie.
+fn is_replaced(changes: &[TreeChange], held: &WayTrie, node: Option<usize>) -> bool
+    requires { Holds held.now changes.now }
+    ensures { (w : Way) → node ≡ node_at held.now w → result ≡ list_any (λ r. replaces r w) changes.now }
+{
+    change_of(changes, held, node).is_some()
+}
+
+/// Returns a way, if its element is replaced, else what there is above it.
+fn nearer<'a>(
+    is_replaced: bool,
+    way: &'a [usize],
+    above: Option<&'a [usize]>,
+) -> Option<&'a [usize]>
+    ensures { option_copied result ≡ (if is_replaced then Some way.now else option_copied above.entry) }
+{
+    if is_replaced { Some(way) } else { above }
 }
 
 /// The way of the innermost replaced element among those at and above a way.
-pub fn holder_of<'a>(changes: &[TreeChange], held: &WayMap, way: &'a [usize]) -> Option<&'a [usize]>
+pub fn holder_of<'a>(
+    changes: &[TreeChange],
+    held: &WayTrie,
+    way: &'a [usize],
+) -> Option<&'a [usize]>
     requires { Holds held.now changes.now }
     ensures { option_copied result ≡ holder_of changes.now way.now }
 {
-    let mut rest = way;
-    loop {
-        if change_at(changes, held, rest).is_some() {
-            return Some(rest);
-        }
-        let (_, up) = rest.split_first()?;
-        rest = up;
+    let mut depth = way.len();
+    let mut node = WayTrie::ROOT;
+    let mut holder = nearer(is_replaced(changes, held, node), &way[depth..], None);
+    while depth > 0 {
+        depth -= 1;
+        node = held.child(node, way[depth]);
+        holder = nearer(is_replaced(changes, held, node), &way[depth..], holder);
     }
+    holder
 }
 
 /// The way of the replaced element in whose payload a change is made that is not dropped.
 pub fn owner_of<'a>(
     changes: &[TreeChange],
-    held: &WayMap,
+    held: &WayTrie,
     change: &'a TreeChange,
 ) -> Option<&'a [usize]>
     requires { Holds held.now changes.now }
@@ -81,6 +122,29 @@ pub fn owner_of<'a>(
     }
 }
 
+/// Returns the child of this number, if it is a node.
+fn child_node<'a>(parent: Option<&'a GreenNode>, index: usize) -> Option<&'a GreenNode>
+    ensures { option_copied result ≡ node_in (slice_get (children_below (option_copied parent.entry)) index) }
+{
+    match parent?.child(index)? {
+        NodeOrToken::Node(node) => Some(node),
+        NodeOrToken::Token(_) => None,
+    }
+}
+
+/// Returns the node at a way, lent by the tree, if there is one.
+fn node_by<'a>(root: &'a GreenNode, way: &[usize]) -> Option<&'a GreenNode>
+    ensures { option_copied result ≡ node_in (term_by root.now way.now) }
+{
+    let mut node = Some(root);
+    let mut depth = way.len();
+    while depth > 0 {
+        depth -= 1;
+        node = child_node(node, way[depth]);
+    }
+    node
+}
+
 /// The element at a way, lent by the tree, if there is one.
 pub fn element_by<'a>(
     root: &'a GreenNode,
@@ -91,10 +155,7 @@ pub fn element_by<'a>(
     let Some((index, up)) = way.split_first() else {
         return Some(NodeOrToken::Node(root));
     };
-    let NodeOrToken::Node(parent) = element_by(root, up)? else {
-        return None;
-    };
-    match parent.child(*index)? {
+    match node_by(root, up)?.child(*index)? {
         NodeOrToken::Node(node) => Some(NodeOrToken::Node(node)),
         NodeOrToken::Token(token) => Some(NodeOrToken::Token(token)),
     }
@@ -114,7 +175,7 @@ pub fn is_node_by_node(root: &GreenNode, change: &TreeChange) -> bool
 }
 
 /// Whether the element at a way is replaced, and not as a node by a node.
-fn is_gone(root: &GreenNode, changes: &[TreeChange], held: &WayMap, way: &[usize]) -> bool
+fn is_gone(root: &GreenNode, changes: &[TreeChange], held: &WayTrie, way: &[usize]) -> bool
     requires apart { has_collision changes.now ≡ false }
     requires holds { Holds held.now changes.now }
     ensures { result ≡ list_any (λ r. replaces r way.now && not (is_node_by_node root.now r)) changes.now }
@@ -125,23 +186,82 @@ fn is_gone(root: &GreenNode, changes: &[TreeChange], held: &WayMap, way: &[usize
     }
 }
 
+/// Returns `true` if one element was named alone and a node comes in its place.
+fn names_node(change: &TreeChange) -> bool
+    ensures { result ≡ names_node change.now }
+{
+    let Target::Slots { single, .. } = change.target() else {
+        return false;
+    };
+    let [new] = change.payload() else {
+        return false;
+    };
+    *single && new.is_node()
+}
+
+/// Returns `true` if the first element that a change of children of a node replaces is a node.
+fn begins_with_node(parent: Option<&GreenNode>, change: &TreeChange) -> bool
+    ensures { (t : Tree) (v : Way) (i : ℕ) → option_copied parent.entry ≡ node_in (term_by t v)
+        → replaces change.now (i ∷ v) ≡ true → result ≡ is_node (term_by t (first_way change.now)) }
+{
+    match change.target() {
+        Target::Gap { .. } => false,
+        Target::Slots { first, .. } => match first.split_first() {
+            Some((index, _)) => child_node(parent, *index).is_some(),
+            None => false,
+        },
+    }
+}
+
+/// Returns `true` if a change of children of a node replaces a node, named alone, by a node.
+fn is_child_by_node(parent: Option<&GreenNode>, change: &TreeChange) -> bool
+    ensures { (t : Tree) (v : Way) (i : ℕ) → option_copied parent.entry ≡ node_in (term_by t v)
+        → replaces change.now (i ∷ v) ≡ true → result ≡ is_node_by_node t change.now }
+{
+    if !names_node(change) {
+        return false;
+    }
+    begins_with_node(parent, change)
+}
+
+/// Returns `true` if a child of a node, given by its own node of the trie, is replaced, and not as
+/// a node by a node.
+fn is_child_gone(
+    changes: &[TreeChange],
+    held: &WayTrie,
+    node: Option<usize>,
+    parent: Option<&GreenNode>,
+) -> bool
+    requires apart { has_collision changes.now ≡ false }
+    requires holds { Holds held.now changes.now }
+    ensures { (t : Tree) (v : Way) (i : ℕ) → node ≡ node_at held.now (i ∷ v)
+        → option_copied parent.entry ≡ node_in (term_by t v)
+        → result ≡ list_any (λ r. replaces r (i ∷ v) && not (is_node_by_node t r)) changes.now }
+{
+    match change_of(changes, held, node) {
+        Some(change) => !is_child_by_node(parent, change),
+        None => false,
+    }
+}
+
 /// Whether an element at or above a way is.
-fn is_lost(root: &GreenNode, changes: &[TreeChange], held: &WayMap, way: &[usize]) -> bool
+fn is_lost(root: &GreenNode, changes: &[TreeChange], held: &WayTrie, way: &[usize]) -> bool
     requires apart { has_collision changes.now ≡ false }
     requires holds { Holds held.now changes.now }
     ensures { result ≡ list_any (λ r. leads_through way.now r
         && not (is_node_by_node root.now r)) changes.now }
 {
-    let mut rest = way;
-    loop {
-        if is_gone(root, changes, held, rest) {
-            return true;
-        }
-        let Some((_, up)) = rest.split_first() else {
-            return false;
-        };
-        rest = up;
+    let mut depth = way.len();
+    let mut node = WayTrie::ROOT;
+    let mut parent = Some(root);
+    let mut lost = is_gone(root, changes, held, &[]);
+    while depth > 0 {
+        depth -= 1;
+        node = held.child(node, way[depth]);
+        lost |= is_child_gone(changes, held, node, parent);
+        parent = child_node(parent, way[depth]);
     }
+    lost
 }
 
 /// Whether a change, not of a node by a node, replaces what stands on both sides of a gap.
@@ -157,7 +277,7 @@ fn is_closed(
     alloc: Global,
     root: &GreenNode,
     changes: &[TreeChange],
-    held: &WayMap,
+    held: &WayTrie,
     parent: &[usize],
     index: usize,
 ) -> Result<bool, AllocError>
@@ -182,7 +302,7 @@ pub fn is_dropped(
     alloc: Global,
     root: &GreenNode,
     changes: &[TreeChange],
-    held: &WayMap,
+    held: &WayTrie,
     change: &TreeChange,
 ) -> Result<bool, AllocError>
     requires apart { has_collision changes.now ≡ false }

@@ -1,28 +1,40 @@
-use Rattle.std.proofs.Common.{◌≡◌, true, false, Bor, sym, ◌∙◌, ap}
-use Rattle.std.specs.List.{list_any}
+use Rattle.std.proofs.Common.{◌≡◌, ◌-◌, ◌∙◌, Some, None, cond, ap, drop, length, arith}
 use Rattle.std.specs.Option.{option_copied}
-use Rattle.tree_rewrite.specs.Change.{Change, replaces}
-use Rattle.tree_rewrite.proofs.HeldLemmas.{found-any}
-use Rattle.tree_rewrite.proofs.NestingLemmas.{holder_of-here, holder_of-above, holder_of-none}
+use Rattle.std.proofs.lemmas.List.{take_rest}
+use Rattle.syntax_tree.specs.Element.{Way}
+use Rattle.tree_rewrite.specs.Change.{holder_of}
+use Rattle.tree_rewrite.proofs.NestingLemmas.{holder_step, holder_top}
+use Rattle.tree_rewrite.proofs.TrieLemmas.{way_top}
+use Rattle.tree_rewrite.proofs.TrieStepLemmas.{walk_step, walk_top}
 use Rattle.tree_rewrite.proofs.nesting.holder_of.Goals as goal
 
-pub returns-then-is_some : goal.returns-then-is_some
-returns-then-is_some c =
-    let cs = c.args.changes.now in
-    let w = c.loop-rest.rest.now in
-    let here : list_any (λ r. replaces r w) cs ≡ true = found-any (λ (x : Bor Change). x.now) c.change_at.result w cs c.change_at.ensures ∙ sym c.is_some.ensures ∙ c.if-is_some.true in
-    sym (c.loop-rest.invariant ∙ holder_of-here cs w here)
+pub loop-depth-init : goal.loop-depth-init
+loop-depth-init c =
+    let w = c.args.way.now in
+    let d = length w in
+    let at = walk_top c.args.held.now w d (omega arith) in
+    record {
+      within = omega arith;
+      at = at;
+      holder = holder_top c.args.changes.now (drop d w) c.is_replaced.result (option_copied c.nearer-holder.result) (way_top w d (omega arith)) (c.is_replaced.ensures (drop d w) at)
+          (c.nearer-holder.ensures ∙ ap (λ (v : Way). cond c.is_replaced.result (Some v) None) (take_rest w d));
+    }
 
-pub returns-in_err-up : goal.returns-in_err-up
-returns-in_err-up c =
-    let cs = c.args.changes.now in
-    let w = c.loop-rest.rest.now in
-    let not : list_any (λ r. replaces r w) cs ≡ false = found-any (λ (x : Bor Change). x.now) c.change_at.result w cs c.change_at.ensures ∙ sym c.is_some.ensures ∙ c.if-is_some.false in
-    ap option_copied c.from_residual.ensures ∙ sym (c.loop-rest.invariant ∙ holder_of-none cs w c.in_err-up.ensures.cases not)
+pub loop-depth-preserved : goal.loop-depth-preserved
+loop-depth-preserved c =
+    let w = c.args.way.now in
+    let e = c.loop-depth.depth in
+    let inv = c.loop-depth.invariant in
+    let at = c.child-node.ensures ∙ walk_step c.args.held.now w (e - 1) e c.loop-depth.node (omega arith) inv.within inv.at in
+    record {
+      within = omega (arith, inv.within);
+      at = at;
+      holder = holder_step c.args.changes.now w (e - 1) e c.is_replaced-in-loop-depth.result (option_copied c.nearer-holder-in-loop-depth.result) (option_copied c.loop-depth.holder) (omega arith) inv.within
+          (c.is_replaced-in-loop-depth.ensures (drop (e - 1) w) at) inv.holder
+          (c.nearer-holder-in-loop-depth.ensures ∙ ap (λ (v : Way). cond c.is_replaced-in-loop-depth.result (Some v) (option_copied c.loop-depth.holder)) (take_rest w (e - 1)));
+    }
 
-pub loop-rest-preserved : goal.loop-rest-preserved
-loop-rest-preserved c =
-    let cs = c.args.changes.now in
-    let w = c.loop-rest.rest.now in
-    let not : list_any (λ r. replaces r w) cs ≡ false = found-any (λ (x : Bor Change). x.now) c.change_at.result w cs c.change_at.ensures ∙ sym c.is_some.ensures ∙ c.if-is_some.false in
-    c.loop-rest.invariant ∙ holder_of-above cs w _ _ c.in_ok-up.ensures.cases.0 not
+pub returns : goal.returns
+returns c =
+    let at_end : c.loop-depth.depth ≡ 0 = omega arith in
+    c.loop-depth.invariant.holder ∙ ap (λ n. holder_of c.args.changes.now (drop n c.args.way.now)) at_end

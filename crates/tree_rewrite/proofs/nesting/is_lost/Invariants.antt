@@ -1,12 +1,20 @@
-use Rattle.std.proofs.Common.{◌≡◌, ◌&&◌, not, length}
+use Rattle.std.proofs.Common.{◌≡◌, ◌≤◌, ◌&&◌, not, length, drop}
 use Rattle.std.specs.List.{list_any}
+use Rattle.std.specs.Option.{option_copied}
+use Rattle.rowan.specs.Place.{term_by}
 use Rattle.tree_rewrite.specs.Change.{is_node_by_node}
 use Rattle.tree_rewrite.specs.Held.{leads_through}
+use Rattle.tree_rewrite.specs.Walk.{node_in}
+use Rattle.tree_rewrite.specs.WayTrie.{node_at}
 use Rattle.tree_rewrite.proofs.nesting.is_lost.Given as goal
 
-abbrev pub invariant-loop-rest : goal.invariant-loop-rest
-invariant-loop-rest l =
-    list_any (λ r. leads_through l.way r && not (is_node_by_node l.root r)) l.changes ≡ list_any (λ r. leads_through l.rest r && not (is_node_by_node l.root r)) l.changes
+abbrev pub invariant-loop-depth : goal.invariant-loop-depth
+invariant-loop-depth l = record {
+  within : l.depth ≤ length l.way;
+  at : l.node ≡ node_at l.held (drop l.depth l.way);
+  parent : option_copied l.parent ≡ node_in (term_by l.root (drop l.depth l.way));
+  lost : l.lost ≡ list_any (λ r. leads_through (drop l.depth l.way) r && not (is_node_by_node l.root r)) l.changes;
+}
 
-abbrev pub decreases-loop-rest : goal.decreases-loop-rest
-decreases-loop-rest l = length l.rest
+abbrev pub decreases-loop-depth : goal.decreases-loop-depth
+decreases-loop-depth l = l.depth

@@ -1,0 +1,24 @@
+-- What a walk down a way has at each element, as the code has it.
+use Rattle.std.specs.Prelude.{List, [], ◌∷◌, Option, Some, None, Bool, false, ◌&&◌}
+use Rattle.rowan_green.specs.Forest.{Tree}
+use Rattle.rowan_green.specs.Term.{Term, children_of}
+use Rattle.rowan_green.specs.declared.utility_types.NodeOrToken.TheVariants.{Node, Token}
+use Rattle.syntax_tree.specs.Element.{term_of, is_node}
+use Rattle.tree_rewrite.specs.Change.{Change, insert, replace}
+
+-- the node that the term is, if it is one
+abbrev pub node_in : Option Term → Option Tree
+node_in None = None
+node_in (Some (Node t)) = Some t
+node_in (Some (Token l)) = None
+
+abbrev pub children_below : Option Tree → List Term
+children_below None = []
+children_below (Some t) = children_of t
+
+-- one element was named alone, and a node comes in its place
+abbrev pub names_node : Change → Bool
+names_node (insert p i new) = false
+names_node (replace first n [] single) = false
+names_node (replace first n (e ∷ []) single) = single && is_node (term_of e)
+names_node (replace first n (e ∷ (d ∷ new)) single) = false

@@ -1,0 +1,75 @@
+//! Which of what was put in is on the sheet of which payload, so that no job looks at all others.
+ghost use Rattle.std.specs.Prelude.{◌≡◌, ◌∷◌, ◌++◌, [], List, Some, slice_get, IfOk, OnOk};
+ghost use Rattle.std.specs.Option.{option_copied};
+ghost use Rattle.tree_rewrite.specs.Rewrite.{Job};
+ghost use Rattle.tree_rewrite.specs.Fill.{HavePut};
+ghost use Rattle.tree_rewrite.specs.Below.{OnSheet};
+ghost use Rattle.tree_rewrite.specs.Listed.{HaveChains, IsListed};
+ghost use Rattle.tree_rewrite.specs.declared.piece.Put.{Put};
+
+use crate::job::Job;
+use crate::way_map::{WayMap, number_at, put};
+use std::alloc::{AllocError, Global};
+use std::collections::HashMap;
+
+/// The numbers of what was put in, by the payloads on whose sheets it is. A payload is named by the
+/// way of the node that it replaces.
+#[derive(Drop)]
+pub struct OnPayloads {
+    /// The number of the last on each sheet.
+    pub last: WayMap,
+    /// Of each number the one before it on the same sheet.
+    pub before: Vec<Option<usize>>,
+}
+
+impl OnPayloads {
+    /// Nothing was put in.
+    pub fn new(alloc: Global) -> OnPayloads
+        ensures { (all : List Job) → IsListed all [] result }
+    {
+        OnPayloads {
+            last: HashMap::new(alloc),
+            before: Vec::new(alloc),
+        }
+    }
+
+    /// What was noted of a number, if it was put in.
+    fn noted(&self, number: usize) -> Option<&Option<usize>>
+        ensures { option_copied result ≡ slice_get self.now.before.items number }
+    {
+        self.before.get(number)
+    }
+
+    /// The numbers on the sheet of a payload, in their order.
+    pub fn numbers(&self, alloc: Global, way: &[usize]) -> Result<Vec<usize>, AllocError>
+        requires { HaveChains self.now }
+        ensures { (all : List Job) (ps : List Put) (js : List Job) → IsListed all ps self.now
+            → HavePut all ps js → IfOk result (λ v. OnSheet all ps v.items (Some way.now) js) }
+    {
+        let mut numbers = Vec::new(alloc);
+        let mut next = number_at(&self.last, way);
+        while let Some(number) = next {
+            numbers.push(number)?;
+            next = match self.noted(number) {
+                Some(before) => *before,
+                None => None,
+            };
+        }
+        numbers.reverse();
+        Ok(numbers)
+    }
+
+    /// Notes that what a job puts in comes next.
+    pub fn note(&mut self, alloc: Global, job: &Job) -> Result<(), AllocError>
+        ensures { (all : List Job) (ps : List Put) (p : Put) → IsListed all ps self.old
+            → slice_get all p.number ≡ Some job.now → OnOk result (IsListed all (ps ++ p ∷ []) self.new) }
+    {
+        let Some(way) = job.sheet() else {
+            self.before.push(None)?;
+            return Ok(());
+        };
+        let number = self.before.len();
+        self.before.push(number_at(&self.last, way))?;
+        put(&mut self.last, Vec::from_slice(alloc, way)?, number)
+    }
+}
