@@ -1,8 +1,6 @@
 use Rattle.std.proofs.Common.{false, true, subst}
 use Rattle.rust_productions.specs.Reads.{looks, Saw}
-use Rattle.rust_productions.proofs.Begins.{meta-begins}
 use Rattle.grammar_reader.proofs.AnyMode.{meta-mode, pattern-mode, type-mode}
-use Rattle.grammar_reader.proofs.PathArgs.{any-mode}
 use Rattle.ra_parser.specs.Entries.{single_of}
 use Rattle.ra_parser.specs.declared.entries.Single.{Single}
 use Rattle.ra_parser.proofs.entries.read.Goals as goal
