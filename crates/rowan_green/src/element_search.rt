@@ -78,7 +78,7 @@ fn find_by_scan(elements: &[GreenElement], offset: u32) -> Place
     unreachable!()
 }
 
-/// Returns the index of the first node with the longest text, or `None` if no element is a node.
+/// Returns the index of the last node with the longest text, or `None` if no element is a node.
 pub(crate) fn longest_node(elements: &[GreenElement]) -> Option<usize>
     ensures { IfSome result (λ i. i < length elements.now) }
 {
@@ -87,7 +87,7 @@ pub(crate) fn longest_node(elements: &[GreenElement]) -> Option<usize>
     for index in 0..elements.len() {
         if let NodeOrToken::Node(node) = &elements[index] {
             let len = node.text_len().0;
-            if best.is_none() || len > most {
+            if len >= most {
                 best = Some(index);
                 most = len;
             }
