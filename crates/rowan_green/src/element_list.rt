@@ -251,11 +251,7 @@ impl ElementList {
             let ElementList { link } = list;
             match link {
                 Link::One(element) => return element.into_node(),
-                Link::Block(_, elements) => {
-                    let mut elements = elements;
-                    let index = longest_node(&elements)?;
-                    return elements.swap_remove(index).into_node();
-                }
+                Link::Block(_, elements) => return longest_node(elements),
                 Link::Fork(_, left, right, _, _) => {
                     let (long, short) = if left.text_len() < right.text_len() {
                         (right, left)

@@ -1,10 +1,12 @@
-//! The element of a block at an offset in its text.
+//! Searches in a block: the element at an offset in its text, and the node with the longest text.
 ghost use Rattle.std.specs.Prelude.{◌≡◌, ◌+◌, ◌<◌, ◌≤◌, ◌^◌, ◌/◌, length, take, IfSome};
-ghost use Rattle.rowan_green.specs.Term.{texts_of};
+ghost use Rattle.rowan_green.specs.Forest.{tree_count, forest_count};
+ghost use Rattle.rowan_green.specs.Term.{forest_of, texts_of};
 ghost use Rattle.rowan_green.specs.ChildAt.{IsChildAt};
 
 use crate::element::GreenElement;
 use crate::element_list::FEWEST;
+use crate::node::GreenNode;
 use crate::utility_types::NodeOrToken;
 
 /// The element at an offset: its number, where it starts, and how many lengths were looked at.
@@ -78,20 +80,28 @@ fn find_by_scan(elements: &[GreenElement], offset: u32) -> Place
     unreachable!()
 }
 
-/// Returns the index of the first node with the longest text, or `None` if no element is a node.
-pub(crate) fn longest_node(elements: &[GreenElement]) -> Option<usize>
-    ensures { IfSome result (λ i. i < length elements.now) }
+/// Drops the elements except the node with the longest text, and returns that node; `None` if no
+/// element is a node.
+#[cycle(node_drop)]
+pub(crate) fn longest_node(mut elements: Vec<GreenElement>) -> Option<GreenNode>
+    ensures { IfSome result (λ n. tree_count n ≤ forest_count (forest_of elements.items)) }
 {
-    let mut best = None;
-    let mut most = 0;
-    for index in 0..elements.len() {
-        if let NodeOrToken::Node(node) = &elements[index] {
-            let len = node.text_len().0;
-            if best.is_none() || len > most {
-                best = Some(index);
-                most = len;
+    let mut longest: Option<GreenNode> = None;
+    'elements: while let Some(element) = elements.pop() {
+        if let NodeOrToken::Node(node) = element {
+            match longest {
+                None => longest = Some(node),
+                Some(other) => {
+                    if other.text_len().0 < node.text_len().0 {
+                        drop(other);
+                        longest = Some(node);
+                    } else {
+                        drop(node);
+                        longest = Some(other);
+                    }
+                }
             }
         }
     }
-    best
+    longest
 }

@@ -73,7 +73,7 @@ fn with_pair<'a>(
 {
     match (a, b) {
         (NodeOrToken::Node(a), NodeOrToken::Node(b)) => with_nodes(comparison, a, b),
-        (NodeOrToken::Token(a), NodeOrToken::Token(b)) if a == b => comparison,
+        (NodeOrToken::Token(a), NodeOrToken::Token(b)) if *a == *b => comparison,
         _ => Comparison::Different,
     }
 }
@@ -109,7 +109,7 @@ pub(crate) fn same_element(a: &GreenElement, b: &GreenElement) -> bool
 {
     match (a, b) {
         (NodeOrToken::Node(a), NodeOrToken::Node(b)) => same_node(a, b),
-        (NodeOrToken::Token(a), NodeOrToken::Token(b)) => a == b,
+        (NodeOrToken::Token(a), NodeOrToken::Token(b)) => *a == *b,
         _ => false,
     }
 }

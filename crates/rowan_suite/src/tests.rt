@@ -5,6 +5,7 @@
 //! is dropped in small helpers, with few ways out: each way out of a function is proved.
 ghost use Rattle.std.specs.Iterator.{IsFinite};
 
+mod deep;
 mod finding;
 mod printing;
 mod steps;

@@ -1,29 +1,48 @@
-use Rattle.std.proofs.Common.{◌<◌, length, rules, arith, ap}
-use Rattle.rowan_green.specs.Forest.{forest_count}
-use Rattle.rowan_green.specs.Term.{forest_of}
-use Rattle.rowan_green.proofs.Dropping.{most_below, rest_below, taken_count}
-use Rattle.rowan_green.proofs.Summing.{at_block}
+use Rattle.std.proofs.Common.{◌≤◌, arith, ap, sym}
+use Rattle.rowan_green.specs.Forest.{tree_count, forest_count}
+use Rattle.rowan_green.specs.Term.{forest_of, term_count}
+use Rattle.rowan_green.proofs.Dropping.{count_popped, bounded}
 use Rattle.rowan_green.proofs.+node_drop.Goals as goal
+use Rattle.rowan_green.proofs.+node_drop.Goals.{element_search::longest_node-in-Node, element_search::longest_node-in-None, element_search::longest_node-in-Some-longest+then-text_len, element_search::longest_node-in-Some-longest+else-text_len, element_search::longest_node-in_default-element}
 
-pub element_list::ElementList::into_longest-drop-elements-requires :
-    goal.element_list::ElementList::into_longest-drop-elements-requires
-element_list::ElementList::into_longest-drop-elements-requires t c κs =
-    let b = at_block c.list.view_is c.list.invariant c.in-Block.is in
-    let e = ap (λ es. forest_count (forest_of es)) b.terms in
-    (((most_below _ _ _ (λ u. omega arith) (λ l. omega arith) (omega (arith, e)), tt), tt), search rules)
+pub element_search::longest_node-drop-requires-else-text_len :
+    goal.element_search::longest_node-drop-requires-else-text_len
+element_search::longest_node-drop-requires-else-text_len t c =
+    let k = count_popped _ _ _ c.in-Some.ensures.items in
+    (omega (arith, k, ap term_count c.in-Node.is, c.elements.invariant.below), tt)
 
-pub element_list::ElementList::into_longest-drop-elements-requires-in-Block :
-    goal.element_list::ElementList::into_longest-drop-elements-requires-in-Block
-element_list::ElementList::into_longest-drop-elements-requires-in-Block t c κs =
-    let b = at_block c.list.view_is c.list.invariant c.in-Block.is in
-    let e = ap (λ es. forest_count (forest_of es)) b.terms in
-    let i : c.in_ok-index-in-Block.index < length c.in-Block.elements.items = rw (← c.deref.ensures.value) c.in_ok-index-in-Block.ensures in
-    (((rest_below _ _ _ _ _ _ (λ u. omega arith) (λ l. omega arith) i c.swap_remove.ensures.items (omega (arith, e)), tt), tt), search rules)
+pub element_search::longest_node-elements-preserved-after-element-2 :
+    goal.element_search::longest_node-elements-preserved-after-element-2
+element_search::longest_node-elements-preserved-after-element-2 t c =
+    let m = forest_count (forest_of c.args.elements.items) in
+    let k = count_popped _ _ _ c.in-Some.ensures.items in record {
+      below = omega (arith, k, c.elements.invariant.below);
+      longest = elim c.match-element.branch [
+        | element_search::longest_node-in-Node w ↦
+            let n : tree_count w.in-Node.node ≤ m = omega (arith, k, ap term_count w.in-Node.is, c.elements.invariant.below) in
+            bounded m _ _ w.longest-is (elim w.match-longest.branch [
+              | element_search::longest_node-in-None v ↦ bounded m _ _ v.longest-is n
+              | element_search::longest_node-in-Some-longest+then-text_len v ↦ bounded m _ _ v.longest-is n
+              | element_search::longest_node-in-Some-longest+else-text_len v ↦ bounded m _ _ v.longest-is (bounded m _ _ (sym v.in-Some-longest.is) c.elements.invariant.longest)
+            ])
+        | element_search::longest_node-in_default-element w ↦ bounded m _ _ w.longest-is c.elements.invariant.longest
+      ];
+    }
 
-pub element_list::ElementList::into_longest-returns-in-Block :
-    goal.element_list::ElementList::into_longest-returns-in-Block
-element_list::ElementList::into_longest-returns-in-Block t c =
-    let b = at_block c.list.view_is c.list.invariant c.in-Block.is in
-    let e = ap (λ es. forest_count (forest_of es)) b.terms in
-    let i : c.in_ok-index-in-Block.index < length c.in-Block.elements.items = rw (← c.deref.ensures.value) c.in_ok-index-in-Block.ensures in
-    taken_count _ _ _ _ _ i c.swap_remove.ensures.value c.into_node-in-Block.ensures (omega (arith, e, c.down.invariant))
+pub element_search::longest_node-elements-preserved :
+    goal.element_search::longest_node-elements-preserved
+element_search::longest_node-elements-preserved t c =
+    let m = forest_count (forest_of c.args.elements.items) in
+    let k = count_popped _ _ _ c.in-Some.ensures.items in record {
+      below = omega (arith, k, c.elements.invariant.below);
+      longest = elim c.match-element.branch [
+        | element_search::longest_node-in-Node w ↦
+            let n : tree_count w.in-Node.node ≤ m = omega (arith, k, ap term_count w.in-Node.is, c.elements.invariant.below) in
+            bounded m _ _ w.longest-is (elim w.match-longest.branch [
+              | element_search::longest_node-in-None v ↦ bounded m _ _ v.longest-is n
+              | element_search::longest_node-in-Some-longest+then-text_len v ↦ bounded m _ _ v.longest-is n
+              | element_search::longest_node-in-Some-longest+else-text_len v ↦ bounded m _ _ v.longest-is (bounded m _ _ (sym v.in-Some-longest.is) c.elements.invariant.longest)
+            ])
+        | element_search::longest_node-in_default-element w ↦ bounded m _ _ w.longest-is c.elements.invariant.longest
+      ];
+    }
