@@ -2,8 +2,8 @@
 ghost use Rattle.std.specs.Prelude.{ℕ, ◌≡◌, ◌≢◌, [], ◌∷◌, ◌*◌, ◌↔◌, ◌+◌, ◌<◌, ◌≤◌, ◌^◌, length, take, IsSome, IfSome, IfOk, IfErr, OnOk, MatchOption, List, slice_get};
 ghost use Rattle.std.specs.Option.{SomeIff, option_copied};
 ghost use Rattle.std.specs.Iterator.{IsFinite, Drains};
-ghost use Rattle.rowan_green.specs.Forest.{same_forest, same_tree, tree_text};
-ghost use Rattle.rowan_green.specs.Term.{Term, texts_of, tree_of, children_of, forest_of, same_term, FitsNode};
+ghost use Rattle.rowan_green.specs.Forest.{tree_text};
+ghost use Rattle.rowan_green.specs.Term.{Term, texts_of, tree_of, children_of, FitsNode};
 ghost use Rattle.rowan_green.specs.ChildAt.{IsChildAt};
 ghost use Rattle.rowan_green.specs.Refusal.{RefusesUnless};
 
