@@ -7,7 +7,7 @@ ghost use Rattle.rowan.specs.Matching.{outcome, pending_count};
 
 use rowan_green::{GreenElement, GreenNode, NodeOrToken};
 
-/// A comparison of bytes with a text: the answer, or a node on whose text after so many bytes it
+/// A comparison of bytes with a text: the answer, or the node on whose text after an offset it
 /// depends, with the bytes that are to be there.
 #[derive(Clone, Copy)]
 enum Matching<'a> {

@@ -132,7 +132,7 @@ fn child_node<'a>(parent: Option<&'a GreenNode>, index: usize) -> Option<&'a Gre
     }
 }
 
-/// Returns the node at a way, lent by the tree, if there is one.
+/// Returns the node at a way, borrowed from the tree, if there is one.
 fn node_by<'a>(root: &'a GreenNode, way: &[usize]) -> Option<&'a GreenNode>
     ensures { option_copied result ≡ node_in (term_by root.now way.now) }
 {

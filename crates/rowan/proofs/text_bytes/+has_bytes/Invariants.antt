@@ -27,7 +27,7 @@ invariant-has_bytes-down l = record {
 abbrev pub decreases-has_bytes-down : goal.decreases-has_bytes-down
 decreases-has_bytes-down l = tree_count l.inside
 
--- what is told and what the rest says is what all says
+-- the outcome so far and that of the rest are the outcome of all
 abbrev pub invariant-children_have-loop-child : goal.invariant-children_have-loop-child
 invariant-children_have-loop-child l = record {
   below : forest_count (forest_of l.child-iterator) + 1 ≤ tree_count l.node;
