@@ -7,6 +7,7 @@ mod comments;
 mod commits;
 mod differences;
 mod edits;
+mod grammars;
 mod guide;
 mod kept;
 mod merged;

@@ -10,6 +10,7 @@ use Rattle.tree_rewrite.specs.Rewrite.{jobs, is_placeable}
 use Rattle.parser_input.specs.declared.edition.Edition.{Edition}
 use Rattle.syntax_editor.specs.Editing.{Editing, with_changes}
 use Rattle.syntax_editor.specs.Rewriting.{rewriting}
+use Rattle.ra_parser.specs.declared.grammar.Grammar.{Grammar}
 use Rattle.rust_document.specs.Laws.{CommitsAlike}
 use Rattle.rust_document.specs.Reading.{root_of}
 use Rattle.rust_document.specs.Rewrite.{rewritten}
@@ -19,8 +20,8 @@ use Rattle.rust_document.proofs.Verdicts.{chosen, misses, verdict-is}
 abbrev is_long : Marked → Bool
 is_long m = nat_lt MAX_TEXT (length (tree_text (root_of (forest_in m)))) || not (new_fits m)
 
-abbrev is_unfaithful : Edition → Marked → Bool
-is_unfaithful edition m = not (is_faithful edition (root_of (forest_in m)))
+abbrev is_unfaithful : Grammar → Edition → Marked → Bool
+is_unfaithful grammar edition m = not (is_faithful grammar edition (root_of (forest_in m)))
 
 intersecting : (f m l u n k v : Bool) → chosen f true m l u ≡ chosen f true n k v
 unfolding first_fit
@@ -57,19 +58,19 @@ module _ (d : State) (e : Editing) (cs ds : List Change) (alike : AreAlike e.top
   by_place true p q a b =
       let placeable : is_placeable e.top cs e.mapping ≡ true = ap (λ (x : Bool). not x && is_some (jobs e.top cs e.mapping)) a ∙ p in
       let same : rewriting one ≡ rewriting other = alike.same placeable in
-      verdict-is d one (is_foreign d one) false false (is_too_long one) (not (is_faithful d.edition (rewritten one))) refl a (some_too (jobs e.top cs e.mapping) p) refl refl
-      ∙ ap (λ (m : Marked). chosen (is_foreign d one) false false (is_long m) (is_unfaithful d.edition m)) same
-      ∙ sym (verdict-is d other (is_foreign d other) false false (is_too_long other) (not (is_faithful d.edition (rewritten other))) refl b (some_too (jobs e.top ds e.mapping) q) refl refl)
+      verdict-is d one (is_foreign d one) false false (is_too_long one) (not (is_faithful d.grammar d.edition (rewritten one))) refl a (some_too (jobs e.top cs e.mapping) p) refl refl
+      ∙ ap (λ (m : Marked). chosen (is_foreign d one) false false (is_long m) (is_unfaithful d.grammar d.edition m)) same
+      ∙ sym (verdict-is d other (is_foreign d other) false false (is_too_long other) (not (is_faithful d.grammar d.edition (rewritten other))) refl b (some_too (jobs e.top ds e.mapping) q) refl refl)
   by_place false p q a b =
-      verdict-is d one (is_foreign d one) false true (is_too_long one) (not (is_faithful d.edition (rewritten one))) refl a (none_too (jobs e.top cs e.mapping) p) refl refl
-      ∙ missing (is_foreign d one) (is_too_long one) (not (is_faithful d.edition (rewritten one))) (is_too_long other) (not (is_faithful d.edition (rewritten other)))
-      ∙ sym (verdict-is d other (is_foreign d other) false true (is_too_long other) (not (is_faithful d.edition (rewritten other))) refl b (none_too (jobs e.top ds e.mapping) q) refl refl)
+      verdict-is d one (is_foreign d one) false true (is_too_long one) (not (is_faithful d.grammar d.edition (rewritten one))) refl a (none_too (jobs e.top cs e.mapping) p) refl refl
+      ∙ missing (is_foreign d one) (is_too_long one) (not (is_faithful d.grammar d.edition (rewritten one))) (is_too_long other) (not (is_faithful d.grammar d.edition (rewritten other)))
+      ∙ sym (verdict-is d other (is_foreign d other) false true (is_too_long other) (not (is_faithful d.grammar d.edition (rewritten other))) refl b (none_too (jobs e.top ds e.mapping) q) refl refl)
 
   by_collision : (x : Bool) → has_collision cs ≡ x → has_collision ds ≡ x → verdict d one ≡ verdict d other
   by_collision true p q =
-      verdict-is d one (is_foreign d one) true (misses one) (is_too_long one) (not (is_faithful d.edition (rewritten one))) refl p refl refl refl
-      ∙ intersecting (is_foreign d one) (misses one) (is_too_long one) (not (is_faithful d.edition (rewritten one))) (misses other) (is_too_long other) (not (is_faithful d.edition (rewritten other)))
-      ∙ sym (verdict-is d other (is_foreign d other) true (misses other) (is_too_long other) (not (is_faithful d.edition (rewritten other))) refl q refl refl refl)
+      verdict-is d one (is_foreign d one) true (misses one) (is_too_long one) (not (is_faithful d.grammar d.edition (rewritten one))) refl p refl refl refl
+      ∙ intersecting (is_foreign d one) (misses one) (is_too_long one) (not (is_faithful d.grammar d.edition (rewritten one))) (misses other) (is_too_long other) (not (is_faithful d.grammar d.edition (rewritten other)))
+      ∙ sym (verdict-is d other (is_foreign d other) true (misses other) (is_too_long other) (not (is_faithful d.grammar d.edition (rewritten other))) refl q refl refl refl)
   by_collision false p q =
       let y = is_some (jobs e.top cs e.mapping) in
       by_place y refl (apart false y p q refl refl) p q
@@ -95,7 +96,7 @@ commits_alike d e cs ds alike =
     record {
       verdicts = verdicts d e cs ds alike;
       trees = λ accepted.
-          let is = sym (verdict-is d one (is_foreign d one) (has_collision cs) (misses one) (is_too_long one) (not (is_faithful d.edition (rewritten one))) refl refl refl refl refl) ∙ accepted in
+          let is = sym (verdict-is d one (is_foreign d one) (has_collision cs) (misses one) (is_too_long one) (not (is_faithful d.grammar d.edition (rewritten one))) refl refl refl refl refl) ∙ accepted in
           let has = apart_and_placed _ _ _ _ _ is in
           ap (λ (m : Marked). root_of (forest_in m)) (alike.same (placed (has_collision cs) (jobs e.top cs e.mapping) has.0 has.1));
     }

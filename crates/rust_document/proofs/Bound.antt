@@ -13,6 +13,7 @@ use Rattle.rust_grammar.specs.Rule.{source_file}
 use Rattle.rust_grammar.proofs.Plain.{and_l, and_r}
 use Rattle.rust_grammar.proofs.PowersTable.{entries-bind}
 use Rattle.rust_grammar.proofs.Spelling.{both-true}
+use Rattle.ra_parser.specs.Grammars.{is_whole}
 use Rattle.rust_document.specs.Laws.{OperatorsBindByPower}
 use Rattle.rust_document.specs.OperatorExamples.{PlacedOperatorsAreTold}
 use Rattle.rust_document.specs.Reading.{forest_by, leaves_in}
@@ -323,10 +324,10 @@ operators-carried = record {
 -- THE law of operators.
 pub document-bound : OperatorsBindByPower
 unfolding asked
-document-bound edition text none =
+document-bound g edition text none =
     let ls = leaves_in edition text in
-    document-holds asked are_operators_placed operators-carried edition text none
-    (both-true (has_solid_leaves (forest_by source_file edition ls)) (grammar.are_operators_placed (forest_by source_file edition ls)) (entry-solid source_file edition ls) (entries-bind source_file (input false edition ls)))
+    document-holds asked are_operators_placed operators-carried g edition text none
+    (both-true (has_solid_leaves (forest_by source_file g edition ls)) (grammar.are_operators_placed (forest_by source_file g edition ls)) (entry-solid source_file g edition ls) (entries-bind source_file (input (is_whole g) edition ls)))
 
 -- Rows are told by computing.
 pub placed-told : PlacedOperatorsAreTold

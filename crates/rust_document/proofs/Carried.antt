@@ -19,7 +19,9 @@ use Rattle.rust_grammar.specs.Entry.{entry}
 use Rattle.rust_grammar.specs.Laws.{is_entry}
 use Rattle.rust_grammar.specs.Whole.{whole}
 use Rattle.rust_grammar.proofs.EntriesFit.{entry-rooted}
-use Rattle.rust_document.specs.Reading.{terms_of, root_of, forest_by, dressed_by, tree_by, tree, leaves_in, messages_by, messages, of_leaves}
+use Rattle.ra_parser.specs.Grammars.{is_whole}
+use Rattle.ra_parser.specs.declared.grammar.Grammar.{Grammar}
+use Rattle.rust_document.specs.Reading.{terms_of, root_of, forest_by, dressed_by, tree_by, tree_in, leaves_in, messages_by, messages_in, of_leaves}
 use Rattle.rust_document.specs.Shape.{kinds_of, kinds_from}
 use Rattle.rust_document.proofs.Shapes.{shown, beside, shown-followed}
 use Rattle.rust_document.proofs.Shown.{Shows, dress-shown, say-shown, put-shown, close-shown, number_shown}
@@ -127,11 +129,11 @@ module _ (given : forest.Forest → Bool) (holds : Forest → Bool) (carried : C
   rooted-holds f ls rooted none e = absurd rooted
 
   -- THE law of documents without messages.
-  pub document-holds : (edition : Edition) (text : List ℕ) → messages edition text ≡ [] → given (forest_by source_file edition (leaves_in edition text)) ≡ true → holds (kinds_from (tree edition text)) ≡ true
+  pub document-holds : (grammar : Grammar) (edition : Edition) (text : List ℕ) → messages_in grammar edition text ≡ [] → given (forest_by source_file grammar edition (leaves_in edition text)) ≡ true → holds (kinds_from (tree_in grammar edition text)) ≡ true
   unfolding tree_by dressed_by messages_by is_entry
-  document-holds edition text none e =
+  document-holds grammar edition text none e =
       let ls = leaves_in edition text in
-      let f = entry whole source_file (input false edition ls) in
+      let f = entry whole source_file (input (is_whole grammar) edition ls) in
       let silent = none-said (dress_root f ls) (no-sayings (sayings_of (dress_root f ls)) (of_leaves 0 (lexed edition text)) none) in
-      let inner = rooted-holds f ls (entry-rooted source_file (input false edition ls) refl) silent e in
-      subst (λ (k : ℕ). holds (node k (kinds_of (tree edition text)).forest empty) ≡ true) (sym (document-root edition text)) (kept.file (kinds_of (tree edition text)).forest inner)
+      let inner = rooted-holds f ls (entry-rooted source_file (input (is_whole grammar) edition ls) refl) silent e in
+      subst (λ (k : ℕ). holds (node k (kinds_of (tree_in grammar edition text)).forest empty) ≡ true) (sym (document-root grammar edition text)) (kept.file (kinds_of (tree_in grammar edition text)).forest inner)

@@ -12,6 +12,7 @@ use Rattle.rust_grammar.specs.Rule.{source_file}
 use Rattle.rust_grammar.proofs.Plain.{and_l, and_r}
 use Rattle.rust_grammar.proofs.Spelling.{both-true}
 use Rattle.rust_grammar.proofs.TokenTreesTable.{token-trees-bracketed}
+use Rattle.ra_parser.specs.Grammars.{is_whole}
 use Rattle.rust_document.specs.Laws.{TokenTreesAreClosed}
 use Rattle.rust_document.specs.Reading.{leaves_in}
 use Rattle.rust_document.specs.Brackets.{last_kind, is_closed, are_token_trees_closed}
@@ -207,6 +208,6 @@ token-trees-carried = record {
 
 -- THE law of token trees.
 pub document-closed : TokenTreesAreClosed
-document-closed edition text none =
-    document-holds are_token_trees_bracketed are_token_trees_closed token-trees-carried edition text none
-    (token-trees-bracketed source_file (input false edition (leaves_in edition text)))
+document-closed grammar edition text none =
+    document-holds are_token_trees_bracketed are_token_trees_closed token-trees-carried grammar edition text none
+    (token-trees-bracketed source_file (input (is_whole grammar) edition (leaves_in edition text)))

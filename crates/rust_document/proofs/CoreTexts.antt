@@ -1,5 +1,5 @@
 -- The reading of a text whose input is a core file.
-use Rattle.std.proofs.Common.{◌≡◌, ◌∙◌, ℕ, ◌-◌, false, true, List, [], ◌++◌, map, length, refl, ap, arith}
+use Rattle.std.proofs.Common.{◌≡◌, ◌∙◌, ℕ, ◌-◌, false, true, List, [], ◌++◌, map, length, refl, sym, ap, subst, arith}
 use Rattle.std.proofs.lemmas.Bool.{and_parts}
 use Rattle.parser_input.specs.Input.{input}
 use Rattle.parser_input.specs.Leaf.{Leaf}
@@ -15,6 +15,9 @@ use Rattle.core_language.specs.Language.{IsCoreFile}
 use Rattle.core_language.specs.Laws.{is_clean}
 use Rattle.core_language.proofs.Clean.{files-clean}
 use Rattle.core_language.proofs.Read.{files-read}
+use Rattle.ra_parser.specs.Grammars.{is_whole}
+use Rattle.ra_parser.specs.declared.grammar.Grammar.{Grammar}
+use Rattle.ra_parser.specs.declared.grammar.Grammar.TheVariants.{Profile}
 use Rattle.rust_document.specs.Core.{ReadsAs}
 use Rattle.rust_document.specs.Reading.{dressed_by, forest_by, leaves_in, messages_by, of_grammar, of_leaves, root_of, terms_of, tree_by}
 use Rattle.rust_document.proofs.Silent.{said, said-close, said-each, said-leaf, said-open, said-pending}
@@ -74,15 +77,20 @@ whole-said (forest.ErrorLeaf m k f) ls clean = absurd (cc)
 whole-said (forest.Float b c f) ls clean = absurd (cc)
 whole-said (forest.Node k c f) ls clean = root-said k c (start ls) (and_parts (is_clean c) (is_clean f) clean).0 (start-said ls)
 
-pub core-read : (edition : Edition) (text : List ℕ) (core : forest.Forest) → IsCoreFile (input false edition (leaves_in edition text)) core → ReadsAs edition text core
+pub core-read : (grammar : Grammar) (edition : Edition) (text : List ℕ) (core : forest.Forest) → IsCoreFile (input (is_whole grammar) edition (leaves_in edition text)) core → ReadsAs grammar edition text core
 unfolding tree_by messages_by dressed_by
-core-read edition text core is =
+core-read grammar edition text core is =
     let ls = leaves_in edition text in
-    let same : forest_by source_file edition ls ≡ core = files-read (input false edition ls) core is in
-    let silent : sayings_of (dress_root core ls) ≡ [] = none-told (dress_root core ls) (whole-said core ls (files-clean (input false edition ls) core is)) in
+    let same : forest_by source_file grammar edition ls ≡ core = files-read (input (is_whole grammar) edition ls) core is in
+    let silent : sayings_of (dress_root core ls) ≡ [] = none-told (dress_root core ls) (whole-said core ls (files-clean (input (is_whole grammar) edition ls) core is)) in
     record {
       tree_is = ap (λ (f : forest.Forest). root_of (terms_of (dress_root f ls))) same;
       messages_are =
           ap (λ (f : forest.Forest). map of_grammar (sayings_of (dress_root f ls)) ++ of_leaves 0 (lexed edition text)) same
           ∙ ap (λ (xs : List Saying). map of_grammar xs ++ of_leaves 0 (lexed edition text)) silent;
     }
+
+-- the same where the grammar is the profile
+pub document-core :
+    (grammar : Grammar) (edition : Edition) (text : List ℕ) → grammar ≡ Profile → (core : forest.Forest) → IsCoreFile (input false edition (leaves_in edition text)) core → ReadsAs grammar edition text core
+document-core grammar edition text is core h = subst (λ (g : Grammar). ReadsAs g edition text core) (sym is) (core-read Profile edition text core h)

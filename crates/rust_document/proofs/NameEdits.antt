@@ -24,11 +24,12 @@ use Rattle.plain_names.specs.LeafNames as names
 use Rattle.plain_names.specs.LeafNames.{texts}
 use Rattle.plain_names.specs.Renames.{Rename, IsPlainRename, IsInTree, renamed_leaves}
 use Rattle.plain_names.proofs.Numbered.{keeps-inputs, keeps-leaves}
+use Rattle.ra_parser.specs.Grammars.{is_whole}
 use Rattle.rust_document.specs.ContentEdit.{IsTextEdit}
 use Rattle.rust_document.specs.Edit.{edited}
 use Rattle.rust_document.specs.NameEdits.{ArePlainNames, IsAround, IsPart, IsPut, IsRead, IsRenamedTree, IsTokenReplaced}
 use Rattle.rust_document.specs.NextReading.{tokens_in}
-use Rattle.rust_document.specs.Reading.{tree}
+use Rattle.rust_document.specs.Reading.{tree_in}
 use Rattle.rust_document.specs.Renames.{is_plain_name}
 use Rattle.rust_document.specs.Seen.{in_bytes}
 use Rattle.rust_document.specs.Tokens.{Span, span_of, spans_from}
@@ -119,8 +120,9 @@ pub renamed-tree :
     (read : ReadText) (e : TextEdit) (p : TokenPlace) (n : Names) (root : Tree) → IsRead e.before.now read → IsTextEdit e
     → IsAround read.tokens.now e.range.start.0 e.range.end.0 p → ArePlainNames read.edition e.before.now e.after.now p.range.start.0 p.range.end.0 n
     → IsTokenReplaced read.root.now.place.root p.range.start.0 n root → e.range.start.0 ≤ e.range.end.0
-    → IsRenamedTree read.edition e.before.now e.after.now root
+    → IsRenamedTree read.grammar read.edition e.before.now e.after.now root
 renamed-tree read e p n root own edit around plain put ordered =
+    let grammar = read.grammar in
     let edition = read.edition in
     let bs = e.before.now in
     let cs = chars bs in
@@ -152,8 +154,8 @@ renamed-tree read e p n root own edit around plain put ordered =
       new_ident = name-ident edition (chars n.new.now) plain.new_plain;
       new_plain = name-plain edition (chars n.new.now) plain.new_plain;
     } in
-    let tree_is : read.root.now.place.root ≡ tree edition cs = ap (λ (q : Place). q.root) own.root_is in
-    let in_tree : IsInTree edition cs (tree edition cs) r = record {
+    let tree_is : read.root.now.place.root ≡ tree_in grammar edition cs = ap (λ (q : Place). q.root) own.root_is in
+    let in_tree : IsInTree edition cs (tree_in grammar edition cs) r = record {
       stands = ap (λ (t : Tree). term_by t put.up) (sym tree_is) ∙ put.stands
           ∙ ap (λ (z : List ℕ). Some (terms.Token (leaf_of IDENT z))) (sym (encodes-chars n.old.now plain.old_is.utf8));
       starts = ap (λ (t : Tree). start_by t put.up) (sym tree_is) ∙ put.starts ∙ start;
@@ -174,18 +176,18 @@ renamed-tree read e p n root own edit around plain put ordered =
     renamed-texts r 0 i ls l (let z : i ≡ 0 + i = omega arith in z) at.1
     ∙ chars_from_encodes (front ++ (chars n.new.now ++ back)) e.after.now edit.after_text
     (encodes-append front (chars n.new.now ++ back) ∙ ap (λ (z : List ℕ). a ++ z) (encodes-append (chars n.new.now) back ∙ ap (λ (z : List ℕ). z ++ b) (encodes-chars n.new.now plain.new_is.utf8)) ∙ sym parts) in
-    let read_is = new-read edition bs (r ∷ []) edit.before_text (renamed, tt) (in_tree, tt) (refl, tt) in
+    let read_is = new-read grammar edition bs (r ∷ []) edit.before_text (renamed, tt) (in_tree, tt) (refl, tt) in
     let new_leaf = leaf_of IDENT (encodes (chars n.new.now)) in
-    let made = put-token (tree edition cs) put.up (leaf_of IDENT (encodes (chars n.old.now))) new_leaf in_tree.stands in
+    let made = put-token (tree_in grammar edition cs) put.up (leaf_of IDENT (encodes (chars n.old.now))) new_leaf in_tree.stands in
     record {
       is_read = put.is
           ∙ ap (λ (z : List ℕ). put_token read.root.now.place.root put.up (leaf_of IDENT z)) (sym (encodes-chars n.new.now plain.new_is.utf8))
           ∙ ap (λ (g : Tree). put_token g put.up new_leaf) tree_is
-          ∙ made ∙ sym read_is ∙ ap (λ (z : List ℕ). tree edition z) text_is;
+          ∙ made ∙ sym read_is ∙ ap (λ (z : List ℕ). tree_in grammar edition z) text_is;
       same_input = sym (
-          ap (λ (z : List ℕ). tokens_in edition z) (sym text_is)
-          ∙ ap (λ (xs : List Lexed). input false edition (leaves_of xs)) (keeps-leaves edition cs (r ∷ []) (renamed, tt))
-          ∙ keeps-inputs false edition cs (r ∷ []) (renamed, tt));
+          ap (λ (z : List ℕ). tokens_in grammar edition z) (sym text_is)
+          ∙ ap (λ (xs : List Lexed). input (is_whole grammar) edition (leaves_of xs)) (keeps-leaves edition cs (r ∷ []) (renamed, tt))
+          ∙ keeps-inputs (is_whole grammar) edition cs (r ∷ []) (renamed, tt));
     }
 
 -- where it is known
@@ -193,7 +195,7 @@ pub renamed-known :
     (r : Result (Option Tree) AllocError) (read : ReadText) (e : TextEdit) (p : TokenPlace) (n : Names) → IsRead e.before.now read → IsTextEdit e
     → IsAround read.tokens.now e.range.start.0 e.range.end.0 p → ArePlainNames read.edition e.before.now e.after.now p.range.start.0 p.range.end.0 n
     → IfOk r (λ o. IfSome o (IsTokenReplaced read.root.now.place.root p.range.start.0 n))
-    → IfOk r (λ o. IfSome o (IsRenamedTree read.edition e.before.now e.after.now))
+    → IfOk r (λ o. IfSome o (IsRenamedTree read.grammar read.edition e.before.now e.after.now))
 renamed-known (Err x) read e p n own edit around plain put = put
 renamed-known (Ok None) read e p n own edit around plain put = put
 renamed-known (Ok (Some g)) read e p n own edit around plain put =

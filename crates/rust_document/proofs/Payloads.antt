@@ -17,6 +17,7 @@ use Rattle.parser_input.specs.declared.edition.Edition.{Edition}
 use Rattle.parser_input.specs.declared.message.Message as inputs
 use Rattle.parser_input.proofs.LexedTexts.{single-text}
 use Rattle.rust_grammar.specs.Rule.{Production}
+use Rattle.ra_parser.specs.declared.grammar.Grammar.{Grammar}
 use Rattle.rust_document.specs.Reading as reading
 use Rattle.rust_document.specs.Reading.{of_leaf, of_leaves, tree_by, messages_by}
 use Rattle.rust_document.specs.Step.{MAX_TEXT}
@@ -103,26 +104,26 @@ not_one edition text h none e = by_single edition text None h none (told-none (s
 -- ---- entries
 
 entry-is :
-    (x : Production) (edition : Edition) (text : List ℕ) (l m : Bool) → nat_lt MAX_TEXT (length text) ≡ l → nat_lt 0 (length (messages_by x edition (chars text))) ≡ m → entry_payload x edition text ≡ first_fit (row l TooLong ∷ row m Message ∷ []) (Whole (tree_by x edition (chars text)))
-entry-is x edition text l m p q = rw (p, q) refl
+    (x : Production) (grammar : Grammar) (edition : Edition) (text : List ℕ) (l m : Bool) → nat_lt MAX_TEXT (length text) ≡ l → nat_lt 0 (length (messages_by x grammar edition (chars text))) ≡ m → entry_payload x grammar edition text ≡ first_fit (row l TooLong ∷ row m Message ∷ []) (Whole (tree_by x grammar edition (chars text)))
+entry-is x grammar edition text l m p q = rw (p, q) refl
 
-pub entry_too_long : (x : Production) (edition : Edition) (text : List ℕ) → MAX_TEXT < length text → entry_payload x edition text ≡ TooLong
+pub entry_too_long : (x : Production) (grammar : Grammar) (edition : Edition) (text : List ℕ) → MAX_TEXT < length text → entry_payload x grammar edition text ≡ TooLong
 unfolding first_fit
-entry_too_long x edition text h = entry-is x edition text true _ (lt-ltb MAX_TEXT (length text) h) refl
+entry_too_long x grammar edition text h = entry-is x grammar edition text true _ (lt-ltb MAX_TEXT (length text) h) refl
 
 -- as many messages as the code has
 same-count : (es : List SyntaxError) (ms : List reading.Message) → map own.message_of_error es ≡ ms → length es ≡ length ms
 same-count es ms e = sym (length-map es own.message_of_error) ∙ ap (λ (xs : List reading.Message). length xs) e
 
 pub entry_message :
-    (x : Production) (edition : Edition) (text : List ℕ) (es : List SyntaxError) → length text ≤ MAX_TEXT → map own.message_of_error es ≡ messages_by x edition (chars text) → 0 < length es → entry_payload x edition text ≡ Message
+    (x : Production) (grammar : Grammar) (edition : Edition) (text : List ℕ) (es : List SyntaxError) → length text ≤ MAX_TEXT → map own.message_of_error es ≡ messages_by x grammar edition (chars text) → 0 < length es → entry_payload x grammar edition text ≡ Message
 unfolding first_fit
-entry_message x edition text es h e some =
-    entry-is x edition text false true (le-ltb MAX_TEXT (length text) h) (lt-ltb 0 (length (messages_by x edition (chars text))) (omega (arith, some, same-count es _ e)))
+entry_message x grammar edition text es h e some =
+    entry-is x grammar edition text false true (le-ltb MAX_TEXT (length text) h) (lt-ltb 0 (length (messages_by x grammar edition (chars text))) (omega (arith, some, same-count es _ e)))
 
 pub entry_tree :
-    (x : Production) (edition : Edition) (text : List ℕ) (es : List SyntaxError) (root : Tree) → length text ≤ MAX_TEXT → map own.message_of_error es ≡ messages_by x edition (chars text) → length es ≤ 0 → root ≡ tree_by x edition (chars text) → entry_payload x edition text ≡ Whole root
+    (x : Production) (grammar : Grammar) (edition : Edition) (text : List ℕ) (es : List SyntaxError) (root : Tree) → length text ≤ MAX_TEXT → map own.message_of_error es ≡ messages_by x grammar edition (chars text) → length es ≤ 0 → root ≡ tree_by x grammar edition (chars text) → entry_payload x grammar edition text ≡ Whole root
 unfolding first_fit
-entry_tree x edition text es root h e none is =
-    entry-is x edition text false false (le-ltb MAX_TEXT (length text) h) (le-ltb 0 (length (messages_by x edition (chars text))) (omega (arith, none, same-count es _ e)))
+entry_tree x grammar edition text es root h e none is =
+    entry-is x grammar edition text false false (le-ltb MAX_TEXT (length text) h) (le-ltb 0 (length (messages_by x grammar edition (chars text))) (omega (arith, none, same-count es _ e)))
     ∙ ap Whole (sym is)

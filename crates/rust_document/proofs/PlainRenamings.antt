@@ -35,8 +35,9 @@ use Rattle.plain_changes.specs.LeafChanges as changes
 use Rattle.plain_changes.specs.LeafChanges.{LeafChange, AreLeafChanges, change_of}
 use Rattle.plain_changes.proofs.Fits.{small-fit, keeps-counts}
 use Rattle.plain_changes.proofs.Orders.{are-apart, leaves-replaced}
+use Rattle.ra_parser.specs.Grammars.{is_whole}
 use Rattle.rust_document.specs.Open.{IsOpened}
-use Rattle.rust_document.specs.Reading.{leaves_in, root_of, tree}
+use Rattle.rust_document.specs.Reading.{leaves_in, root_of, tree_in}
 use Rattle.rust_document.specs.Renames.{AreRenames, IsPlainRenaming, IsReadExactly}
 use Rattle.rust_document.specs.Rewrite.{rewritten}
 use Rattle.rust_document.specs.Step.{State, MAX_TEXT, present, root_element, bare_tree, is_faithful, is_foreign, is_too_long, Verdict, verdict, Accepted}
@@ -95,21 +96,21 @@ record Renamed (d : State) (e : Editing) : Type 0 where
   placed : is_some (jobs e.top e.changes e.mapping) ≡ true
   forest_is : forest_in (rewriting e) ≡ node (rewritten e).kind (rewritten e).forest empty
   count_is : forest_count (forest_in (rewriting e)) ≡ forest_count (node (present d).kind (present d).forest empty)
-  reads : tree d.edition (chars (tree_text (rewritten e))) ≡ rewritten e
+  reads : tree_in d.grammar d.edition (chars (tree_text (rewritten e))) ≡ rewritten e
 
 renamed-by :
     (d : State) (e : Editing) (rs : List Rename) → is_some (jobs e.top e.changes e.mapping) ≡ true
-    → forest_in (rewriting e) ≡ node (present d).kind (new_tree d.edition d.text rs).forest empty → tree d.edition (new_text d.edition d.text rs) ≡ new_tree d.edition d.text rs
-    → all_scalars (new_text d.edition d.text rs) ≡ true → tree_count (new_tree d.edition d.text rs) ≡ tree_count (present d) → Renamed d e
+    → forest_in (rewriting e) ≡ node (present d).kind (new_tree d.grammar d.edition d.text rs).forest empty → tree_in d.grammar d.edition (new_text d.edition d.text rs) ≡ new_tree d.grammar d.edition d.text rs
+    → all_scalars (new_text d.edition d.text rs) ≡ true → tree_count (new_tree d.grammar d.edition d.text rs) ≡ tree_count (present d) → Renamed d e
 renamed-by d e rs placed own read scalars count =
-    let tree_is : rewritten e ≡ new_tree d.edition d.text rs = ap root_of own in
+    let tree_is : rewritten e ≡ new_tree d.grammar d.edition d.text rs = ap root_of own in
     let text_is : chars (tree_text (rewritten e)) ≡ new_text d.edition d.text rs =
-    ap (λ (t : Tree). chars (tree_text t)) (tree_is ∙ sym read) ∙ ap chars (tree-text d.edition (new_text d.edition d.text rs)) ∙ chars-encodes (new_text d.edition d.text rs) scalars in
+    ap (λ (t : Tree). chars (tree_text t)) (tree_is ∙ sym read) ∙ ap chars (tree-text d.grammar d.edition (new_text d.edition d.text rs)) ∙ chars-encodes (new_text d.edition d.text rs) scalars in
     record {
       placed = placed;
       forest_is = own ∙ ap (λ (t : Tree). node t.kind t.forest empty) (sym tree_is);
       count_is = let all = ap forest_count own in omega (arith, all, count);
-      reads = ap (λ (t : List ℕ). tree d.edition t) text_is ∙ read ∙ sym tree_is;
+      reads = ap (λ (t : List ℕ). tree_in d.grammar d.edition t) text_is ∙ read ∙ sym tree_is;
     }
 
 renamed : (d : State) (e : Editing) → IsUtf8 d.text → IsPlainRenaming d e → Renamed d e
@@ -122,13 +123,13 @@ renamed d e u h =
     let made = leaves-replaced (root_element d) cs e.mapping refl (all-replace d e.changes h.each) apart in
     let placed : is_some (jobs e.top e.changes e.mapping) ≡ true =
     ap (λ (top : Element). is_some (jobs top e.changes e.mapping)) h.own ∙ ap (λ (xs : List Change). is_some (jobs (root_element d) xs e.mapping)) (sym are) ∙ made.0 in
-    let own : forest_in (rewriting e) ≡ node (present d).kind (new_tree d.edition d.text rs).forest empty =
+    let own : forest_in (rewriting e) ≡ node (present d).kind (new_tree d.grammar d.edition d.text rs).forest empty =
     ap (λ (top : Element). forest_in (rewrite top e.changes e.mapping)) h.own
     ∙ ap (λ (xs : List Change). forest_in (rewrite (root_element d) xs e.mapping)) (sym are)
     ∙ made.1
     ∙ ap (λ (xs : List Replacement). node (present d).kind (with_leaves xs [] 0 (present d).forest) empty) same in
     let far : AreApart (map names.replacement_of rs) = subst AreApart same (are-apart cs apart) in
-    renamed-by d e rs placed own (new-read d.edition d.text rs u (all-plain d e.changes h.each) (all-in-tree d e.changes h.each) far) (renamed-scalars d.edition (chars d.text) rs (scalars-chars d.text u) (all-texts d e.changes h.each))
+    renamed-by d e rs placed own (new-read d.grammar d.edition d.text rs u (all-plain d e.changes h.each) (all-in-tree d e.changes h.each) far) (renamed-scalars d.edition (chars d.text) rs (scalars-chars d.text u) (all-texts d e.changes h.each))
     (ap (λ (xs : List Replacement). tree_count (record { kind = (present d).kind; forest = with_leaves xs [] 0 (present d).forest })) (sym same) ∙ keeps-counts cs (present d))
 
 -- The verdict.
@@ -151,10 +152,10 @@ present-few : (d : State) → IsUtf8 d.text → IsOpened d.text → forest_count
 unfolding is_entry
 present-few d u o =
     let ls = leaves_in d.edition (chars d.text) in
-    let dressed_tree = dress_root (old_forest d.edition d.text) ls in
-    let own : forest_count (node (present d).kind (present d).forest empty) ≡ forest_count (dressed_forest encode_utf8 dressed_tree) = ap forest_count (sym (present-one d.edition d.text)) in
+    let dressed_tree = dress_root (old_forest d.grammar d.edition d.text) ls in
+    let own : forest_count (node (present d).kind (present d).forest empty) ≡ forest_count (dressed_forest encode_utf8 dressed_tree) = ap forest_count (sym (present-one d.grammar d.edition d.text)) in
     let steps = elements-steps encode_utf8 dressed_tree in
-    let short : length (text_steps dressed_tree) ≤ 65 * length ls + 67 = entry-short source_file false d.edition ls refl in
+    let short : length (text_steps dressed_tree) ≤ 65 * length ls + 67 = entry-short source_file (is_whole d.grammar) d.edition ls refl in
     let leaves = length-map (lexed d.edition (chars d.text)) (λ (l : Lexed). l.leaf) in
     let few = count-all d.edition d.text u in
     omega (arith, own, steps, short, leaves, few, o)
@@ -169,7 +170,7 @@ whole-fits d e u o r short =
 within : (d : State) (e : Editing) → IsUtf8 d.text → IsOpened d.text → Renamed d e → length (tree_text (rewritten e)) ≤ MAX_TEXT → is_too_long e ≡ false
 within d e u o r short = rw (le-ltb MAX_TEXT (length (tree_text (rewritten e))) short, whole-fits d e u o r short) refl
 
-faithful : (d : State) (e : Editing) → Renamed d e → not (is_faithful d.edition (rewritten e)) ≡ false
+faithful : (d : State) (e : Editing) → Renamed d e → not (is_faithful d.grammar d.edition (rewritten e)) ≡ false
 faithful d e r =
     ap (λ (t : Tree). not (same_tree (bare_tree (rewritten e)) (bare_tree t))) r.reads ∙ ap not (same-itself (bare_tree (rewritten e)))
 

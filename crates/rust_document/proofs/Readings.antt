@@ -1,5 +1,5 @@
 -- The parser's input of a text, and the steps over it.
-use Rattle.std.proofs.Common.{◌≡◌, ◌≤◌, ◌+◌, ℕ, false, List, length, chars, is_some, sym, subst, ap, ◌∙◌, arith, Bool, Option}
+use Rattle.std.proofs.Common.{◌≡◌, ◌≤◌, ◌+◌, ℕ, List, length, chars, is_some, sym, subst, ap, ◌∙◌, arith, Bool, Option}
 use Rattle.std.specs.Str.{IsUtf8}
 use Rattle.rustc_lexer.specs.Shebang.{shebang}
 use Rattle.parser_input.specs.Input.{Token, input}
@@ -12,6 +12,8 @@ use Rattle.rust_grammar.specs.Entry.{entry}
 use Rattle.rust_grammar.specs.Whole.{whole}
 use Rattle.ra_parser.specs.Entries.{production_of}
 use Rattle.ra_parser.specs.declared.entry_points.TopEntryPoint.{TopEntryPoint}
+use Rattle.ra_parser.specs.Grammars.{is_whole}
+use Rattle.ra_parser.specs.declared.grammar.Grammar.{Grammar}
 use Rattle.rust_document.specs.NextReading.{AreStepsBy, one_if, tokens_in}
 use Rattle.rust_document.specs.Reading.{after_preface}
 use Rattle.rust_document.proofs.After.{frontmatter-len, parts-len, shebang-len}
@@ -20,28 +22,28 @@ use Rattle.rust_document.proofs.Whole.{tokens-within}
 
 -- a text within the limit has no more tokens
 pub few-tokens :
-    (edition : Edition) (bs : List ℕ) (w : Whole) (ts : List Token) → IsUtf8 bs → w ≡ whole_of edition (chars bs)
-    → ts ≡ input false w.edition (leaves_of w.leaves) → length bs ≤ 16777216 → length ts ≤ 16777216
-few-tokens edition bs w ts u is made fits =
+    (grammar : Grammar) (edition : Edition) (bs : List ℕ) (w : Whole) (ts : List Token) → IsUtf8 bs → w ≡ whole_of edition (chars bs)
+    → ts ≡ input (is_whole grammar) w.edition (leaves_of w.leaves) → length bs ≤ 16777216 → length ts ≤ 16777216
+few-tokens grammar edition bs w ts u is made fits =
     omega (
       arith,
       ap (λ (xs : List Token). length xs) made,
-      tokens-within w.edition w.leaves,
+      tokens-within grammar w.edition w.leaves,
       ap (λ (v : Whole). length v.leaves) is,
       count-all edition bs u,
       fits,
     )
 
 pub input-is :
-    (edition : Edition) (text : List ℕ) (w : Whole) (ts : List Token) → w ≡ whole_of edition text
-    → ts ≡ input false w.edition (leaves_of w.leaves) → ts ≡ tokens_in edition text
-input-is edition text w ts is made = made ∙ ap (λ (v : Whole). input false v.edition (leaves_of v.leaves)) is
+    (grammar : Grammar) (edition : Edition) (text : List ℕ) (w : Whole) (ts : List Token) → w ≡ whole_of edition text
+    → ts ≡ input (is_whole grammar) w.edition (leaves_of w.leaves) → ts ≡ tokens_in grammar edition text
+input-is grammar edition text w ts is made = made ∙ ap (λ (v : Whole). input (is_whole grammar) v.edition (leaves_of v.leaves)) is
 
 pub steps-are :
-    (top : TopEntryPoint) (edition : Edition) (text : List ℕ) (w : Whole) (ts : List Token) (ss : List Step) → w ≡ whole_of edition text
-    → ts ≡ tokens_in edition text → ss ≡ steps (entry whole (production_of top) ts) → AreStepsBy (production_of top) w.edition text ss
-steps-are top edition text w ts ss is made parsed =
-    subst (λ (e : Edition). AreStepsBy (production_of top) e text ss) (sym (ap (λ (v : Whole). v.edition) is))
+    (top : TopEntryPoint) (grammar : Grammar) (edition : Edition) (text : List ℕ) (w : Whole) (ts : List Token) (ss : List Step) → w ≡ whole_of edition text
+    → ts ≡ tokens_in grammar edition text → ss ≡ steps (entry whole (production_of top) ts) → AreStepsBy (production_of top) grammar w.edition text ss
+steps-are top grammar edition text w ts ss is made parsed =
+    subst (λ (e : Edition). AreStepsBy (production_of top) grammar e text ss) (sym (ap (λ (v : Whole). v.edition) is))
     (parsed ∙ ap (λ (xs : List Token). steps (entry whole (production_of top) xs)) made)
 
 -- the leaves behind the preface

@@ -1,5 +1,5 @@
 -- The reading of a text in which plain identifiers are renamed.
-use Rattle.std.proofs.Common.{◌≡◌, ℕ, false, List, [], map, chars, refl, sym, ◌∙◌, ap, subst}
+use Rattle.std.proofs.Common.{◌≡◌, ℕ, List, [], map, chars, refl, sym, ◌∙◌, ap, subst}
 use Rattle.std.specs.Prelude.{encode_utf8}
 use Rattle.std.specs.List.{flat_map}
 use Rattle.std.specs.Str.{IsUtf8}
@@ -23,7 +23,9 @@ use Rattle.plain_names.specs.Replacements.{AreApart, with_leaves}
 use Rattle.plain_names.specs.Trees.{dressed_forest}
 use Rattle.plain_names.proofs.Numbered.{keeps-leaves, keeps-inputs}
 use Rattle.plain_names.proofs.PlainTrees.{encodes-flat, renames-trees}
-use Rattle.rust_document.specs.Reading.{dressed_by, forest_by, leaves_in, root_of, terms_of, tree, tree_by}
+use Rattle.ra_parser.specs.Grammars.{is_whole}
+use Rattle.ra_parser.specs.declared.grammar.Grammar.{Grammar}
+use Rattle.rust_document.specs.Reading.{dressed_by, forest_by, leaves_in, root_of, terms_of, tree_in, tree_by}
 use Rattle.rust_document.proofs.SourceFiles.{source-entry}
 
 -- ---- the tree of a text, as one node
@@ -46,9 +48,9 @@ node-one : (k : ℕ) (c : forest.Forest) (ls : List Lexed) → IsOneNode (forest
 unfolding dress_root root close_node open_node
 node-one k c ls = refl
 
-pub file-one : (edition : Edition) (ls : List Lexed) → IsOneNode (forest_by source_file edition (leaves_of ls)) ls
-file-one edition ls =
-    let own = source-entry (input false edition (leaves_of ls)) in
+pub file-one : (grammar : Grammar) (edition : Edition) (ls : List Lexed) → IsOneNode (forest_by source_file grammar edition (leaves_of ls)) ls
+file-one grammar edition ls =
+    let own = source-entry (input (is_whole grammar) edition (leaves_of ls)) in
     subst (λ (f : forest.Forest). IsOneNode f ls) (sym own.1) (node-one SOURCE_FILE own.0 ls)
 
 -- ---- of a plain renaming: the new leaves, the new text, and the tree with the new names
@@ -59,32 +61,32 @@ new_leaves edition text rs = renamed_leaves rs edition (chars text)
 abbrev pub new_text : (edition : Edition) (text : List ℕ) → List Rename → List ℕ
 new_text edition text rs = texts (new_leaves edition text rs)
 
-abbrev pub new_tree : (edition : Edition) (text : List ℕ) → List Rename → Tree
-new_tree edition text rs = record { kind = (tree edition (chars text)).kind; forest = with_leaves (map names.replacement_of rs) [] 0 (tree edition (chars text)).forest }
+abbrev pub new_tree : (grammar : Grammar) (edition : Edition) (text : List ℕ) → List Rename → Tree
+new_tree grammar edition text rs = record { kind = (tree_in grammar edition (chars text)).kind; forest = with_leaves (map names.replacement_of rs) [] 0 (tree_in grammar edition (chars text)).forest }
 
-abbrev pub old_forest : (edition : Edition) (text : List ℕ) → forest.Forest
-old_forest edition text = forest_by source_file edition (leaves_in edition (chars text))
+abbrev pub old_forest : (grammar : Grammar) (edition : Edition) (text : List ℕ) → forest.Forest
+old_forest grammar edition text = forest_by source_file grammar edition (leaves_in edition (chars text))
 
-pub present-one : (edition : Edition) (text : List ℕ) → dressed_forest encode_utf8 (dress_root (old_forest edition text) (leaves_in edition (chars text))) ≡ node (tree edition (chars text)).kind (tree edition (chars text)).forest empty
+pub present-one : (grammar : Grammar) (edition : Edition) (text : List ℕ) → dressed_forest encode_utf8 (dress_root (old_forest grammar edition text) (leaves_in edition (chars text))) ≡ node (tree_in grammar edition (chars text)).kind (tree_in grammar edition (chars text)).forest empty
 unfolding tree_by dressed_by
-present-one edition text = sym (terms-mapped (dress_root (old_forest edition text) (leaves_in edition (chars text)))) ∙ file-one edition (lexed edition (chars text))
+present-one grammar edition text = sym (terms-mapped (dress_root (old_forest grammar edition text) (leaves_in edition (chars text)))) ∙ file-one grammar edition (lexed edition (chars text))
 
 new-dressed :
-    (edition : Edition) (text : List ℕ) (rs : List Rename) → IsUtf8 text → ArePlainRenames edition (chars text) rs → AreInTree edition (chars text) (tree edition (chars text)) rs
-    → AreApart (map names.replacement_of rs) → terms_of (dress_root (old_forest edition text) (leaves_of (new_leaves edition text rs))) ≡ node (tree edition (chars text)).kind (new_tree edition text rs).forest empty
-new-dressed edition text rs u plain here apart =
-    terms-mapped (dress_root (old_forest edition text) (leaves_of (new_leaves edition text rs)))
-    ∙ renames-trees edition (chars text) rs (old_forest edition text) (tree edition (chars text)) (scalars-chars text u) plain here apart (present-one edition text)
+    (grammar : Grammar) (edition : Edition) (text : List ℕ) (rs : List Rename) → IsUtf8 text → ArePlainRenames edition (chars text) rs → AreInTree edition (chars text) (tree_in grammar edition (chars text)) rs
+    → AreApart (map names.replacement_of rs) → terms_of (dress_root (old_forest grammar edition text) (leaves_of (new_leaves edition text rs))) ≡ node (tree_in grammar edition (chars text)).kind (new_tree grammar edition text rs).forest empty
+new-dressed grammar edition text rs u plain here apart =
+    terms-mapped (dress_root (old_forest grammar edition text) (leaves_of (new_leaves edition text rs)))
+    ∙ renames-trees edition (chars text) rs (old_forest grammar edition text) (tree_in grammar edition (chars text)) (scalars-chars text u) plain here apart (present-one grammar edition text)
 
-new-forest : (edition : Edition) (text : List ℕ) (rs : List Rename) → ArePlainRenames edition (chars text) rs → forest_by source_file edition (leaves_of (new_leaves edition text rs)) ≡ old_forest edition text
-new-forest edition text rs plain = ap (entry whole source_file) (keeps-inputs false edition (chars text) rs plain)
+new-forest : (grammar : Grammar) (edition : Edition) (text : List ℕ) (rs : List Rename) → ArePlainRenames edition (chars text) rs → forest_by source_file grammar edition (leaves_of (new_leaves edition text rs)) ≡ old_forest grammar edition text
+new-forest grammar edition text rs plain = ap (entry whole source_file) (keeps-inputs (is_whole grammar) edition (chars text) rs plain)
 
 -- the new text reads as the tree with the new names
 pub new-read :
-    (edition : Edition) (text : List ℕ) (rs : List Rename) → IsUtf8 text → ArePlainRenames edition (chars text) rs → AreInTree edition (chars text) (tree edition (chars text)) rs
-    → AreApart (map names.replacement_of rs) → tree edition (new_text edition text rs) ≡ new_tree edition text rs
+    (grammar : Grammar) (edition : Edition) (text : List ℕ) (rs : List Rename) → IsUtf8 text → ArePlainRenames edition (chars text) rs → AreInTree edition (chars text) (tree_in grammar edition (chars text)) rs
+    → AreApart (map names.replacement_of rs) → tree_in grammar edition (new_text edition text rs) ≡ new_tree grammar edition text rs
 unfolding tree_by dressed_by
-new-read edition text rs u plain here apart =
-    ap (λ (ls : List Lexed). root_of (terms_of (dress_root (forest_by source_file edition (leaves_of ls)) (leaves_of ls)))) (keeps-leaves edition (chars text) rs plain)
-    ∙ ap (λ (f : forest.Forest). root_of (terms_of (dress_root f (leaves_of (new_leaves edition text rs))))) (new-forest edition text rs plain)
-    ∙ ap root_of (new-dressed edition text rs u plain here apart)
+new-read grammar edition text rs u plain here apart =
+    ap (λ (ls : List Lexed). root_of (terms_of (dress_root (forest_by source_file grammar edition (leaves_of ls)) (leaves_of ls)))) (keeps-leaves edition (chars text) rs plain)
+    ∙ ap (λ (f : forest.Forest). root_of (terms_of (dress_root f (leaves_of (new_leaves edition text rs))))) (new-forest grammar edition text rs plain)
+    ∙ ap root_of (new-dressed grammar edition text rs u plain here apart)

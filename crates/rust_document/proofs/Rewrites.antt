@@ -11,6 +11,7 @@ use Rattle.syntax_editor.specs.Editing.{Editing}
 use Rattle.syntax_editor.specs.Rewriting.{rewriting, IsPlaceable, RefusesRewriting}
 use Rattle.syntax_editor.specs.declared.error.RewriteError.{RewriteError}
 use Rattle.syntax_editor.specs.declared.error.RewriteError.TheVariants as rewrites
+use Rattle.ra_parser.specs.declared.grammar.Grammar.{Grammar}
 use Rattle.rust_document.specs.Commit.{of_rewrite}
 use Rattle.rust_document.specs.Reading.{root_of}
 use Rattle.rust_document.specs.Rewrite.{rewritten}
@@ -31,18 +32,18 @@ within e b long fits = either-or _ _ b long fits
     either-or a c false p q = rw (p, q) refl
 
 -- a tree that is read back
-pub read : (edition : Edition) (e : Editing) (t : Tree) (before : List Token) (text : List ℕ) (next : NextReading) (ranges : List TextRange) → IsPlaceable e → IsNode (rewriting e) t → new_fits (rewriting e) ≡ true
-    → AreChanged ranges (rewriting e) → IsReadBack edition t before text next → IsRewritten edition e before text next ranges
-read edition e t before text next ranges placeable is fits ranges-are back =
+pub read : (grammar : Grammar) (edition : Edition) (e : Editing) (t : Tree) (before : List Token) (text : List ℕ) (next : NextReading) (ranges : List TextRange) → IsPlaceable e → IsNode (rewriting e) t → new_fits (rewriting e) ≡ true
+    → AreChanged ranges (rewriting e) → IsReadBack grammar edition t before text next → IsRewritten grammar edition e before text next ranges
+read grammar edition e t before text next ranges placeable is fits ranges-are back =
     let same = rewritten-is e t is in
-    let own = subst (λ (u : Tree). IsReadBack edition u before text next) (sym same) back in
+    let own = subst (λ (u : Tree). IsReadBack grammar edition u before text next) (sym same) back in
     record { placeable = placeable; within = within e false (le-ltb MAX_TEXT (length (tree_text (rewritten e))) own.fits) fits; read_back = own; changed_are = ranges-are }
 
 -- a tree that is not
-pub not-read : (edition : Edition) (e : Editing) (t : Tree) (error : CommitError) → IsPlaceable e → IsNode (rewriting e) t → new_fits (rewriting e) ≡ true → RefusesReadBack edition t error → RefusesRewritten edition e error
-not-read edition e t error placeable is fits back = by-error error (subst (λ (u : Tree). RefusesReadBack edition u error) (sym (rewritten-is e t is)) back)
+pub not-read : (grammar : Grammar) (edition : Edition) (e : Editing) (t : Tree) (error : CommitError) → IsPlaceable e → IsNode (rewriting e) t → new_fits (rewriting e) ≡ true → RefusesReadBack grammar edition t error → RefusesRewritten grammar edition e error
+not-read grammar edition e t error placeable is fits back = by-error error (subst (λ (u : Tree). RefusesReadBack grammar edition u error) (sym (rewritten-is e t is)) back)
   where
-    by-error : (x : CommitError) → RefusesReadBack edition (rewritten e) x → RefusesRewritten edition e x
+    by-error : (x : CommitError) → RefusesReadBack grammar edition (rewritten e) x → RefusesRewritten grammar edition e x
     by-error refusals.Foreign h = h
     by-error refusals.Intersecting h = absurd h
     by-error refusals.MissingMapping h = absurd h
@@ -52,12 +53,12 @@ not-read edition e t error placeable is fits back = by-error error (subst (λ (u
     by-error refusals.NoMemory h = tt
 
 -- no tree
-pub not-rewritten : (edition : Edition) (e : Editing) (error : RewriteError) → RefusesRewriting e error → RefusesRewritten edition e (of_rewrite error)
-not-rewritten edition e rewrites.Intersecting h = h
-not-rewritten edition e rewrites.MissingMapping h = h
-not-rewritten edition e rewrites.TooLong h = (h.0, or-true (nat_lt MAX_TEXT (length (tree_text (rewritten e)))) h.1)
+pub not-rewritten : (grammar : Grammar) (edition : Edition) (e : Editing) (error : RewriteError) → RefusesRewriting e error → RefusesRewritten grammar edition e (of_rewrite error)
+not-rewritten grammar edition e rewrites.Intersecting h = h
+not-rewritten grammar edition e rewrites.MissingMapping h = h
+not-rewritten grammar edition e rewrites.TooLong h = (h.0, or-true (nat_lt MAX_TEXT (length (tree_text (rewritten e)))) h.1)
   where
     or-true : (a : Bool) → new_fits (rewriting e) ≡ false → (a || not (new_fits (rewriting e))) ≡ true
     or-true true is = refl
     or-true false is = rw is refl
-not-rewritten edition e rewrites.NoMemory h = tt
+not-rewritten grammar edition e rewrites.NoMemory h = tt

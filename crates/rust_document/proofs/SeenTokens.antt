@@ -10,7 +10,8 @@ use Rattle.parser_events.specs.Trivia.{pending}
 use Rattle.parser_events.specs.Dress.{reach}
 use Rattle.rust_document.specs.Shape.{has_dot, dots}
 
--- Leaves that are no trivia, each with its token and, of a float, whether it holds a dot.
+-- Leaves that are no trivia, each with its token and, of a float, whether it holds a dot. The tokens say whether the whole language is
+-- read.
 pub record Seen : Type 0 where
   pub token : Token
   pub dot : Bool
@@ -18,9 +19,9 @@ pub record Seen : Type 0 where
 unfoldable pub dot_of : Leaf → Bool
 dot_of l = if l.kind == FLOAT_NUMBER then has_dot l.text else false
 
-unfoldable pub seen : Edition → List Leaf → List Seen
-seen e [] = []
-seen e (l ∷ ls) = let rest = seen e ls in if is_trivia l then rest else record { token = token_of false e l ls; dot = dot_of l } ∷ rest
+unfoldable pub seen : (w : Bool) → Edition → List Leaf → List Seen
+seen w e [] = []
+seen w e (l ∷ ls) = let rest = seen w e ls in if is_trivia l then rest else record { token = token_of w e l ls; dot = dot_of l } ∷ rest
 
 unfoldable pub tokens : List Seen → List Token
 tokens [] = []
@@ -42,9 +43,9 @@ no-float l e = elim (or_cases (l.kind == WHITESPACE) (l.kind == COMMENT) e) [
   | inr i ↦ ap (λ (k : ℕ). k == FLOAT_NUMBER) (eqb-true l.kind COMMENT i)
 ]
 
-pub token-kind : (e : Edition) (l : Leaf) (ls : List Leaf) → (token_of false e l ls).kind ≡ l.kind
+pub token-kind : (w : Bool) (e : Edition) (l : Leaf) (ls : List Leaf) → (token_of w e l ls).kind ≡ l.kind
 unfolding token_of
-token-kind e l ls = refl
+token-kind w e l ls = refl
 
 without : (t : Token) (ts : List Token) (bs : List Bool) → (t.kind == FLOAT_NUMBER) ≡ false → together (t ∷ ts) bs ≡ record { token = t; dot = false } ∷ together ts bs
 unfolding together
@@ -55,23 +56,23 @@ with-dot : (t : Token) (ts : List Token) (b : Bool) (bs : List Bool) → (t.kind
 unfolding together
 with-dot t ts b bs e = rw e refl
 
-pub seen-together : (e : Edition) (ls : List Leaf) → seen e ls ≡ together (input false e ls) (dots ls)
+pub seen-together : (w : Bool) (e : Edition) (ls : List Leaf) → seen w e ls ≡ together (input w e ls) (dots ls)
 unfolding seen input dots dot_of together
-seen-together e [] = refl
-seen-together e (l ∷ ls) = elim (cases_Bool (is_trivia l)) [
-  | inl i ↦ rw (i, no-float l i) (seen-together e ls)
+seen-together w e [] = refl
+seen-together w e (l ∷ ls) = elim (cases_Bool (is_trivia l)) [
+  | inl i ↦ rw (i, no-float l i) (seen-together w e ls)
   | inr i ↦ elim (cases_Bool (l.kind == FLOAT_NUMBER)) [
-    | inl j ↦ rw (i, j) (ap (λ (ss : List Seen). record { token = token_of false e l ls; dot = has_dot l.text } ∷ ss) (seen-together e ls) ∙ sym (with-dot (token_of false e l ls) (input false e ls) (has_dot l.text) (dots ls) (ap (λ (k : ℕ). k == FLOAT_NUMBER) (token-kind e l ls) ∙ j)))
-    | inr j ↦ rw (i, j) (ap (λ (ss : List Seen). record { token = token_of false e l ls; dot = false } ∷ ss) (seen-together e ls) ∙ sym (without (token_of false e l ls) (input false e ls) (dots ls) (ap (λ (k : ℕ). k == FLOAT_NUMBER) (token-kind e l ls) ∙ j)))
+    | inl j ↦ rw (i, j) (ap (λ (ss : List Seen). record { token = token_of w e l ls; dot = has_dot l.text } ∷ ss) (seen-together w e ls) ∙ sym (with-dot (token_of w e l ls) (input w e ls) (has_dot l.text) (dots ls) (ap (λ (k : ℕ). k == FLOAT_NUMBER) (token-kind w e l ls) ∙ j)))
+    | inr j ↦ rw (i, j) (ap (λ (ss : List Seen). record { token = token_of w e l ls; dot = false } ∷ ss) (seen-together w e ls) ∙ sym (without (token_of w e l ls) (input w e ls) (dots ls) (ap (λ (k : ℕ). k == FLOAT_NUMBER) (token-kind w e l ls) ∙ j)))
   ]
 ]
 
-pub tokens-seen : (e : Edition) (ls : List Leaf) → tokens (seen e ls) ≡ input false e ls
+pub tokens-seen : (w : Bool) (e : Edition) (ls : List Leaf) → tokens (seen w e ls) ≡ input w e ls
 unfolding seen input tokens
-tokens-seen e [] = refl
-tokens-seen e (l ∷ ls) = elim (cases_Bool (is_trivia l)) [
-  | inl i ↦ rw i (tokens-seen e ls)
-  | inr i ↦ rw i (ap (λ (ts : List Token). token_of false e l ls ∷ ts) (tokens-seen e ls))
+tokens-seen w e [] = refl
+tokens-seen w e (l ∷ ls) = elim (cases_Bool (is_trivia l)) [
+  | inl i ↦ rw i (tokens-seen w e ls)
+  | inr i ↦ rw i (ap (λ (ts : List Token). token_of w e l ls ∷ ts) (tokens-seen w e ls))
 ]
 
 pub tokens-drop : (n : ℕ) (ss : List Seen) → tokens (drop n ss) ≡ drop n (tokens ss)
@@ -92,13 +93,13 @@ unfolding pending
 pending-no-more l ls i = rw i refl
 
 -- What is left after the next tokens, and after white space and comments.
-pub seen-reach : (e : Edition) (n : ℕ) (ls : List Leaf) → seen e (drop (reach n ls) ls) ≡ drop n (seen e ls)
+pub seen-reach : (w : Bool) (e : Edition) (n : ℕ) (ls : List Leaf) → seen w e (drop (reach n ls) ls) ≡ drop n (seen w e ls)
 unfolding seen reach
-seen-reach e zero ls = refl
-seen-reach e (suc n) [] = refl
-seen-reach e (suc n) (l ∷ ls) = elim (cases_Bool (is_trivia l)) [
-  | inl i ↦ rw i (ap (seen e) (drop-one (reach (suc n) ls) l ls) ∙ seen-reach e (suc n) ls)
-  | inr i ↦ rw i (ap (seen e) (drop-one (reach n ls) l ls) ∙ seen-reach e n ls)
+seen-reach w e zero ls = refl
+seen-reach w e (suc n) [] = refl
+seen-reach w e (suc n) (l ∷ ls) = elim (cases_Bool (is_trivia l)) [
+  | inl i ↦ rw i (ap (seen w e) (drop-one (reach (suc n) ls) l ls) ∙ seen-reach w e (suc n) ls)
+  | inr i ↦ rw i (ap (seen w e) (drop-one (reach n ls) l ls) ∙ seen-reach w e n ls)
 ]
 
 -- so many of the pending leaves, where the first is one
@@ -108,12 +109,12 @@ one-less l ls c i le = omega (arith, le, ap (λ (ms : List Leaf). length ms) (pe
 pub none-pending : (l : Leaf) (ls : List Leaf) (c : ℕ) → is_trivia l ≡ false → suc c ≤ length (pending (l ∷ ls)) → ⊥
 none-pending l ls c i le = omega (arith, le, ap (λ (ms : List Leaf). length ms) (pending-no-more l ls i))
 
-pub seen-over : (e : Edition) (c : ℕ) (ls : List Leaf) → c ≤ length (pending ls) → seen e (drop c ls) ≡ seen e ls
+pub seen-over : (w : Bool) (e : Edition) (c : ℕ) (ls : List Leaf) → c ≤ length (pending ls) → seen w e (drop c ls) ≡ seen w e ls
 unfolding seen
-seen-over e zero ls le = refl
-seen-over e (suc c) [] le = refl
-seen-over e (suc c) (l ∷ ls) le = elim (cases_Bool (is_trivia l)) [
-  | inl i ↦ rw i (seen-over e c ls (one-less l ls c i le))
+seen-over w e zero ls le = refl
+seen-over w e (suc c) [] le = refl
+seen-over w e (suc c) (l ∷ ls) le = elim (cases_Bool (is_trivia l)) [
+  | inl i ↦ rw i (seen-over w e c ls (one-less l ls c i le))
   | inr i ↦ absurd (none-pending l ls c i le)
 ]
 

@@ -25,6 +25,8 @@ use Rattle.rust_grammar.proofs.Covering.{after-some, dropped}
 use Rattle.rust_grammar.proofs.Plain.{and_l}
 use Rattle.rust_grammar.proofs.EntriesInOrder.{entries-in-order}
 use Rattle.rust_grammar.proofs.EntriesFit.{entry-rooted}
+use Rattle.ra_parser.specs.Grammars.{is_whole}
+use Rattle.ra_parser.specs.declared.grammar.Grammar.{Grammar}
 use Rattle.rust_document.specs.Reading.{terms_of, root_of, dressed_by, tree_by, leaves_in}
 use Rattle.rust_document.specs.Shape.{kinds_in, kinds_of, has_dot, dots}
 use Rattle.rust_document.proofs.SeenTokens.{Seen, dot_of, seen, tokens, together, token-kind, seen-together, tokens-seen, tokens-drop, pending-more, seen-reach, one-less, none-pending, seen-over, one-more, pending-over}
@@ -71,12 +73,12 @@ empty-pending : length (pending []) ≡ 0
 unfolding pending
 empty-pending = refl
 
-pub all-pending : (e : Edition) (ls : List Leaf) → seen e ls ≡ [] → length (pending ls) ≡ length ls
+pub all-pending : (w : Bool) (e : Edition) (ls : List Leaf) → seen w e ls ≡ [] → length (pending ls) ≡ length ls
 unfolding seen
-all-pending e [] none = empty-pending
-all-pending e (l ∷ ls) none = elim (cases_Bool (is_trivia l)) [
-  | inl i ↦ let more = all-pending e ls (subst (λ (b : Bool). (if b then seen e ls else record { token = token_of false e l ls; dot = dot_of l } ∷ seen e ls) ≡ []) i none) in let one = one-more l ls i in omega (arith, more, one)
-  | inr i ↦ absurd (let z : record { token = token_of false e l ls; dot = dot_of l } ∷ seen e ls ≡ [] = subst (λ (b : Bool). (if b then seen e ls else record { token = token_of false e l ls; dot = dot_of l } ∷ seen e ls) ≡ []) i none in cc)
+all-pending w e [] none = empty-pending
+all-pending w e (l ∷ ls) none = elim (cases_Bool (is_trivia l)) [
+  | inl i ↦ let more = all-pending w e ls (subst (λ (b : Bool). (if b then seen w e ls else record { token = token_of w e l ls; dot = dot_of l } ∷ seen w e ls) ≡ []) i none) in let one = one-more l ls i in omega (arith, more, one)
+  | inr i ↦ absurd (let z : record { token = token_of w e l ls; dot = dot_of l } ∷ seen w e ls ≡ [] = subst (λ (b : Bool). (if b then seen w e ls else record { token = token_of w e l ls; dot = dot_of l } ∷ seen w e ls) ≡ []) i none in cc)
 ]
 
 -- the next leaf, where no white space or comment is next
@@ -86,23 +88,23 @@ solid-next l ls none = elim (cases_Bool (is_trivia l)) [
   | inl i ↦ absurd (let z : l ∷ pending ls ≡ [] = sym (pending-more l ls i) ∙ none in cc)
 ]
 
-seen-solid : (e : Edition) (l : Leaf) (ls : List Leaf) → is_trivia l ≡ false → seen e (l ∷ ls) ≡ record { token = token_of false e l ls; dot = dot_of l } ∷ seen e ls
+seen-solid : (w : Bool) (e : Edition) (l : Leaf) (ls : List Leaf) → is_trivia l ≡ false → seen w e (l ∷ ls) ≡ record { token = token_of w e l ls; dot = dot_of l } ∷ seen w e ls
 unfolding seen
-seen-solid e l ls i = rw i refl
+seen-solid w e l ls i = rw i refl
 
-seen-one : (e : Edition) (ls : List Leaf) → pending ls ≡ [] → seen e (drop 1 ls) ≡ drop 1 (seen e ls)
+seen-one : (w : Bool) (e : Edition) (ls : List Leaf) → pending ls ≡ [] → seen w e (drop 1 ls) ≡ drop 1 (seen w e ls)
 unfolding seen
-seen-one e [] none = refl
-seen-one e (l ∷ ls) none = rw (solid-next l ls none) refl
+seen-one w e [] none = refl
+seen-one w e (l ∷ ls) none = rw (solid-next l ls none) refl
 
 -- whether a float that is next holds a dot
-float-dot : (e : Edition) (ls : List Leaf) (b : Bool) → pending ls ≡ [] → is_float b (tokens (seen e ls)) ≡ true → (x : Seen) (xs : List Seen) → seen e ls ≡ x ∷ xs → has_dot (next_text ls) ≡ x.dot
+float-dot : (w : Bool) (e : Edition) (ls : List Leaf) (b : Bool) → pending ls ≡ [] → is_float b (tokens (seen w e ls)) ≡ true → (x : Seen) (xs : List Seen) → seen w e ls ≡ x ∷ xs → has_dot (next_text ls) ≡ x.dot
 unfolding seen is_float tokens next_text dot_of
-float-dot e [] b none f x xs is = absurd (true≢false (sym f))
-float-dot e (l ∷ ls) b none f x xs is =
-    let at : record { token = token_of false e l ls; dot = dot_of l } ∷ seen e ls ≡ x ∷ xs = sym (seen-solid e l ls (solid-next l ls none)) ∙ is in
-    let own : dot_of l ≡ x.dot = let same : record { token = token_of false e l ls; dot = dot_of l } ≡ x = cc in ap (λ (y : Seen). y.dot) same in
-    let kind : (l.kind == FLOAT_NUMBER) ≡ true = ap (λ (k : ℕ). k == FLOAT_NUMBER) (sym (token-kind e l ls)) ∙ and_l _ _ (subst (λ (ss : List Seen). is_float b (tokens ss) ≡ true) (seen-solid e l ls (solid-next l ls none)) f) in
+float-dot w e [] b none f x xs is = absurd (true≢false (sym f))
+float-dot w e (l ∷ ls) b none f x xs is =
+    let at : record { token = token_of w e l ls; dot = dot_of l } ∷ seen w e ls ≡ x ∷ xs = sym (seen-solid w e l ls (solid-next l ls none)) ∙ is in
+    let own : dot_of l ≡ x.dot = let same : record { token = token_of w e l ls; dot = dot_of l } ≡ x = cc in ap (λ (y : Seen). y.dot) same in
+    let kind : (l.kind == FLOAT_NUMBER) ≡ true = ap (λ (k : ℕ). k == FLOAT_NUMBER) (sym (token-kind w e l ls)) ∙ and_l _ _ (subst (λ (ss : List Seen). is_float b (tokens ss) ≡ true) (seen-solid w e l ls (solid-next l ls none)) f) in
     of-float l kind ∙ own
   where
     of-float : (l : Leaf) → (l.kind == FLOAT_NUMBER) ≡ true → has_dot l.text ≡ dot_of l
@@ -123,9 +125,9 @@ pub settled-each : (s : Dressing) → pending (put_pending s).left ≡ []
 unfolding put_pending put_each put
 settled-each s = settled s.left
 
-pub seen-pending : (e : Edition) (s : Dressing) → seen e (put_pending s).left ≡ seen e s.left
+pub seen-pending : (w : Bool) (e : Edition) (s : Dressing) → seen w e (put_pending s).left ≡ seen w e s.left
 unfolding put_pending put_each put
-seen-pending e s = seen-over e (length (pending s.left)) s.left (omega arith)
+seen-pending w e s = seen-over w e (length (pending s.left)) s.left (omega arith)
 
 -- what stands inside a node is opened after the white space and comments that stay outside
 unfoldable pub inside : ℕ → Dressing → Dressing
@@ -141,17 +143,17 @@ within k s =
     let over = pending-over (length (pending s.left) - attached k (pending s.left)) s.left (omega arith) in
     omega (arith, most, over)
 
-module _ (e g : Edition) where
+module _ (w v : Bool) (e g : Edition) where
   -- dressings that show the same, with leaves left that do
   pub record Alike (s t : Dressing) : Type 0 where
     pub shapes : shown s.given ≡ shown t.given
-    pub left : seen e s.left ≡ seen g t.left
+    pub left : seen w e s.left ≡ seen v g t.left
 
   each-alike : (c d : ℕ) (s t : Dressing) → c ≤ length (pending s.left) → d ≤ length (pending t.left) → Alike s t → Alike (put_each c s) (put_each d t)
   unfolding put_each put
   each-alike c d s t p q a = record {
     shapes = idle-shown c s p ∙ a.shapes ∙ sym (idle-shown d t q);
-    left = seen-over e c s.left p ∙ a.left ∙ sym (seen-over g d t.left q);
+    left = seen-over w e c s.left p ∙ a.left ∙ sym (seen-over v g d t.left q);
   }
 
   pending-alike : (s t : Dressing) → Alike s t → Alike (put_pending s) (put_pending t)
@@ -165,7 +167,7 @@ module _ (e g : Edition) where
   unfolding put_leaf put shown
   leaf-alike k n s t a = record {
     shapes = followed-alike s.given _ t.given _ a.shapes refl;
-    left = seen-reach e n s.left ∙ ap (λ (ss : List Seen). drop n ss) a.left ∙ sym (seen-reach g n t.left);
+    left = seen-reach w e n s.left ∙ ap (λ (ss : List Seen). drop n ss) a.left ∙ sym (seen-reach v g n t.left);
   }
 
   say-alike : (m : Message) (s t : Dressing) → Alike s t → Alike (say m s) (say m t)
@@ -181,11 +183,11 @@ module _ (e g : Edition) where
   close-alike k before after s t p a = record { shapes = followed-alike before.given _ after.given _ p (ap (λ (f : Forest). node k f empty) a.shapes); left = a.left }
 
   -- elements put over the next leaf, or over none
-  put-alike : (a b : Dressed) (u v : List ℕ) (s t : Dressing) → shown a ≡ shown b → pending s.left ≡ [] → pending t.left ≡ [] → Alike s t → Alike (put a u 1 s) (put b v 1 t)
+  put-alike : (a b : Dressed) (first second : List ℕ) (s t : Dressing) → shown a ≡ shown b → pending s.left ≡ [] → pending t.left ≡ [] → Alike s t → Alike (put a first 1 s) (put b second 1 t)
   unfolding put
-  put-alike a b u v s t p i j h = record {
+  put-alike a b first second s t p i j h = record {
     shapes = followed-alike s.given a t.given b h.shapes p;
-    left = seen-one e s.left i ∙ ap (λ (ss : List Seen). drop 1 ss) h.left ∙ sym (seen-one g t.left j);
+    left = seen-one w e s.left i ∙ ap (λ (ss : List Seen). drop 1 ss) h.left ∙ sym (seen-one v g t.left j);
   }
 
   more-alike : (a b : Dressed) (s t : Dressing) → shown a ≡ shown b → Alike s t → Alike (put a [] 0 s) (put b [] 0 t)
@@ -218,15 +220,15 @@ module _ (e g : Edition) where
 
   -- the tokens that are left
   unfoldable pub rest : Dressing → List Token
-  rest s = tokens (seen e s.left)
+  rest s = tokens (seen w e s.left)
 
   rest-leaf : (k n : ℕ) (s : Dressing) → rest (put_leaf k n s) ≡ drop n (rest s)
   unfolding rest put_leaf put
-  rest-leaf k n s = ap tokens (seen-reach e n s.left) ∙ tokens-drop n (seen e s.left)
+  rest-leaf k n s = ap tokens (seen-reach w e n s.left) ∙ tokens-drop n (seen w e s.left)
 
   rest-pending : (s : Dressing) → rest (put_pending s) ≡ rest s
   unfolding rest
-  rest-pending s = ap tokens (seen-pending e s)
+  rest-pending s = ap tokens (seen-pending w e s)
 
   rest-opened : (s : Dressing) → rest (open_node s) ≡ rest s
   unfolding rest open_node
@@ -243,21 +245,21 @@ module _ (e g : Edition) where
   rest-access : (before s : Dressing) → pending s.left ≡ [] → rest (access before s) ≡ drop 1 (rest s)
   unfolding rest access put close_node say
   rest-access before s i = elim (cases_Bool (is_empty (from_dot (next_text s.left)))) [
-    | inl f ↦ rw f (ap tokens (seen-one e s.left i) ∙ tokens-drop 1 (seen e s.left))
-    | inr f ↦ rw f (ap tokens (seen-one e s.left i) ∙ tokens-drop 1 (seen e s.left))
+    | inl f ↦ rw f (ap tokens (seen-one w e s.left i) ∙ tokens-drop 1 (seen w e s.left))
+    | inr f ↦ rw f (ap tokens (seen-one w e s.left i) ∙ tokens-drop 1 (seen w e s.left))
   ]
 
   rest-parted : (before s : Dressing) → pending s.left ≡ [] → rest (access_dot before s) ≡ drop 1 (rest s)
   unfolding rest access_dot put close_node
-  rest-parted before s i = ap tokens (seen-one e s.left i) ∙ tokens-drop 1 (seen e s.left)
+  rest-parted before s i = ap tokens (seen-one w e s.left i) ∙ tokens-drop 1 (seen w e s.left)
 
   -- whether the float that is next holds a dot, on both sides
   same-flag : (b : Bool) (s t : Dressing) → pending s.left ≡ [] → pending t.left ≡ [] → Alike s t → is_float b (rest s) ≡ true → is_empty (from_dot (next_text s.left)) ≡ is_empty (from_dot (next_text t.left))
   unfolding rest has_dot
   same-flag b s t i j a f =
-      let x = float-some b (seen e s.left) f in
-      let one : has_dot (next_text s.left) ≡ x.0.dot = float-dot e s.left b i f x.0 x.1.0 x.1.1 in
-      let other : has_dot (next_text t.left) ≡ x.0.dot = float-dot g t.left b j (subst (λ (ss : List Seen). is_float b (tokens ss) ≡ true) a.left f) x.0 x.1.0 (sym a.left ∙ x.1.1) in
+      let x = float-some b (seen w e s.left) f in
+      let one : has_dot (next_text s.left) ≡ x.0.dot = float-dot w e s.left b i f x.0 x.1.0 x.1.1 in
+      let other : has_dot (next_text t.left) ≡ x.0.dot = float-dot v g t.left b j (subst (λ (ss : List Seen). is_float b (tokens ss) ≡ true) a.left f) x.0 x.1.0 (sym a.left ∙ x.1.1) in
       opposite (is_empty (from_dot (next_text s.left))) (is_empty (from_dot (next_text t.left))) (one ∙ sym other)
 
   outside-alike : (k : ℕ) (s t : Dressing) → Alike s t → Alike (outside k s) (outside k t)
@@ -271,8 +273,8 @@ module _ (e g : Edition) where
   rest-inside : (k : ℕ) (s : Dressing) → rest (inside k s) ≡ rest s
   unfolding rest inside outside put_each put open_node
   rest-inside k s =
-      ap tokens (seen-over e (attached k (pending s.left)) (open_node (outside k s)).left (within k s))
-      ∙ ap tokens (seen-over e (length (pending s.left) - attached k (pending s.left)) s.left (omega arith))
+      ap tokens (seen-over w e (attached k (pending s.left)) (open_node (outside k s)).left (within k s))
+      ∙ ap tokens (seen-over w e (length (pending s.left) - attached k (pending s.left)) s.left (omega arith))
 
   float-alike :
       (b : Bool) (f : forest.Forest) (p q r o : Dressing) (us : List Token) {ts : List Token}
@@ -353,28 +355,28 @@ module _ (e g : Edition) where
   end-alike : (s t : Dressing) → Alike s t → rest s ≡ [] → Alike (put_each (length s.left) s) (put_each (length t.left) t)
   unfolding rest
   end-alike s t a i =
-      let none = none-seen (seen e s.left) i in
-      let own = all-pending e s.left none in
-      let other = all-pending g t.left (sym a.left ∙ none) in
+      let none = none-seen (seen w e s.left) i in
+      let own = all-pending w e s.left none in
+      let other = all-pending v g t.left (sym a.left ∙ none) in
       each-alike (length s.left) (length t.left) s t (omega (arith, own)) (omega (arith, other)) a
 
   root-alike : (k : ℕ) (s t : Dressing) → Alike s t → rest s ≡ [] → kinds_of (root_of (terms_of (root k s).given)) ≡ kinds_of (root_of (terms_of (root k t).given))
   unfolding root close_node open_node shown
   root-alike k s t a i = ap (λ (f : Forest). let tree : Tree = record { kind = k; forest = f } in tree) (end-alike s t a i).shapes
 
-  start-alike : (ls ms : List Leaf) → seen e ls ≡ seen g ms → Alike (at_start ls) (at_start ms)
+  start-alike : (ls ms : List Leaf) → seen w e ls ≡ seen v g ms → Alike (at_start ls) (at_start ms)
   unfolding at_start
   start-alike ls ms same = record { shapes = refl; left = same }
 
-  rooted-alike : (f : forest.Forest) (ls ms : List Leaf) → IsRooted f → seen e ls ≡ seen g ms → tokens_after f (tokens (seen e ls)) ≡ Some [] → kinds_of (root_of (terms_of (dress_root f ls))) ≡ kinds_of (root_of (terms_of (dress_root f ms)))
+  rooted-alike : (f : forest.Forest) (ls ms : List Leaf) → IsRooted f → seen w e ls ≡ seen v g ms → tokens_after f (tokens (seen w e ls)) ≡ Some [] → kinds_of (root_of (terms_of (dress_root f ls))) ≡ kinds_of (root_of (terms_of (dress_root f ms)))
   unfolding dress_root tokens_after at_start rest
   rooted-alike (forest.Node k c forest.End) ls ms rooted same i =
-      let first = after-some (tokens_after c (tokens (seen e ls))) (tokens_after forest.End) [] i in
+      let first = after-some (tokens_after c (tokens (seen w e ls))) (tokens_after forest.End) [] i in
       let none = none-after first.0 first.1.1 in
       let both = dress-alike c (at_start ls) (at_start ms) first.0 (start-alike ls ms same) first.1.0 in
       root-alike k (dress c (at_start ls)) (dress c (at_start ms)) both.0 (both.1 ∙ none)
   rooted-alike (forest.Float false c forest.End) ls ms rooted same i =
-      let first = after-some (tokens_after c (tokens (seen e ls))) (λ vs. then_after (drop_if (is_float false vs) 1 vs) (tokens_after forest.End)) [] i in
+      let first = after-some (tokens_after c (tokens (seen w e ls))) (λ vs. then_after (drop_if (is_float false vs) 1 vs) (tokens_after forest.End)) [] i in
       let second = after-some (drop_if (is_float false first.0) 1 first.0) (tokens_after forest.End) [] first.1.1 in
       let taken = dropped (is_float false first.0) 1 first.0 second.0 second.1.0 in
       let none = none-after second.0 second.1.1 in
@@ -393,15 +395,17 @@ module _ (e g : Edition) where
   rooted-alike f ls ms rooted same i = absurd rooted
 
 pub kinds-follow :
-    (x : Production) (first second : Edition) (a b : List ℕ)
-    → is_entry x ≡ true → input false first (leaves_in first a) ≡ input false second (leaves_in second b) → dots (leaves_in first a) ≡ dots (leaves_in second b)
-    → kinds_of (tree_by x first a) ≡ kinds_of (tree_by x second b)
+    (x : Production) (g h : Grammar) (first second : Edition) (a b : List ℕ)
+    → is_entry x ≡ true → input (is_whole g) first (leaves_in first a) ≡ input (is_whole h) second (leaves_in second b) → dots (leaves_in first a) ≡ dots (leaves_in second b)
+    → kinds_of (tree_by x g first a) ≡ kinds_of (tree_by x h second b)
 unfolding tree_by dressed_by
-kinds-follow x first second a b entered same alike =
+kinds-follow x g h first second a b entered same alike =
+    let w = is_whole g in
+    let v = is_whole h in
     let own = leaves_in first a in
     let other = leaves_in second b in
-    let seen_same : seen first own ≡ seen second other =
-    seen-together first own ∙ ap (λ (ts : List Token). together ts (dots own)) same ∙ ap (λ (bs : List Bool). together (input false second other) bs) alike ∙ sym (seen-together second other) in
-    rooted-alike first second (entry whole x (input false first own)) own other (entry-rooted x (input false first own) entered) seen_same
-    (subst (λ (ts : List Token). tokens_after (entry whole x (input false first own)) ts ≡ Some []) (sym (tokens-seen first own)) (entries-in-order x (input false first own)))
+    let seen_same : seen w first own ≡ seen v second other =
+    seen-together w first own ∙ ap (λ (ts : List Token). together ts (dots own)) same ∙ ap (λ (bs : List Bool). together (input v second other) bs) alike ∙ sym (seen-together v second other) in
+    rooted-alike w v first second (entry whole x (input w first own)) own other (entry-rooted x (input w first own) entered) seen_same
+    (subst (λ (ts : List Token). tokens_after (entry whole x (input w first own)) ts ≡ Some []) (sym (tokens-seen w first own)) (entries-in-order x (input w first own)))
     ∙ ap (λ (ts : List Token). kinds_of (root_of (terms_of (dress_root (entry whole x ts) other)))) same

@@ -13,6 +13,8 @@ use Rattle.rust_grammar.specs.Rule.{Production, Spelling}
 use Rattle.rust_grammar.specs.Entry.{entry}
 use Rattle.rust_grammar.specs.Spelled.{marks, is_token, has_contextual, is_contextual, is_contextual_word, is_one_of, is_spelled, is_float, are_next, drop_if, then_after, tokens_after}
 use Rattle.rust_grammar.specs.Whole.{whole}
+use Rattle.ra_parser.specs.Grammars.{is_whole}
+use Rattle.ra_parser.specs.declared.grammar.Grammar.{Grammar}
 use Rattle.rust_grammar.proofs.Covering.{after-some, dropped}
 use Rattle.rust_grammar.proofs.EntriesInOrder.{entries-in-order}
 use Rattle.rust_grammar.proofs.Plain.{and_l, and_r}
@@ -78,9 +80,9 @@ contextual-solid edition text = of (word_of text) refl
     of None e = plain-solid.0
     of (Some w) e = kind_of w (found-solid _ words w words-solid e) (is_contextual_in edition w)
 
-token-solid : (edition : Edition) (l : Leaf) (ls : List Leaf) → is_trivia l ≡ false → (is_solid (token_of false edition l ls).kind && is_solid (token_of false edition l ls).contextual) ≡ true
+token-solid : (w : Bool) (edition : Edition) (l : Leaf) (ls : List Leaf) → is_trivia l ≡ false → (is_solid (token_of w edition l ls).kind && is_solid (token_of w edition l ls).contextual) ≡ true
 unfolding token_of is_solid is_trivia
-token-solid edition l ls own = both-true (is_solid l.kind) _ (rw own refl) (of (l.kind == IDENT) (l.kind == PIPE && (is_before_angle ls && is_from EditionNext edition)))
+token-solid w edition l ls own = both-true (is_solid l.kind) _ (rw own refl) (of (l.kind == IDENT) (l.kind == PIPE && (is_before_angle ls && is_from EditionNext edition)))
   where
     mark : (b : Bool) → is_solid (if b then PIPE_GT else EOF) ≡ true
     mark true = refl
@@ -90,12 +92,12 @@ token-solid edition l ls own = both-true (is_solid l.kind) _ (rw own refl) (of (
     of true c = contextual-solid edition l.text
     of false c = mark c
 
-input-solid : (edition : Edition) (ls : List Leaf) → are_solid (input false edition ls) ≡ true
+input-solid : (w : Bool) (edition : Edition) (ls : List Leaf) → are_solid (input w edition ls) ≡ true
 unfolding input are_solid
-input-solid edition [] = refl
-input-solid edition (l ∷ ls) = elim (cases_Bool (is_trivia l)) [
-  | inl i ↦ rw i (input-solid edition ls)
-  | inr i ↦ rw i (both-true _ (are_solid (input false edition ls)) (token-solid edition l ls i) (input-solid edition ls))
+input-solid w edition [] = refl
+input-solid w edition (l ∷ ls) = elim (cases_Bool (is_trivia l)) [
+  | inl i ↦ rw i (input-solid w edition ls)
+  | inr i ↦ rw i (both-true _ (are_solid (input w edition ls)) (token-solid w edition l ls i) (input-solid w edition ls))
 ]
 
 drop-solid : (n : ℕ) (ts : List Token) → are_solid ts ≡ true → are_solid (drop n ts) ≡ true
@@ -162,5 +164,5 @@ trees-solid (forest.Float b c f) ts us s e =
     let rest = trees-solid f after.0 us (left-solid (is_float b at.0) 1 at.0 after.0 inner.1 after.1.0) after.1.1 in
     (both-true (has_solid_leaves c) (has_solid_leaves f) inner.0 rest.0, rest.1)
 
-pub entry-solid : (x : Production) (edition : Edition) (ls : List Leaf) → has_solid_leaves (entry whole x (input false edition ls)) ≡ true
-entry-solid x edition ls = (trees-solid (entry whole x (input false edition ls)) (input false edition ls) [] (input-solid edition ls) (entries-in-order x (input false edition ls))).0
+pub entry-solid : (x : Production) (grammar : Grammar) (edition : Edition) (ls : List Leaf) → has_solid_leaves (entry whole x (input (is_whole grammar) edition ls)) ≡ true
+entry-solid x grammar edition ls = (trees-solid (entry whole x (input (is_whole grammar) edition ls)) (input (is_whole grammar) edition ls) [] (input-solid (is_whole grammar) edition ls) (entries-in-order x (input (is_whole grammar) edition ls))).0

@@ -12,7 +12,9 @@ use Rattle.rust_grammar.specs.Entry.{takes_all, entry}
 use Rattle.rust_grammar.specs.Items.{items}
 use Rattle.rust_grammar.specs.Whole.{rule, whole}
 use Rattle.rust_grammar.proofs.WholeTable.{whole-means}
-use Rattle.rust_document.specs.Reading.{terms_of, root_of, leaves_in, dressed_by, tree_by, tree}
+use Rattle.ra_parser.specs.Grammars.{is_whole}
+use Rattle.ra_parser.specs.declared.grammar.Grammar.{Grammar}
+use Rattle.rust_document.specs.Reading.{terms_of, root_of, leaves_in, dressed_by, tree_by, tree_in}
 
 root-rule : (a : Rule) × (rule source_file ≡ Node SOURCE_FILE a)
 unfolding rule items
@@ -38,9 +40,9 @@ dressed-kind : (k : ℕ) (c : forest.Forest) (ls : List Leaf) → (root_of (term
 unfolding dress_root root close_node open_node
 dressed-kind k c ls = refl
 
-pub document-root : (edition : Edition) (text : List ℕ) → (tree edition text).kind ≡ SOURCE_FILE
+pub document-root : (grammar : Grammar) (edition : Edition) (text : List ℕ) → (tree_in grammar edition text).kind ≡ SOURCE_FILE
 unfolding tree_by dressed_by
-document-root edition text =
+document-root grammar edition text =
     let ls = leaves_in edition text in
-    let own = source-entry (input false edition ls) in
+    let own = source-entry (input (is_whole grammar) edition ls) in
     ap (λ (f : forest.Forest). (root_of (terms_of (dress_root f ls))).kind) own.1 ∙ dressed-kind SOURCE_FILE own.0 ls

@@ -25,8 +25,9 @@ use Rattle.parser_events.proofs.Texts.{text-is-text}
 use Rattle.rowan.specs.Place.{term_by, start_by, text_in}
 use Rattle.rowan.proofs.PlaceLaws.{texts-slices}
 use Rattle.syntax_tree.specs.Element.{Way, Element}
+use Rattle.ra_parser.specs.declared.grammar.Grammar.{Grammar}
 use Rattle.rust_document.specs.Open.{IsOpened}
-use Rattle.rust_document.specs.Reading.{terms_of, root_of, dressed_by, tree_by, tree, leaves_in}
+use Rattle.rust_document.specs.Reading.{terms_of, root_of, dressed_by, tree_by, tree_in, leaves_in}
 use Rattle.rust_grammar.specs.Rule.{Production, source_file}
 use Rattle.tree_rewrite.proofs.MarkedLemmas.{forest_in-blank}
 use Rattle.syntax_tree.specs.declared.element.SyntaxElement.TheVariants as handles
@@ -80,19 +81,19 @@ joined-leaves [] = refl
 joined-leaves (l ∷ ls) = ap (λ (cs : List ℕ). l.leaf.text ++ cs) (joined-leaves ls)
 
 -- the leaves of the tree, joined, are the text
-pub tree-text-by : (x : Production) (edition : Edition) (text : List ℕ) → tree_text (tree_by x edition text) ≡ encodes text
+pub tree-text-by : (x : Production) (grammar : Grammar) (edition : Edition) (text : List ℕ) → tree_text (tree_by x grammar edition text) ≡ encodes text
 unfolding tree_by dressed_by
-tree-text-by x edition text =
+tree-text-by x grammar edition text =
     root-text _ (leaves_in edition text)
     ∙ terms-text (dress_root _ (leaves_in edition text))
     ∙ ap encodes (text-is-text _ (leaves_in edition text) ∙ joined-leaves (lexed edition text) ∙ leaves-joined edition text)
 
-pub tree-text : (edition : Edition) (text : List ℕ) → tree_text (tree edition text) ≡ encodes text
+pub tree-text : (grammar : Grammar) (edition : Edition) (text : List ℕ) → tree_text (tree_in grammar edition text) ≡ encodes text
 tree-text = tree-text-by source_file
 
 -- the present tree has the document's text
 pub present-text : (d : State) → IsUtf8 d.text → tree_text (present d) ≡ d.text
-present-text d u = tree-text d.edition (chars d.text) ∙ encodes-chars d.text u
+present-text d u = tree-text d.grammar d.edition (chars d.text) ∙ encodes-chars d.text u
 
 slice_there : (text : List ℕ) (start : ℕ) (o : Option Term) (l : green.Leaf) → o ≡ Some (Token l) → text_in o ≡ slice_range text start (start + length (text_in o)) → take (length l.text) (drop start text) ≡ l.text
 slice_there text start o l is h =
@@ -109,9 +110,9 @@ same-itself : (t : Tree) → same_tree t t ≡ true
 same-itself t = (same_tree-Decides t t).1 refl
 
 -- the tree of its own text
-faithful-itself : (d : State) → IsUtf8 d.text → is_faithful d.edition (present d) ≡ true
+faithful-itself : (d : State) → IsUtf8 d.text → is_faithful d.grammar d.edition (present d) ≡ true
 faithful-itself d u =
-    ap (λ (bs : List ℕ). same_tree (bare_tree (present d)) (bare_tree (tree d.edition (chars bs)))) (present-text d u) ∙ same-itself (bare_tree (present d))
+    ap (λ (bs : List ℕ). same_tree (bare_tree (present d)) (bare_tree (tree_in d.grammar d.edition (chars bs)))) (present-text d u) ∙ same-itself (bare_tree (present d))
 
 rows-false : (f i m l u : Bool) → f ≡ false → i ≡ false → m ≡ false → l ≡ false → u ≡ false → first_fit (row f Foreign ∷ row i Intersecting ∷ row m MissingMapping ∷ row l TooLong ∷ row u Unfaithful ∷ []) Accepted ≡ Accepted
 unfolding first_fit
@@ -139,6 +140,6 @@ untouched-kept d u o = record {
       refl
       refl
       (short _ _ (ap (λ (bs : List ℕ). nat_lt MAX_TEXT (length bs)) (kept-text d u) ∙ le-ltb MAX_TEXT (length d.text) o) (new-to (reading_of blank (root_element d)) (none-new (root_element d))))
-      (ap (λ (t : Tree). not (is_faithful d.edition t)) (kept-tree d) ∙ ap not (faithful-itself d u));
+      (ap (λ (t : Tree). not (is_faithful d.grammar d.edition t)) (kept-tree d) ∙ ap not (faithful-itself d u));
   same_text = kept-text d u;
 }

@@ -1,5 +1,5 @@
 -- What was read of a text's leaves is the reading of the text.
-use Rattle.std.proofs.Common.{false, ◌≡◌, ◌≤◌, ℕ, true, List, ◌++◌, map, length, refl, ap, ◌∙◌, arith, Result, Ok, Err, IfOk}
+use Rattle.std.proofs.Common.{◌≡◌, ◌≤◌, ℕ, true, List, ◌++◌, map, length, refl, ap, ◌∙◌, arith, Result, Ok, Err, IfOk}
 use Rattle.std.proofs.Math.Utf8.{encodes}
 use Rattle.std.proofs.lemmas.List.{length-map}
 use Rattle.rowan_green.specs.Forest.{Tree}
@@ -16,6 +16,8 @@ use Rattle.rust_grammar.specs.Laws.{is_entry}
 use Rattle.rust_grammar.proofs.EntriesFit.{entry-rooted, entry-fits}
 use Rattle.rust_grammar.proofs.EntriesShort.{entry-short}
 use Rattle.rust_grammar.proofs.Lengths.{input-most}
+use Rattle.ra_parser.specs.Grammars.{is_whole}
+use Rattle.ra_parser.specs.declared.grammar.Grammar.{Grammar}
 use Rattle.rust_document.specs.Reading.{Message, forest_by, of_leaves, leaves_in, dressed_by, tree_by, messages_by}
 use Rattle.rust_document.specs.Seen.{in_bytes, message_of_error}
 use Rattle.rust_document.specs.IsReading.{IsReadingBy}
@@ -25,8 +27,8 @@ use Rattle.rust_document.specs.declared.tokens.LexedToken.{LexedToken}
 use Rattle.rust_document.specs.declared.syntax_error.SyntaxError.{SyntaxError}
 
 -- an input has no more tokens than there are leaves
-pub tokens-within : (edition : Edition) (ls : List Lexed) → length (input false edition (leaves_of ls)) ≤ length ls
-tokens-within edition ls = omega (arith, input-most false edition (leaves_of ls), length-map ls (λ (l : Lexed). l.leaf))
+pub tokens-within : (grammar : Grammar) (edition : Edition) (ls : List Lexed) → length (input (is_whole grammar) edition (leaves_of ls)) ≤ length ls
+tokens-within grammar edition ls = omega (arith, input-most (is_whole grammar) edition (leaves_of ls), length-map ls (λ (l : Lexed). l.leaf))
 
 is-top : (top : TopEntryPoint) → is_entry (production_of top) ≡ true
 unfolding is_entry
@@ -39,47 +41,47 @@ is-top tops.Expr = refl
 is-top tops.MetaItem = refl
 
 -- the steps of an entry are those of one node over the leaves
-steps-are : (top : TopEntryPoint) (edition : Edition) (ls : List Leaf) → AreStepsOf (steps (forest_by (production_of top) edition ls)) ls (forest_by (production_of top) edition ls)
-steps-are top edition ls = record {
+steps-are : (top : TopEntryPoint) (grammar : Grammar) (edition : Edition) (ls : List Leaf) → AreStepsOf (steps (forest_by (production_of top) grammar edition ls)) ls (forest_by (production_of top) grammar edition ls)
+steps-are top grammar edition ls = record {
   are = refl;
-  rooted = entry-rooted (production_of top) (input false edition ls) (is-top top);
-  fit = entry-fits (production_of top) false edition ls (is-top top);
+  rooted = entry-rooted (production_of top) (input (is_whole grammar) edition ls) (is-top top);
+  fit = entry-fits (production_of top) (is_whole grammar) edition ls (is-top top);
 }
 
 -- and not too many
 pub are-tree :
-    (top : TopEntryPoint) (edition : Edition) (ls : List Lexed) (ss : List Step) → ss ≡ steps (forest_by (production_of top) edition (leaves_of ls)) → length (encodes (joined (leaves_of ls))) ≤ 16777216 → length ls ≤ 16777216 → IsTreeOf ss (leaves_of ls)
-are-tree top edition ls ss are bytes count =
+    (top : TopEntryPoint) (grammar : Grammar) (edition : Edition) (ls : List Lexed) (ss : List Step) → ss ≡ steps (forest_by (production_of top) grammar edition (leaves_of ls)) → length (encodes (joined (leaves_of ls))) ≤ 16777216 → length ls ≤ 16777216 → IsTreeOf ss (leaves_of ls)
+are-tree top grammar edition ls ss are bytes count =
     let own = leaves_of ls in
-    let all = steps-are top edition own in
+    let all = steps-are top grammar edition own in
     record {
-      forest = forest_by (production_of top) edition own;
+      forest = forest_by (production_of top) grammar edition own;
       steps_of = record { are = are; rooted = all.rooted; fit = all.fit };
       bytes = bytes;
-      few = omega (arith, entry-short (production_of top) false edition own (is-top top), length-map ls (λ (l : Lexed). l.leaf), count);
+      few = omega (arith, entry-short (production_of top) (is_whole grammar) edition own (is-top top), length-map ls (λ (l : Lexed). l.leaf), count);
     }
 
 -- the tree that was built of a text's leaves
 pub whole-tree :
-    (top : TopEntryPoint) (edition : Edition) (text : List ℕ) (root : Tree) (errors : List SyntaxError)
-    → IsBuilt (steps (forest_by (production_of top) edition (leaves_in edition text))) (leaves_in edition text) root errors
-    → root ≡ tree_by (production_of top) edition text
+    (top : TopEntryPoint) (grammar : Grammar) (edition : Edition) (text : List ℕ) (root : Tree) (errors : List SyntaxError)
+    → IsBuilt (steps (forest_by (production_of top) grammar edition (leaves_in edition text))) (leaves_in edition text) root errors
+    → root ≡ tree_by (production_of top) grammar edition text
 unfolding tree_by dressed_by
-whole-tree top edition text root errors built =
-    built.root_is (forest_by (production_of top) edition (leaves_in edition text)) (steps-are top edition (leaves_in edition text))
+whole-tree top grammar edition text root errors built =
+    built.root_is (forest_by (production_of top) grammar edition (leaves_in edition text)) (steps-are top grammar edition (leaves_in edition text))
 
 -- what was read of a text's leaves
 pub whole :
-    (top : TopEntryPoint) (edition : Edition) (text : List ℕ) (tokens : List LexedToken) (root : Tree) (first errors : List SyntaxError)
-    → root ≡ tree_by (production_of top) edition text
-    → AreMessages (steps (forest_by (production_of top) edition (leaves_in edition text))) (leaves_in edition text) first
+    (top : TopEntryPoint) (grammar : Grammar) (edition : Edition) (text : List ℕ) (tokens : List LexedToken) (root : Tree) (first errors : List SyntaxError)
+    → root ≡ tree_by (production_of top) grammar edition text
+    → AreMessages (steps (forest_by (production_of top) grammar edition (leaves_in edition text))) (leaves_in edition text) first
     → map message_of_error errors ≡ map message_of_error first ++ of_leaves 0 (lexed edition text)
     → map span_of tokens ≡ spans_from 0 (map in_bytes (leaves_in edition text))
-    → IsReadingBy (production_of top) edition text tokens root errors
+    → IsReadingBy (production_of top) grammar edition text tokens root errors
 unfolding messages_by dressed_by
-whole top edition text tokens root first errors root_is first_are more placed =
-    let f = forest_by (production_of top) edition (leaves_in edition text) in
-    let all = steps-are top edition (leaves_in edition text) in
+whole top grammar edition text tokens root first errors root_is first_are more placed =
+    let f = forest_by (production_of top) grammar edition (leaves_in edition text) in
+    let all = steps-are top grammar edition (leaves_in edition text) in
     record {
       tokens_are = placed;
       root_is = root_is;

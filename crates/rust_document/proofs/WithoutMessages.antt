@@ -1,5 +1,5 @@
 -- Commits of texts without messages, by what was tested.
-use Rattle.std.proofs.Common.{◌≡◌, ℕ, ◌^◌, Bool, true, false, not, List, [], ◌∷◌, map, length, string_bytes, sym, ◌∙◌, ap, nat_lt, arith}
+use Rattle.std.proofs.Common.{◌≡◌, ℕ, ◌^◌, Bool, true, false, not, List, [], ◌∷◌, map, length, chars, string_bytes, sym, ◌∙◌, ap, subst, nat_lt, arith}
 use Rattle.std.specs.Prelude.{◌≤◌, IfOk, IfErr, OnOk}
 use Rattle.std.specs.Str.{IsUtf8}
 use Rattle.std.proofs.lemmas.Bool.{lt-ltb}
@@ -12,10 +12,11 @@ use Rattle.syntax_editor.specs.Editing.{Editing}
 use Rattle.syntax_tree.specs.Refusal.{RefusesTree}
 use Rattle.syntax_tree.specs.declared.error.TreeError.{TreeError}
 use Rattle.syntax_tree.specs.declared.error.TreeError.TheVariants as trees
+use Rattle.ra_parser.specs.declared.grammar.Grammar.{Grammar}
 use Rattle.rust_document.specs.Commit.{RefusesCommit, commit_error_of}
 use Rattle.rust_document.specs.CommitWithoutMessages.{HaveNoMessages, RefusesRoom, RefusesWithoutMessages}
 use Rattle.rust_document.specs.Open.{IsOpened}
-use Rattle.rust_document.specs.Reading.{Message}
+use Rattle.rust_document.specs.Reading.{Message, messages_in}
 use Rattle.rust_document.specs.Renames.{IsPlainRenaming, IsReadExactly}
 use Rattle.rust_document.specs.Rewrite.{rewritten}
 use Rattle.rust_document.specs.Rewritten.{IsRewritten, RefusesRewritten}
@@ -35,25 +36,25 @@ use Rattle.rust_document.proofs.WellSpacedRewrites.{spaced-accepted, spaced-sile
 
 -- a rewrite that is returned as it is
 pub rewritten-accepted :
-    (d : State) (e : Editing) (b : Bool) (before : List Token) (edition : Edition) (r : Result Rewritten CommitError) → b ≡ not (is_foreign d e) → b ≡ true → edition ≡ d.edition
-    → IfOk r (λ x. IsRewritten edition e before (string_bytes x.text) x.reading x.changed.items) → OnOk r (verdict d e ≡ Accepted)
-rewritten-accepted d e b before edition (Ok x) is own same h = accepted d e b before _ x.reading x.changed.items edition is own same h
-rewritten-accepted d e b before edition (Err x) is own same h = tt
+    (d : State) (e : Editing) (b : Bool) (before : List Token) (grammar : Grammar) (edition : Edition) (r : Result Rewritten CommitError) → b ≡ not (is_foreign d e) → b ≡ true → (grammar ≡ d.grammar) × (edition ≡ d.edition)
+    → IfOk r (λ x. IsRewritten grammar edition e before (string_bytes x.text) x.reading x.changed.items) → OnOk r (verdict d e ≡ Accepted)
+rewritten-accepted d e b before grammar edition (Ok x) is own same h = accepted d e b before _ x.reading x.changed.items grammar edition is own same h
+rewritten-accepted d e b before grammar edition (Err x) is own same h = tt
 
 pub rewritten-refused :
-    (d : State) (e : Editing) (b : Bool) (edition : Edition) (r : Result Rewritten CommitError) → b ≡ not (is_foreign d e) → b ≡ true → edition ≡ d.edition
-    → IfErr r (RefusesRewritten edition e) → IfErr r (λ error. (number : ℕ) → RefusesCommit (verdict d e) number error)
-rewritten-refused d e b edition (Ok x) is own same h = tt
-rewritten-refused d e b edition (Err x) is own same h = λ number. refused d e b number x edition is own same h
+    (d : State) (e : Editing) (b : Bool) (grammar : Grammar) (edition : Edition) (r : Result Rewritten CommitError) → b ≡ not (is_foreign d e) → b ≡ true → (grammar ≡ d.grammar) × (edition ≡ d.edition)
+    → IfErr r (RefusesRewritten grammar edition e) → IfErr r (λ error. (number : ℕ) → RefusesCommit (verdict d e) number error)
+rewritten-refused d e b grammar edition (Ok x) is own same h = tt
+rewritten-refused d e b grammar edition (Err x) is own same h = λ number. refused d e b number x grammar edition is own same h
 
 -- a plain renaming
 pub rewritten-renames :
-    (d : State) (e : Editing) (b : Bool) (edition : Edition) (r : Result Rewritten CommitError) → b ≡ not (is_foreign d e) → b ≡ true → edition ≡ d.edition → IsUtf8 d.text → IsOpened d.text
-    → IfErr r (RefusesRewritten edition e)
+    (d : State) (e : Editing) (b : Bool) (grammar : Grammar) (edition : Edition) (r : Result Rewritten CommitError) → b ≡ not (is_foreign d e) → b ≡ true → (grammar ≡ d.grammar) × (edition ≡ d.edition) → IsUtf8 d.text → IsOpened d.text
+    → IfErr r (RefusesRewritten grammar edition e)
     → IfErr r (λ error. IsPlainRenaming d e → length (tree_text (rewritten e)) ≤ MAX_TEXT → (number : ℕ) → RefusesCommit Accepted number error)
-rewritten-renames d e b edition (Ok x) is own same u o h = tt
-rewritten-renames d e b edition (Err x) is own same u o h =
-    λ renaming short number. renaming-refused d e number x u o (refused d e b number x edition is own same h) renaming short
+rewritten-renames d e b grammar edition (Ok x) is own same u o h = tt
+rewritten-renames d e b grammar edition (Err x) is own same u o h =
+    λ renaming short number. renaming-refused d e number x u o (refused d e b number x grammar edition is own same h) renaming short
 
 pub rewritten-renamed : (d : State) (e : Editing) (r : Result Rewritten CommitError) → IsUtf8 d.text → OnOk r (IsPlainRenaming d e → IsReadExactly d e)
 rewritten-renamed d e (Ok x) u = read-exactly d e u
@@ -90,7 +91,7 @@ by-tree d e number trees.NoMemory is clean h = tt
 
 -- a well-spaced rewrite of a text without messages
 spaced-clean : (d : State) (e : Editing) → IsWellSpacedRewrite d e → HasNoMessages d → HaveNoMessages d e
-spaced-clean d e w present = record { present = present; new = spaced-silent d.edition (rewritten e) w.spaced }
+spaced-clean d e w present = record { present = present; new = subst (λ (g : Grammar). messages_in g d.edition (chars (tree_text (rewritten e))) ≡ []) (sym w.profile) (spaced-silent d.edition (rewritten e) w.spaced) }
 
 pub by-spaced : (d : State) (e : Editing) (number : ℕ) (error : CommitError) → RefusesWithoutMessages d e number (Refused error) → IsWellSpacedRewrite d e → RefusesRoom number (Refused error)
 by-spaced d e number commits.Foreign h w = absurd (let z : Accepted ≡ step.Foreign = sym (spaced-accepted d e w) ∙ h in cc)

@@ -3,7 +3,7 @@ use Rattle.std.specs.Prelude.{◌≡◌, ℕ, ◌^◌, List, [], chars, codes}
 use Rattle.rowan_green.specs.Forest.{tree_text}
 use Rattle.syntax_editor.specs.Editing.{Editing}
 use Rattle.rust_document.specs.Commit.{RefusesCommit, commit_message_of}
-use Rattle.rust_document.specs.Reading.{messages}
+use Rattle.rust_document.specs.Reading.{messages_in}
 use Rattle.rust_document.specs.Rewrite.{rewritten}
 use Rattle.rust_document.specs.Step.{State, verdict, Accepted}
 use Rattle.rust_document.specs.declared.error.CommitError.TheVariants as commits
@@ -12,8 +12,8 @@ use Rattle.rust_document.specs.declared.error.WithoutMessagesError.TheVariants.{
 
 -- Neither the present text nor that of the rewritten tree has a message.
 pub record HaveNoMessages (d : State) (e : Editing) : Type 0 where
-  pub present : messages d.edition (chars d.text) ≡ []
-  pub new : messages d.edition (chars (tree_text (rewritten e))) ≡ []
+  pub present : messages_in d.grammar d.edition (chars d.text) ≡ []
+  pub new : messages_in d.grammar d.edition (chars (tree_text (rewritten e))) ≡ []
 
 -- The first case that fits: what the verdict says, then a message of one of the texts, then that no tree number is left. Out of memory
 -- comes at any point.

@@ -1,4 +1,4 @@
--- Texts of the core language: their trees, and that the parser has nothing to say of them.
+-- Texts of the core language: their trees, and that the parser has nothing to say of them. They are read by the profile.
 use Rattle.std.specs.Prelude.{◌≡◌, ℕ, false, List, chars}
 use Rattle.parser_input.specs.Input.{input}
 use Rattle.parser_input.specs.Lexed.{lexed}
@@ -6,21 +6,24 @@ use Rattle.parser_input.specs.declared.edition.Edition.{Edition}
 use Rattle.parser_events.specs.Dress.{dress_root}
 use Rattle.parser_events.specs.Forest.{Forest}
 use Rattle.core_language.specs.Language.{IsCoreFile}
-use Rattle.rust_document.specs.Reading.{leaves_in, messages, of_leaves, root_of, terms_of, tree}
+use Rattle.ra_parser.specs.declared.grammar.Grammar.{Grammar}
+use Rattle.ra_parser.specs.declared.grammar.Grammar.TheVariants.{Profile}
+use Rattle.rust_document.specs.Reading.{leaves_in, messages_in, of_leaves, root_of, terms_of, tree_in}
 use Rattle.rust_document.specs.Step.{State}
 
 -- The text reads as this tree of the parser, dressed with the text's leaves, and only the lexer has messages.
-pub record ReadsAs (edition : Edition) (text : List ℕ) (core : Forest) : Type 0 where
-  pub tree_is : tree edition text ≡ root_of (terms_of (dress_root core (leaves_in edition text)))
-  pub messages_are : messages edition text ≡ of_leaves 0 (lexed edition text)
+pub record ReadsAs (grammar : Grammar) (edition : Edition) (text : List ℕ) (core : Forest) : Type 0 where
+  pub tree_is : tree_in grammar edition text ≡ root_of (terms_of (dress_root core (leaves_in edition text)))
+  pub messages_are : messages_in grammar edition text ≡ of_leaves 0 (lexed edition text)
 
 -- Where the parser's input of a text is a core file, the text reads as the tree of its derivation.
 abbrev pub CoreTextsAreRead : Type 0
 CoreTextsAreRead =
     (edition : Edition) (text : List ℕ) (core : Forest) → IsCoreFile (input false edition (leaves_in edition text)) core →
-    ReadsAs edition text core
+    ReadsAs Profile edition text core
 
--- the same of a document
+-- the same of a document of the profile
 abbrev pub IsReadAsCore : State → Type 0
 IsReadAsCore d =
-    (core : Forest) → IsCoreFile (input false d.edition (leaves_in d.edition (chars d.text))) core → ReadsAs d.edition (chars d.text) core
+    d.grammar ≡ Profile → (core : Forest) → IsCoreFile (input false d.edition (leaves_in d.edition (chars d.text))) core →
+    ReadsAs d.grammar d.edition (chars d.text) core

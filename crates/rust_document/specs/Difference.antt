@@ -10,8 +10,9 @@ use Rattle.syntax_tree.specs.Language.{kind_of_raw}
 use Rattle.syntax_tree.specs.Mapping.{or_else}
 use Rattle.syntax_editor.specs.Editing.{Editing}
 use Rattle.syntax_editor.specs.Rewriting.{IsIntersecting, IsPlaceable, MissesMapping}
+use Rattle.ra_parser.specs.declared.grammar.Grammar.{Grammar}
 use Rattle.rust_document.specs.Bare.{is_left_out}
-use Rattle.rust_document.specs.Reading.{tree}
+use Rattle.rust_document.specs.Reading.{tree_in}
 use Rattle.rust_document.specs.Rewrite.{rewritten}
 use Rattle.rust_document.specs.Step.{MAX_TEXT, Verdict, is_too_long}
 use Rattle.rust_document.specs.Step as step
@@ -111,14 +112,14 @@ abbrev pub told_of : Difference → Told
 told_of d = ((d.range.start.0, d.range.end.0), (d.wanted, d.read))
 
 -- the first difference between a tree and the reading of its own text
-abbrev pub difference : Edition → Tree → Option Told
-difference edition t = option_map told (tree_apart t (tree edition (chars (tree_text t))))
+abbrev pub difference : Grammar → Edition → Tree → Option Told
+difference grammar edition t = option_map told (tree_apart t (tree_in grammar edition (chars (tree_text t))))
 
 -- the changes have places, the rewritten tree is within the limits, and this is its first difference from its reading
-pub record IsDifference (edition : Edition) (e : Editing) (r : Option Difference) : Type 0 where
+pub record IsDifference (grammar : Grammar) (edition : Edition) (e : Editing) (r : Option Difference) : Type 0 where
   pub placeable : IsPlaceable e
   pub within : is_too_long e ≡ false
-  pub told_is : option_map told_of r ≡ difference edition (rewritten e)
+  pub told_is : option_map told_of r ≡ difference grammar edition (rewritten e)
 
 -- when a tree is not compared with its reading: its text is past the limit; out of memory at any point
 abbrev pub LacksReading : Tree → CommitError → Type 0

@@ -32,7 +32,7 @@ text_after text (Refused c ∷ es) = text_after text es
 
 -- a document after an accepted command
 abbrev pub taken : State → Command → ℕ → State
-taken d c number = record { edition = d.edition; text = text_by d.text c; number = number }
+taken d c number = record { edition = d.edition; grammar = d.grammar; text = text_by d.text c; number = number }
 
 -- a document after a list of commands; a refused one changes nothing
 abbrev pub after : State → List Event → State
@@ -53,7 +53,7 @@ IsHistory d (Refused c ∷ es) = IsHistory d es
 
 -- an opened text
 abbrev pub opened : State → List ℕ → ℕ → State
-opened d text number = record { edition = d.edition; text = text; number = number }
+opened d text number = record { edition = d.edition; grammar = d.grammar; text = text; number = number }
 
 -- An edited document, whatever it kept, agrees with one that is opened on its text.
 abbrev pub EditsAreOpenings : Type 0

@@ -8,6 +8,8 @@ use Rattle.lexed_text.specs.declared.kept.Kept.{Kept}
 use Rattle.parser_input.specs.Input.{Token, input}
 use Rattle.parser_input.specs.Lexed.{content, is_split, preface}
 use Rattle.parser_input.specs.declared.edition.Edition.{Edition}
+use Rattle.ra_parser.specs.Grammars.{is_whole}
+use Rattle.ra_parser.specs.declared.grammar.Grammar.{Grammar}
 use Rattle.plain_names.specs.LeafNames.{texts}
 use Rattle.rust_document.specs.Reading.{after_preface, leaves_in}
 use Rattle.rust_document.specs.Step.{State}
@@ -49,12 +51,12 @@ pub record KeepsNoToken (edition : Edition) (new : List ℕ) (e : Edited) : Type
   pub back : e.back ≡ 0
 
 -- the parser's input of a text
-abbrev pub input_of : Edition → List ℕ → List Token
-input_of edition text = input false edition (leaves_in edition (chars text))
+abbrev pub input_of : Grammar → Edition → List ℕ → List Token
+input_of grammar edition text = input (is_whole grammar) edition (leaves_in edition (chars text))
 
 -- Two documents have the same parser's input.
 abbrev pub HaveSameInput : State → State → Type 0
-HaveSameInput d e = input_of d.edition d.text ≡ input_of e.edition e.text
+HaveSameInput d e = input_of d.grammar d.edition d.text ≡ input_of e.grammar e.edition e.text
 
 -- The parser's output is kept, so no lookahead is made, exactly if the input is the old one.
 abbrev pub KeepsOutput : State → State → ℕ → Type 0

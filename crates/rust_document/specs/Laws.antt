@@ -8,11 +8,13 @@ use Rattle.parser_input.specs.Input.{input}
 use Rattle.parser_input.specs.declared.edition.Edition.{Edition}
 use Rattle.rust_grammar.specs.Rule.{Production}
 use Rattle.rust_grammar.specs.Laws.{is_entry}
+use Rattle.ra_parser.specs.Grammars.{is_whole}
+use Rattle.ra_parser.specs.declared.grammar.Grammar.{Grammar}
 use Rattle.rowan.specs.Place.{Place, term_by, start_by}
 use Rattle.rowan.specs.Pointer.{found_in}
 use Rattle.syntax_tree.specs.Element.{Way}
 use Rattle.rust_document.specs.Open.{IsOpened}
-use Rattle.rust_document.specs.Reading.{tree, tree_by, leaves_in, messages}
+use Rattle.rust_document.specs.Reading.{leaves_in, messages_in, tree_by, tree_in}
 use Rattle.rust_document.specs.Brackets.{are_token_trees_closed}
 use Rattle.rust_document.specs.Operators.{are_operators_placed}
 use Rattle.rust_document.specs.Shape.{kinds_of, kinds_from, dots}
@@ -25,7 +27,7 @@ use Rattle.rust_document.specs.Step.{State, present, root_element, verdict, Acce
 
 -- the leaves of a text's tree, joined, are the text
 abbrev pub TreesHaveTheirTexts : Type 0
-TreesHaveTheirTexts = (edition : Edition) (text : List ℕ) → tree_text (tree edition text) ≡ encode_utf8_all text
+TreesHaveTheirTexts = (grammar : Grammar) (edition : Edition) (text : List ℕ) → tree_text (tree_in grammar edition text) ≡ encode_utf8_all text
 
 -- the text of a leaf is the slice of the document's text at the leaf's range
 abbrev pub LeavesAreSlices : Type 0
@@ -36,19 +38,19 @@ LeavesAreSlices =
 -- two documents have the same tokens, messages and tree
 pub record Agree (d e : State) : Type 0 where
   pub tokens : tokens_of d.edition (chars d.text) ≡ tokens_of e.edition (chars e.text)
-  pub told : messages d.edition (chars d.text) ≡ messages e.edition (chars e.text)
+  pub told : messages_in d.grammar d.edition (chars d.text) ≡ messages_in e.grammar e.edition (chars e.text)
   pub trees : present d ≡ present e
 
--- Documents of equal edition and text agree, whatever commands made them.
+-- Documents of equal edition, grammar and text agree, whatever commands made them.
 abbrev pub TextsDecide : Type 0
-TextsDecide = (d e : State) → d.edition ≡ e.edition → d.text ≡ e.text → Agree d e
+TextsDecide = (d e : State) → d.edition ≡ e.edition → d.grammar ≡ e.grammar → d.text ≡ e.text → Agree d e
 
--- In documents of equal edition and text the first node that passes a test, as the one of a pointer's kind and range, stands at the
--- same place.
+-- In documents of equal edition, grammar and text the first node that passes a test, as the one of a pointer's kind and range,
+-- stands at the same place.
 abbrev pub PointersFollowTexts : Type 0
 PointersFollowTexts =
     (d e : State) (test : Place → Bool)
-    → d.edition ≡ e.edition → d.text ≡ e.text
+    → d.edition ≡ e.edition → d.grammar ≡ e.grammar → d.text ≡ e.text
     → found_in test (root_element d).place ≡ found_in test (root_element e).place
 
 -- an editor of the present tree with nothing recorded is accepted, and the text stays
@@ -63,21 +65,23 @@ UntouchedIsKept = (d : State) → IsUtf8 d.text → IsOpened d.text → IsKept d
 -- nesting, white space and comments aside.
 abbrev pub KindsFollowInputs : Type 0
 KindsFollowInputs =
-    (x : Production) (first second : Edition) (a b : List ℕ)
+    (x : Production) (g h : Grammar) (first second : Edition) (a b : List ℕ)
     → is_entry x ≡ true
-    → input false first (leaves_in first a) ≡ input false second (leaves_in second b)
+    → input (is_whole g) first (leaves_in first a) ≡ input (is_whole h) second (leaves_in second b)
     → dots (leaves_in first a) ≡ dots (leaves_in second b)
-    → kinds_of (tree_by x first a) ≡ kinds_of (tree_by x second b)
+    → kinds_of (tree_by x g first a) ≡ kinds_of (tree_by x h second b)
 
 -- In a document without messages each token tree begins with an opening bracket and ends with its partner.
 abbrev pub TokenTreesAreClosed : Type 0
 TokenTreesAreClosed =
-    (edition : Edition) (text : List ℕ) → messages edition text ≡ [] → are_token_trees_closed (kinds_from (tree edition text)) ≡ true
+    (grammar : Grammar) (edition : Edition) (text : List ℕ) → messages_in grammar edition text ≡ [] →
+    are_token_trees_closed (kinds_from (tree_in grammar edition text)) ≡ true
 
 -- In a document without messages each binary expression has operands that its operator's power allows.
 abbrev pub OperatorsBindByPower : Type 0
 OperatorsBindByPower =
-    (edition : Edition) (text : List ℕ) → messages edition text ≡ [] → are_operators_placed (kinds_from (tree edition text)) ≡ true
+    (grammar : Grammar) (edition : Edition) (text : List ℕ) → messages_in grammar edition text ≡ [] →
+    are_operators_placed (kinds_from (tree_in grammar edition text)) ≡ true
 
 -- two editors end alike: with one verdict, and where that is acceptance, in one tree, and so in one text
 pub record CommitsAlike (d : State) (e f : Editing) : Type 0 where

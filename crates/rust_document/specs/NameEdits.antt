@@ -8,10 +8,11 @@ use Rattle.rowan.specs.Place.{Place, term_at, text_at, term_by, start_by}
 use Rattle.rowan.specs.Replace.{put_token}
 use Rattle.parser_input.specs.Kinds.{IDENT}
 use Rattle.parser_input.specs.declared.edition.Edition.{Edition}
+use Rattle.ra_parser.specs.declared.grammar.Grammar.{Grammar}
 use Rattle.plain_names.specs.Forests.{leaf_of}
 use Rattle.plain_names.specs.TokenNames.{name_lexeme}
 use Rattle.rust_document.specs.NextReading.{tokens_in}
-use Rattle.rust_document.specs.Reading.{tree}
+use Rattle.rust_document.specs.Reading.{tree_in}
 use Rattle.rust_document.specs.Renames.{is_plain_name}
 use Rattle.rust_document.specs.Tokens.{tokens_of, span_of}
 use Rattle.rust_document.specs.declared.name_edit.Names.{Names}
@@ -22,7 +23,7 @@ use Rattle.rust_document.specs.declared.tokens.LexedToken.{LexedToken}
 -- The tokens and the root are those of the text.
 pub record IsRead (text : List ℕ) (r : ReadText) : Type 0 where
   pub tokens_are : map span_of r.tokens.now ≡ tokens_of r.edition (chars text)
-  pub root_is : r.root.now.place ≡ record { root = tree r.edition (chars text); up = [] }
+  pub root_is : r.root.now.place ≡ record { root = tree_in r.grammar r.edition (chars text); up = [] }
 
 -- A token of the list contains the bytes from `start` to just before `end`.
 pub record IsAround (tokens : List LexedToken) (start end : ℕ) (p : TokenPlace) : Type 0 where
@@ -62,6 +63,6 @@ pub record IsTokenReplaced (t : Tree) (start : ℕ) (n : Names) (root : Tree) : 
   pub is : root ≡ put_token t up (leaf_of IDENT n.new.now)
 
 -- The tree is that of the second text, which has the first one's parser's input.
-pub record IsRenamedTree (edition : Edition) (before after : List ℕ) (root : Tree) : Type 0 where
-  pub is_read : root ≡ tree edition (chars after)
-  pub same_input : tokens_in edition (chars before) ≡ tokens_in edition (chars after)
+pub record IsRenamedTree (grammar : Grammar) (edition : Edition) (before after : List ℕ) (root : Tree) : Type 0 where
+  pub is_read : root ≡ tree_in grammar edition (chars after)
+  pub same_input : tokens_in grammar edition (chars before) ≡ tokens_in grammar edition (chars after)

@@ -14,6 +14,8 @@ use Rattle.syntax_tree.specs.declared.error.TreeError.{TreeError}
 use Rattle.syntax_tree.specs.declared.error.TreeError.TheVariants as trees
 use Rattle.rust_grammar.specs.Rule.{Production}
 use Rattle.ra_parser.specs.Entries.{production_of}
+use Rattle.ra_parser.specs.declared.grammar.Grammar.{Grammar}
+use Rattle.ra_parser.specs.declared.grammar.Grammar.TheVariants.{Profile}
 use Rattle.rust_document.specs.Reading as reading
 use Rattle.rust_document.specs.Reading.{of_leaves, tree_by, messages_by}
 use Rattle.rust_document.specs.Seen.{in_bytes}
@@ -47,15 +49,20 @@ token_payload edition text =
     (row (nat_lt MAX_TEXT (length text)) TooLong ∷ row (nat_lt 0 (length (lexer_messages edition (chars text)))) Message ∷ [])
     (only (single edition (chars text)))
 
-abbrev pub entry_payload : Production → Edition → List ℕ → Payload
-entry_payload x edition text =
+abbrev pub entry_payload : Production → Grammar → Edition → List ℕ → Payload
+entry_payload x grammar edition text =
     first_fit
-    (row (nat_lt MAX_TEXT (length text)) TooLong ∷ row (nat_lt 0 (length (messages_by x edition (chars text)))) Message ∷ [])
-    (Whole (tree_by x edition (chars text)))
+    (row (nat_lt MAX_TEXT (length text)) TooLong ∷ row (nat_lt 0 (length (messages_by x grammar edition (chars text)))) Message ∷ [])
+    (Whole (tree_by x grammar edition (chars text)))
 
+-- what a text is as a payload; of a token the grammar says nothing
+abbrev pub payload_in : PayloadEntry → Grammar → Edition → List ℕ → Payload
+payload_in (entries.Top top) grammar edition text = entry_payload (production_of top) grammar edition text
+payload_in entries.Token grammar edition text = token_payload edition text
+
+-- the same by the profile
 abbrev pub payload_of : PayloadEntry → Edition → List ℕ → Payload
-payload_of (entries.Top top) = entry_payload (production_of top)
-payload_of entries.Token = token_payload
+payload_of entry edition text = payload_in entry Profile edition text
 
 -- The tree has the number; a token stands in a tree of its own, as the only child of the root.
 abbrev pub IsDetached : ℕ → Payload → Element → Type 0

@@ -1,5 +1,5 @@
--- The reading of a text: its leaves, its messages and its tree. No earlier text and no command enters.
-use Rattle.std.specs.Prelude.{false, ℕ, ◌+◌, List, [], ◌∷◌, ◌++◌, map, Option, None, Some, encode_utf8_all}
+-- The reading of a text by an edition and a grammar: its leaves, its messages and its tree. No earlier text and no command enters.
+use Rattle.std.specs.Prelude.{ℕ, ◌+◌, List, [], ◌∷◌, ◌++◌, map, Option, None, Some, encode_utf8_all}
 use Rattle.rustc_lexer.specs.Characters.{size}
 use Rattle.rowan_green.specs.Forest.{Forest, empty, node, leaf, Tree}
 use Rattle.parser_input.specs.Kinds.{ERROR}
@@ -17,6 +17,9 @@ use Rattle.parser_events.specs.Dress.{dress_root}
 use Rattle.rust_grammar.specs.Entry.{entry}
 use Rattle.rust_grammar.specs.Rule.{Production, source_file}
 use Rattle.rust_grammar.specs.Whole.{whole}
+use Rattle.ra_parser.specs.Grammars.{is_whole}
+use Rattle.ra_parser.specs.declared.grammar.Grammar.{Grammar}
+use Rattle.ra_parser.specs.declared.grammar.Grammar.TheVariants.{Profile}
 
 -- the leaves of a text, preface and all
 abbrev pub leaves_in : Edition → List ℕ → List Leaf
@@ -38,21 +41,25 @@ abbrev pub root_of : Forest → Tree
 root_of (node k f r) = record { kind = k; forest = f }
 root_of f = record { kind = ERROR; forest = f }
 
--- what an entry reads of leaves, as trees of the parser
-abbrev pub forest_by : Production → Edition → List Leaf → forest.Forest
-forest_by x edition ls = entry whole x (input false edition ls)
+-- what an entry reads of leaves by a grammar, as trees of the parser
+abbrev pub forest_by : Production → Grammar → Edition → List Leaf → forest.Forest
+forest_by x grammar edition ls = entry whole x (input (is_whole grammar) edition ls)
 
 -- the same, dressed with these leaves
-unfoldable pub dressed_by : Production → Edition → List Leaf → Dressed
-dressed_by x edition ls = dress_root (forest_by x edition ls) ls
+unfoldable pub dressed_by : Production → Grammar → Edition → List Leaf → Dressed
+dressed_by x grammar edition ls = dress_root (forest_by x grammar edition ls) ls
 
 -- the tree of a text that is read by an entry
-unfoldable pub tree_by : Production → Edition → List ℕ → Tree
-tree_by x edition text = root_of (terms_of (dressed_by x edition (leaves_in edition text)))
+unfoldable pub tree_by : Production → Grammar → Edition → List ℕ → Tree
+tree_by x grammar edition text = root_of (terms_of (dressed_by x grammar edition (leaves_in edition text)))
 
 -- the tree of a text, which is read as a source file
+abbrev pub tree_in : Grammar → Edition → List ℕ → Tree
+tree_in = tree_by source_file
+
+-- the same by the profile
 abbrev pub tree : Edition → List ℕ → Tree
-tree = tree_by source_file
+tree = tree_in Profile
 
 -- what is wrong at a place: by the grammar, or with a leaf, in words
 pub data Fault : Type 0 where
@@ -83,10 +90,14 @@ of_leaves place (l ∷ ls) = of_leaf place l.message ++ of_leaves (place + size 
 
 -- the messages of a text that is read by an entry: the parser's in the order of its steps, then the lexer's in the order of
 -- the leaves
-unfoldable pub messages_by : Production → Edition → List ℕ → List Message
-messages_by x edition text =
-    map of_grammar (sayings_of (dressed_by x edition (leaves_in edition text))) ++ of_leaves 0 (lexed edition text)
+unfoldable pub messages_by : Production → Grammar → Edition → List ℕ → List Message
+messages_by x grammar edition text =
+    map of_grammar (sayings_of (dressed_by x grammar edition (leaves_in edition text))) ++ of_leaves 0 (lexed edition text)
 
 -- the messages of a text, which is read as a source file
+abbrev pub messages_in : Grammar → Edition → List ℕ → List Message
+messages_in = messages_by source_file
+
+-- the same by the profile
 abbrev pub messages : Edition → List ℕ → List Message
-messages = messages_by source_file
+messages = messages_in Profile

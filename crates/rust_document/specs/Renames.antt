@@ -15,7 +15,7 @@ use Rattle.syntax_editor.specs.Editing.{Editing}
 use Rattle.plain_names.specs.Forests.{leaf_of}
 use Rattle.plain_names.specs.Renames.{Rename, IsInTree, IsPlainRename}
 use Rattle.rust_document.specs.Open.{IsOpened}
-use Rattle.rust_document.specs.Reading.{tree}
+use Rattle.rust_document.specs.Reading.{tree_in}
 use Rattle.rust_document.specs.Rewrite.{rewritten}
 use Rattle.rust_document.specs.Step.{State, MAX_TEXT, present, root_element, verdict, Accepted}
 
@@ -46,7 +46,7 @@ pub record IsPlainRenaming (d : State) (e : Editing) : Type 0 where
 
 -- The new text reads as exactly the rewritten tree, whitespace and comments too.
 abbrev pub IsReadExactly : State → Editing → Type 0
-IsReadExactly d e = tree d.edition (chars (tree_text (rewritten e))) ≡ rewritten e
+IsReadExactly d e = tree_in d.grammar d.edition (chars (tree_text (rewritten e))) ≡ rewritten e
 
 -- A plain renaming whose text is within the limit is accepted, whatever messages the text has.
 abbrev pub PlainRenamingsAreAccepted : Type 0

@@ -3,10 +3,11 @@ use Rattle.std.specs.Prelude.{ℕ, ◌==◌, Bool, not, ◌||◌, nat_lt, List, 
 use Rattle.rustc_lexer.specs.Rows.{row, first_fit}
 use Rattle.rowan_green.specs.Forest.{Tree, tree_text, same_tree}
 use Rattle.parser_input.specs.declared.edition.Edition.{Edition}
+use Rattle.ra_parser.specs.declared.grammar.Grammar.{Grammar}
 use Rattle.syntax_tree.specs.Element.{Element, element_at}
 use Rattle.syntax_tree.specs.Handle.{element_of}
 use Rattle.syntax_tree.specs.Search.{first_of}
-use Rattle.rust_document.specs.Reading.{tree}
+use Rattle.rust_document.specs.Reading.{tree_in}
 use Rattle.tree_rewrite.specs.Change.{has_collision}
 use Rattle.tree_rewrite.specs.Fits.{new_fits}
 use Rattle.tree_rewrite.specs.Rewrite.{jobs}
@@ -14,10 +15,11 @@ use Rattle.syntax_editor.specs.Editing.{Editing}
 use Rattle.syntax_editor.specs.Rewriting.{rewriting}
 use Rattle.rust_document.specs.Rewrite.{rewritten, bare}
 
--- what contracts see of a document: the edition, the bytes of the text, and the number of the present tree. Tokens, messages
--- and tree are the reading of that text, and no part of it.
+-- what contracts see of a document: the edition and the grammar that the text is read by, the bytes of the text, and the number of
+-- the present tree. Tokens, messages and tree are the reading of that text, and no part of it.
 pub record State : Type 0 where
   pub edition : Edition
+  pub grammar : Grammar
   pub text : List ℕ
   pub number : ℕ
 
@@ -27,7 +29,7 @@ MAX_TEXT = 16777216
 
 -- the present tree
 abbrev pub present : State → Tree
-present d = tree d.edition (chars d.text)
+present d = tree_in d.grammar d.edition (chars d.text)
 
 -- its root, as it is handed out
 abbrev pub root_element : State → Element
@@ -42,8 +44,8 @@ abbrev pub bare_tree : Tree → Tree
 bare_tree t = record { kind = t.kind; forest = bare t.forest }
 
 -- Without white space and comments the tree is that of the reading of its own text.
-abbrev pub is_faithful : Edition → Tree → Bool
-is_faithful edition t = same_tree (bare_tree t) (bare_tree (tree edition (chars (tree_text t))))
+abbrev pub is_faithful : Grammar → Edition → Tree → Bool
+is_faithful grammar edition t = same_tree (bare_tree t) (bare_tree (tree_in grammar edition (chars (tree_text t))))
 
 pub data Verdict : Type 0 where
   Foreign : Verdict
@@ -69,6 +71,6 @@ verdict d e =
     ∷ row (has_collision e.changes) Intersecting
     ∷ row (is_none (jobs e.top e.changes e.mapping)) MissingMapping
     ∷ row (is_too_long e) TooLong
-    ∷ row (not (is_faithful d.edition (rewritten e))) Unfaithful
+    ∷ row (not (is_faithful d.grammar d.edition (rewritten e))) Unfaithful
     ∷ [])
     Accepted

@@ -2,12 +2,12 @@
 use Rattle.std.specs.Prelude.{◌≡◌, true, [], chars}
 use Rattle.rust_document.specs.Brackets.{are_token_trees_closed}
 use Rattle.rust_document.specs.Operators.{are_operators_placed}
-use Rattle.rust_document.specs.Reading.{messages}
+use Rattle.rust_document.specs.Reading.{messages_in}
 use Rattle.rust_document.specs.Shape.{kinds_from}
 use Rattle.rust_document.specs.Step.{State, present}
 
 abbrev pub HasNoMessages : State → Type 0
-HasNoMessages d = messages d.edition (chars d.text) ≡ []
+HasNoMessages d = messages_in d.grammar d.edition (chars d.text) ≡ []
 
 -- Each token tree begins with an opening bracket and ends with its partner.
 abbrev pub HasPairedBrackets : State → Type 0

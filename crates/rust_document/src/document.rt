@@ -1,5 +1,6 @@
 //! A text that is read.
 mod commit;
+mod payload;
 
 ghost use Rattle.std.specs.Prelude.{◌≡◌, ◌≤◌, ◌+◌, [], true, chars, length, map, option_map, string_bytes, IfOk, IfErr, IfSome, MatchOption, OnOk};
 ghost use Rattle.lexed_text.specs.Kept.{IsKept};
@@ -8,6 +9,7 @@ ghost use Rattle.parser_input.specs.Lexed.{content};
 ghost use Rattle.syntax_editor.specs.Editing.{untouched};
 ghost use Rattle.syntax_tree.specs.Handle.{element_of};
 ghost use Rattle.syntax_tree.specs.Refusal.{RefusesTree};
+ghost use Rattle.ra_parser.specs.declared.grammar.Grammar.TheVariants.{Profile};
 ghost use Rattle.rust_document.specs.ContentEdit.{AreCounts};
 ghost use Rattle.rust_document.specs.Core.{IsReadAsCore};
 ghost use Rattle.rust_document.specs.Costs.{most_steps};
@@ -18,7 +20,7 @@ ghost use Rattle.rust_document.specs.Seen.{message_of_error};
 ghost use Rattle.rust_document.specs.KeptTokens.{content_edit, counts_of, KeepsNoToken, KeepsOutput, KeepsTokens};
 ghost use Rattle.rust_document.specs.NameEdits.{IsRenamedTree};
 ghost use Rattle.rust_document.specs.NextReading.{tokens_in, IsNextReading};
-ghost use Rattle.rust_document.specs.Reading.{messages};
+ghost use Rattle.rust_document.specs.Reading.{messages_in};
 ghost use Rattle.rust_document.specs.Step.{MAX_TEXT, first_element, root_element};
 ghost use Rattle.rust_document.specs.Tokens.{span_of, tokens_of};
 ghost use Rattle.rust_document.specs.WithoutMessages.{HasPairedBrackets, HasPlacedOperators};
@@ -34,6 +36,7 @@ use crate::tokens::{LexedToken, Tokens};
 use lexed_text::{Kept, LexedText};
 use parser_input::edition::Edition;
 use parser_input::syntax_kind::SyntaxKind;
+use ra_parser::Grammar;
 use rowan_green::{GreenNode, TextRange};
 use std::alloc::{AllocError, Global};
 use std::marker::Model;
@@ -68,11 +71,12 @@ pub struct Edited {
     pub steps: u64,
 }
 
-/// A text with its edition, its tokens, its messages and its tree. A contract sees the edition, the
-/// text and the tree's number; tokens, messages and tree are the reading of that text. The tokens of
-/// the content and the parser's output are kept for the next text.
+/// A text with its edition and grammar, its tokens, its messages and its tree. A contract sees the
+/// edition, the grammar, the text and the tree's number; tokens, messages and tree are the reading of
+/// that text. The tokens of the content and the parser's output are kept for the next text.
 pub struct Document {
     edition: Edition,
+    grammar: Grammar,
     text: String,
     tokens: Vec<LexedToken>,
     root: SyntaxNode,
@@ -86,6 +90,7 @@ impl Drop for Document {
     fn drop(self) {
         let Document {
             edition: _,
+            grammar: _,
             text: _text,
             tokens: _tokens,
             root: _root,
@@ -105,13 +110,19 @@ impl Model for Document {
 
     ghost Value = { State };
 
-    ghost view = { λ d. record { edition = d.edition; text = string_bytes d.text; number = d.root.number } };
+    ghost view = { λ d. record {
+      edition = d.edition;
+      grammar = d.grammar;
+      text = string_bytes d.text;
+      number = d.root.number;
+    } };
 
     ghost invariant = { λ d. (length (string_bytes d.text) ≤ MAX_TEXT)
         × (d.root.place.up ≡ [])
-        × IsReading d.edition (chars (string_bytes d.text)) d.tokens.items d.root.place.root d.errors.items
+        × IsReading d.grammar d.edition (chars (string_bytes d.text))
+        d.tokens.items d.root.place.root d.errors.items
         × (chars d.kept ≡ content (chars (string_bytes d.text)))
-        × IsParseOf d.edition (chars (string_bytes d.text)) d.parse };
+        × IsParseOf d.grammar d.edition (chars (string_bytes d.text)) d.parse };
 }
 
 /// Returns what an edit tells: its counts, or that all `leaves` behind the preface were lexed.
@@ -137,10 +148,7 @@ fn answer_of(counts: Option<Kept>, leaves: usize, steps: u64) -> Edited
 }
 
 impl Document {
-    /// Reads a text, and gives its tree the next number of `ids`.
-    ///
-    /// Refuses a text of more than 16,777,216 bytes as too long, then for want of a tree number. A
-    /// refusal takes no number.
+    /// Reads `text` by the profile, as [`Document::open_by`] does.
     pub fn open(
         alloc: Global,
         edition: Edition,
@@ -148,7 +156,37 @@ impl Document {
         ids: &mut TreeIds,
     ) -> Result<Document, OpenError>
         ensures opened { IfOk result (λ d. d
-            ≡ record { edition = edition; text = text.now; number = ids.old }) }
+            ≡ record { edition = edition; grammar = Profile; text = text.now; number = ids.old }) }
+        ensures number { OnOk result (ids.new ≡ ids.old + 1) }
+        ensures is_read { OnOk result (IsOpened text.now) }
+        ensures brackets { IfOk result (λ d. HasPairedBrackets d) }
+        ensures operators { IfOk result (λ d. HasPlacedOperators d) }
+        ensures core { IfOk result (λ d. IsReadAsCore d) }
+        ensures refused { IfErr result (RefusesOpen text.now ids.old) }
+        ensures kept { IfErr result (λ _. ids.new ≡ ids.old) }
+    {
+        Document::open_by(alloc, edition, Grammar::Profile, text, ids)
+    }
+
+    /// Reads `text` as `grammar` says, and gives its tree the next number of `ids`. The document keeps
+    /// the grammar: later texts are read by it too.
+    ///
+    /// # Errors
+    ///
+    /// - [`OpenError::TooLong`] if `text` has more than [`MAX_TEXT`] bytes.
+    /// - [`OpenError::NoTreeNumber`] if no tree number is left.
+    /// - [`OpenError::NoMemory`] if an allocation fails.
+    ///
+    /// On error, `ids` is unchanged.
+    pub fn open_by(
+        alloc: Global,
+        edition: Edition,
+        grammar: Grammar,
+        text: &str,
+        ids: &mut TreeIds,
+    ) -> Result<Document, OpenError>
+        ensures opened { IfOk result (λ d. d
+            ≡ record { edition = edition; grammar = grammar; text = text.now; number = ids.old }) }
         ensures number { OnOk result (ids.new ≡ ids.old + 1) }
         ensures is_read { OnOk result (IsOpened text.now) }
         ensures brackets { IfOk result (λ d. HasPairedBrackets d) }
@@ -164,7 +202,7 @@ impl Document {
             reading,
             kept,
             parse,
-        } = read_first(alloc, edition, text)?;
+        } = read_first(alloc, grammar, edition, text)?;
         let Reading {
             tokens,
             root,
@@ -174,6 +212,7 @@ impl Document {
         let root = SyntaxNode::new_root(alloc, root, ids)?;
         Ok(Document {
             edition,
+            grammar,
             text,
             tokens,
             root,
@@ -188,6 +227,13 @@ impl Document {
         ensures { result ≡ self.now.edition }
     {
         self.edition
+    }
+
+    /// Returns the grammar that the text is read by.
+    pub fn grammar(&self) -> Grammar
+        ensures { result ≡ self.now.grammar }
+    {
+        self.grammar
     }
 
     /// The text, of at most 16,777,216 bytes.
@@ -215,7 +261,8 @@ impl Document {
     /// The messages: the parser's in the order of its steps, then the lexer's in the order of the
     /// tokens.
     pub fn errors(&self) -> &[SyntaxError]
-        ensures { map message_of_error result.now ≡ messages self.now.edition (chars self.now.text) }
+        ensures { map message_of_error result.now
+            ≡ messages_in self.now.grammar self.now.edition (chars self.now.text) }
     {
         &self.errors
     }
@@ -231,6 +278,8 @@ impl Document {
 
     /// Puts a text in the place of a range, reads the new text, and gives its tree the next number
     /// of `ids`.
+    ///
+    /// The new text is read by the edition and the grammar of the old one.
     ///
     /// Tokens are kept, as [`LexedText::edit`] does, if the edit starts behind the preface and leaves
     /// it as it is, and if before edition 2024 no token of either text is a guarded prefix. The
@@ -250,6 +299,7 @@ impl Document {
         ensures state { OnOk result (self.new ≡
             record {
               edition = self.old.edition;
+              grammar = self.old.grammar;
               text = edited self.old.text range.start.0 range.end.0 text.now;
               number = ids.old;
             }) }
@@ -264,7 +314,7 @@ impl Document {
             (KeepsTokens self.old.edition self.old.text self.new.text range.start.0 → ⊥)
             → KeepsNoToken self.old.edition self.new.text e) }
         ensures output { IfOk result (λ e. KeepsOutput self.old self.new e.steps) }
-        ensures steps { IfOk result (λ e. e.steps ≤ most_steps self.old.edition
+        ensures steps { IfOk result (λ e. e.steps ≤ most_steps self.old.grammar self.old.edition
             (chars (edited self.old.text range.start.0 range.end.0 text.now))) }
         ensures refused { IfErr result (RefusesEdit
             (edited self.old.text range.start.0 range.end.0 text.now) ids.old) }
@@ -279,7 +329,7 @@ impl Document {
             kept,
             root,
         };
-        let next = read_next(alloc, self.edition, unread, &self.parse)?;
+        let next = read_next(alloc, self.grammar, self.edition, unread, &self.parse)?;
         let leaves = next.leaves;
         let steps = next.steps;
         self.renew(alloc, new, next, ids)?;
@@ -323,10 +373,11 @@ impl Document {
         requires edited { new.now ≡ edited self.now.text range.start.0 range.end.0 put.now }
         requires fits { length new.now ≤ MAX_TEXT }
         ensures { IfOk result (λ o. IfSome o
-            (IsRenamedTree self.now.edition self.now.text new.now)) }
+            (IsRenamedTree self.now.grammar self.now.edition self.now.text new.now)) }
     {
         let before = ReadText {
             edition: self.edition,
+            grammar: self.grammar,
             tokens: self.tokens.as_slice(),
             root: &self.root,
         };
@@ -370,11 +421,12 @@ impl Document {
         ids: &mut TreeIds,
     ) -> Result<(), TreeError>
         requires fits { length (string_bytes text) ≤ MAX_TEXT }
-        requires is_next { IsNextReading self.old.edition (chars (string_bytes text))
-            (tokens_in self.old.edition (chars self.old.text)) next }
+        requires is_next { IsNextReading self.old.grammar self.old.edition (chars (string_bytes text))
+            (tokens_in self.old.grammar self.old.edition (chars self.old.text)) next }
         ensures state { OnOk result (self.new ≡
             record {
               edition = self.old.edition;
+              grammar = self.old.grammar;
               text = string_bytes text;
               number = ids.old;
             }) }

@@ -20,13 +20,13 @@ pub fn leaves_are_slices()
     ensures { LeavesAreSlices }
 {}
 
-/// Documents of equal edition and text agree in tokens, messages and tree, whatever commands made
+/// Documents of equal edition, grammar and text agree in tokens, messages and tree, whatever commands made
 /// them.
 pub fn texts_decide()
     ensures { TextsDecide }
 {}
 
-/// In documents of equal edition and text a pointer leads to the same node. So it does after a
+/// In documents of equal edition, grammar and text a pointer leads to the same node. So it does after a
 /// refused command, which leaves both.
 pub fn pointers_follow_texts()
     ensures { PointersFollowTexts }
@@ -73,7 +73,7 @@ pub fn swaps_are_one()
     laws::swaps_agree();
 }
 
-/// A text whose parser's input is a core file reads as the tree of its derivation, and only the lexer
+/// A text whose parser's input by the profile is a core file reads as the tree of its derivation, and only the lexer
 /// has messages.
 pub fn core_texts_are_read()
     ensures { CoreTextsAreRead }
@@ -104,13 +104,13 @@ pub fn histories_go_on()
     ensures { HistoriesGoOn }
 {}
 
-/// A rewrite of the present tree whose changes have places, whose text is within the limits and
+/// In a document of the profile a rewrite of the present tree whose changes have places, whose text is within the limits and
 /// whose new tree is well-spaced is accepted.
 pub fn well_spaced_rewrites_are_accepted()
     ensures { WellSpacedRewritesAreAccepted }
 {}
 
-/// The text of a well-spaced tree has no message.
+/// The text of a well-spaced tree has no message by the profile.
 pub fn well_spaced_texts_have_no_messages()
     ensures { WellSpacedTextsHaveNoMessages }
 {}

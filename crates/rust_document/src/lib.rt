@@ -1,7 +1,7 @@
 //! A text with its reading: its messages and its tree, and nothing that an earlier text left.
 //!
-//! A text is read by the whole grammar. It changes by edits of its bytes, and by what an editor
-//! records on its tree.
+//! A text is read whole, by the grammar that the document was opened with: the profile, or the whole
+//! language. It changes by edits of its bytes, and by what an editor records on its tree.
 #![tactic(auto)]
 
 mod bare;
@@ -28,12 +28,17 @@ mod tree_sink;
 pub use difference::Difference;
 pub use document::{Committed, Document, Edited, MAX_TEXT};
 pub use error::{CommitError, EditError, OpenError, PayloadError, WithoutMessagesError};
+pub use parser_input::edition::Edition;
+pub use parser_input::syntax_kind::SyntaxKind;
 pub use payload_entry::{PayloadEntry, payload};
 pub use plain_name::is_plain_name;
+pub use ra_parser::{Grammar, TopEntryPoint};
+pub use rowan_green::TextRange;
 pub use syntax_editor::{
     Annotations, AttrsOwnerEdit, Fn, HasAttrs, IndentLevel, ItemList, MakeError, MergeError,
     RecordError, SourceFile, Space, StmtList, Struct, SyntaxAnnotation, SyntaxEditor,
     SyntaxFactory, Unmerged, Use, WhitespaceError,
 };
 pub use syntax_error::{SyntaxError, SyntaxMessage};
+pub use syntax_tree::{SyntaxElement, SyntaxNode, TreeIds};
 pub use tokens::{LexedToken, Tokens};

@@ -11,15 +11,17 @@ use crate::plain_name::is_plain_name;
 use crate::tokens::LexedToken;
 use parser_input::edition::Edition;
 use parser_input::syntax_kind::SyntaxKind;
+use ra_parser::Grammar;
 use rowan_green::{GreenError, GreenNode, GreenToken, TextRange};
 use rustc_lexer::{Cursor, TokenKind};
 use std::alloc::{AllocError, Global};
 use syntax_tree::{SyntaxElement, SyntaxNode, SyntaxToken};
 
-/// The tokens and the tree of a text.
+/// The tokens and the tree of a text, with what it is read by.
 #[derive(Clone, Copy)]
 pub(crate) struct ReadText<'a, 'b> {
     pub edition: Edition,
+    pub grammar: Grammar,
     pub tokens: &'a [LexedToken],
     pub root: &'b SyntaxNode,
 }
@@ -182,7 +184,7 @@ pub(crate) fn renamed_tree(
     requires read { IsRead edit.now.before.now before.now }
     requires edit { IsTextEdit edit.now }
     ensures { IfOk result (λ o. IfSome o
-        (IsRenamedTree before.now.edition edit.now.before.now edit.now.after.now)) }
+        (IsRenamedTree before.now.grammar before.now.edition edit.now.before.now edit.now.after.now)) }
 {
     let Some(place) = identifier_around(before.tokens, edit.range) else {
         return Ok(None);

@@ -2,7 +2,7 @@
 ghost use Rattle.std.specs.Prelude.{◌≡◌, ◌+◌, ◌<◌, ◌^◌, ℕ, nat_lt, chars, length, IfOk, IfErr, OnOk};
 ghost use Rattle.syntax_tree.specs.Handle.{element_of};
 ghost use Rattle.ra_parser.specs.Entries.{production_of};
-ghost use Rattle.rust_document.specs.Payload.{entry_payload, lexer_messages, payload_of, token_payload, One, Whole, IsDetached, RefusesPayload};
+ghost use Rattle.rust_document.specs.Payload.{entry_payload, lexer_messages, payload_in, payload_of, token_payload, One, Whole, IsDetached, RefusesPayload};
 ghost use Rattle.rust_document.specs.Seen.{seen};
 
 use crate::document::MAX_TEXT;
@@ -11,7 +11,7 @@ use crate::leaf::Leaf;
 use crate::read::read;
 use parser_input::edition::Edition;
 use parser_input::lexed_str::LexedStr;
-use ra_parser::TopEntryPoint;
+use ra_parser::{Grammar, TopEntryPoint};
 use rowan_green::GreenNode;
 use std::alloc::{AllocError, Global};
 use syntax_tree::elements::token;
@@ -26,8 +26,16 @@ pub enum PayloadEntry {
     Token,
 }
 
-/// Reads a text to be put in the place of an element: the tree of an entry, or a token in a tree of
-/// its own, with the next number of `ids`.
+/// A text with what it is read by.
+#[derive(Clone, Copy)]
+pub(crate) struct PayloadText<'a> {
+    pub grammar: Grammar,
+    pub edition: Edition,
+    pub text: &'a str,
+}
+
+/// Reads a text to be put in the place of an element, by the profile: the tree of an entry, or a token
+/// in a tree of its own, with the next number of `ids`.
 ///
 /// Refuses a text of more than 16,777,216 bytes as too long, then a text about which there is a
 /// message, then as a token a text that is not one, then for want of a tree number. In a token no
@@ -44,14 +52,40 @@ pub fn payload(
     ensures refused { IfErr result (RefusesPayload ids.old (payload_of entry edition text.now)) }
     ensures kept { IfErr result (λ _. ids.new ≡ ids.old) }
 {
+    let text = PayloadText {
+        grammar: Grammar::Profile,
+        edition,
+        text,
+    };
+    payload_by(alloc, entry, text, ids)
+}
+
+/// Reads a text to be put in the place of an element, as [`payload`] does, by its own grammar.
+///
+/// # Errors
+///
+/// As of [`payload`].
+pub(crate) fn payload_by(
+    alloc: Global,
+    entry: PayloadEntry,
+    text: PayloadText<'_>,
+    ids: &mut TreeIds,
+) -> Result<SyntaxElement, PayloadError>
+    ensures given { IfOk result (λ e. IsDetached ids.old
+        (payload_in entry text.entry.grammar text.entry.edition text.entry.text.now) (element_of e)) }
+    ensures number { OnOk result (ids.new ≡ ids.old + 1) }
+    ensures refused { IfErr result (RefusesPayload ids.old
+        (payload_in entry text.entry.grammar text.entry.edition text.entry.text.now)) }
+    ensures kept { IfErr result (λ _. ids.new ≡ ids.old) }
+{
     match entry {
         PayloadEntry::Top(top) => {
-            let root = whole_tree(alloc, top, edition, text)?;
+            let root = whole_tree(alloc, top, text)?;
             let node = SyntaxNode::new_root(alloc, root, ids)?;
             Ok(SyntaxElement::Node(node))
         }
         PayloadEntry::Token => {
-            let leaf = only_leaf(alloc, edition, text)?;
+            let leaf = only_leaf(alloc, text.edition, text.text)?;
             let green = token(alloc, leaf.kind, leaf.text)?;
             let token = SyntaxToken::detached(alloc, green, ids)?;
             Ok(SyntaxElement::Token(token))
@@ -63,17 +97,22 @@ pub fn payload(
 fn whole_tree(
     alloc: Global,
     top: TopEntryPoint,
-    edition: Edition,
-    text: &str,
+    text: PayloadText<'_>,
 ) -> Result<GreenNode, PayloadError>
-    ensures given { IfOk result (λ t. entry_payload (production_of top) edition text.now ≡ Whole t) }
-    ensures refused { IfErr result (λ e. (number : ℕ)
-        → RefusesPayload number (entry_payload (production_of top) edition text.now) e) }
+    ensures given { IfOk result (λ t.
+        entry_payload (production_of top) text.entry.grammar text.entry.edition text.entry.text.now ≡ Whole t) }
+    ensures refused { IfErr result (λ e. (number : ℕ) → RefusesPayload number
+        (entry_payload (production_of top) text.entry.grammar text.entry.edition text.entry.text.now) e) }
 {
+    let PayloadText {
+        grammar,
+        edition,
+        text,
+    } = text;
     if text.len() > MAX_TEXT {
         return Err(PayloadError::TooLong);
     }
-    let reading = read(alloc, top, edition, text)?;
+    let reading = read(alloc, top, grammar, edition, text)?;
     if reading.errors.len() > 0 {
         return Err(PayloadError::Message);
     }

@@ -5,9 +5,10 @@ ghost use Rattle.parser_events.specs.Steps.{Step};
 ghost use Rattle.rust_grammar.specs.Rule.{source_file};
 ghost use Rattle.ra_parser.specs.Entries.{production_of};
 ghost use Rattle.ra_parser.specs.declared.entry_points.TopEntryPoint.{TopEntryPoint};
+ghost use Rattle.ra_parser.specs.declared.grammar.Grammar.{Grammar};
 ghost use Rattle.rust_document.specs.IsReading.{IsReading, IsReadingBy};
 ghost use Rattle.rust_document.specs.NextReading.{AreStepsBy, IsFirstReading, IsNextReading, IsNextText, IsOwnParse};
-ghost use Rattle.rust_document.specs.Reading.{leaves_in, of_leaf_at, of_leaves, tree, tree_by};
+ghost use Rattle.rust_document.specs.Reading.{leaves_in, of_leaf_at, of_leaves, tree_by, tree_in};
 ghost use Rattle.rust_document.specs.Seen.{message_of_error};
 ghost use Rattle.rust_document.specs.TreeBuilt.{AreMessages};
 
@@ -22,7 +23,7 @@ use lexed_text::LexedText;
 use parser_events::output::Output;
 use parser_input::edition::Edition;
 use parser_input::lexed_str::LexedStr;
-use ra_parser::TopEntryPoint;
+use ra_parser::{Grammar, TopEntryPoint};
 use rowan_green::GreenNode;
 use std::alloc::{AllocError, Global};
 
@@ -100,11 +101,12 @@ fn read_built(
 ) -> Result<Reading, AllocError>
     requires fits { length text.now ≤ 16777216 }
     requires whole { lexed.now ≡ whole_of lexed.now.edition (chars text.now) }
-    ensures { IfOk result (λ r. (top : TopEntryPoint) (steps : List Step)
-        → AreStepsBy (production_of top) lexed.now.edition (chars text.now) steps
-        → built.root ≡ tree_by (production_of top) lexed.now.edition (chars text.now)
+    ensures { IfOk result (λ r. (top : TopEntryPoint) (grammar : Grammar) (steps : List Step)
+        → AreStepsBy (production_of top) grammar lexed.now.edition (chars text.now) steps
+        → built.root ≡ tree_by (production_of top) grammar lexed.now.edition (chars text.now)
         → AreMessages steps (leaves_in lexed.now.edition (chars text.now)) built.errors.items
-        → IsReadingBy (production_of top) lexed.now.edition (chars text.now) r.tokens.items r.root r.errors.items) }
+        → IsReadingBy (production_of top) grammar lexed.now.edition (chars text.now)
+        r.tokens.items r.root r.errors.items) }
 {
     let Built { root, mut errors } = built;
     append_faults(lexed, &mut errors)?;
@@ -129,11 +131,12 @@ fn read_leaves(
 ) -> Result<Reading, AllocError>
     requires fits { length text.now ≤ 16777216 }
     requires whole { lexed.now ≡ whole_of lexed.now.edition (chars text.now) }
-    requires parsed { (top : TopEntryPoint)
-        × AreStepsBy (production_of top) lexed.now.edition (chars text.now) output.now.steps }
-    ensures { IfOk result (λ r. (top : TopEntryPoint)
-        → AreStepsBy (production_of top) lexed.now.edition (chars text.now) output.now.steps
-        → IsReadingBy (production_of top) lexed.now.edition (chars text.now) r.tokens.items r.root r.errors.items) }
+    requires parsed { (top : TopEntryPoint) × ((grammar : Grammar)
+        × AreStepsBy (production_of top) grammar lexed.now.edition (chars text.now) output.now.steps) }
+    ensures { IfOk result (λ r. (top : TopEntryPoint) (grammar : Grammar)
+        → AreStepsBy (production_of top) grammar lexed.now.edition (chars text.now) output.now.steps
+        → IsReadingBy (production_of top) grammar lexed.now.edition (chars text.now)
+        r.tokens.items r.root r.errors.items) }
 {
     let built = build(alloc, lexed, output)?;
     read_built(alloc, text, lexed, built)
@@ -153,15 +156,16 @@ fn read_around(
 ) -> Result<Reading, AllocError>
     requires fits { length text.now ≤ 16777216 }
     requires whole { lexed.now ≡ whole_of lexed.now.edition (chars text.now) }
-    requires parsed { AreStepsBy source_file lexed.now.edition (chars text.now) output.now.steps }
-    requires root { root ≡ tree lexed.now.edition (chars text.now) }
-    ensures { IfOk result (λ r. IsReading lexed.now.edition (chars text.now) r.tokens.items r.root r.errors.items) }
+    ensures { IfOk result (λ r. (grammar : Grammar)
+        → AreStepsBy source_file grammar lexed.now.edition (chars text.now) output.now.steps
+        → root ≡ tree_in grammar lexed.now.edition (chars text.now)
+        → IsReading grammar lexed.now.edition (chars text.now) r.tokens.items r.root r.errors.items) }
 {
     let errors = parser_messages(alloc, lexed, output)?;
     read_built(alloc, text, lexed, Built { root, errors })
 }
 
-/// Reads a text of at most 16,777,216 bytes by an entry.
+/// Reads a text of at most 16,777,216 bytes by an entry and a grammar.
 ///
 /// # Errors
 ///
@@ -169,15 +173,16 @@ fn read_around(
 pub fn read(
     alloc: Global,
     top: TopEntryPoint,
+    grammar: Grammar,
     edition: Edition,
     text: &str,
 ) -> Result<Reading, AllocError>
     requires { length text.now ≤ 16777216 }
-    ensures { IfOk result (λ r. IsReadingBy (production_of top) edition (chars text.now)
+    ensures { IfOk result (λ r. IsReadingBy (production_of top) grammar edition (chars text.now)
         r.tokens.items r.root r.errors.items) }
 {
     let lexed = LexedStr::new(alloc, edition, text)?;
-    let input = lexed.to_input(alloc)?;
+    let input = grammar.input(alloc, &lexed)?;
     let output = parse_input(alloc, top, &input)?;
     read_leaves(alloc, text, &lexed, &output)
 }
@@ -187,13 +192,18 @@ pub fn read(
 /// # Errors
 ///
 /// [`AllocError`] if an allocation fails.
-pub fn read_first(alloc: Global, edition: Edition, text: &str) -> Result<FirstReading, AllocError>
+pub fn read_first(
+    alloc: Global,
+    grammar: Grammar,
+    edition: Edition,
+    text: &str,
+) -> Result<FirstReading, AllocError>
     requires { length text.now ≤ 16777216 }
-    ensures { IfOk result (IsFirstReading edition (chars text.now)) }
+    ensures { IfOk result (IsFirstReading grammar edition (chars text.now)) }
 {
     let kept = lexed_content(alloc, text)?;
     let lexed = leaves_of(alloc, edition, text, &kept)?;
-    let input = lexed.to_input(alloc)?;
+    let input = grammar.input(alloc, &lexed)?;
     let output = parse_input(alloc, TopEntryPoint::SourceFile, &input)?;
     let reading = read_leaves(alloc, text, &lexed, &output)?;
     Ok(FirstReading {
@@ -221,13 +231,14 @@ pub struct NextText<'a> {
 /// [`AllocError`] if an allocation fails.
 pub fn read_next(
     alloc: Global,
+    grammar: Grammar,
     edition: Edition,
     next: NextText<'_>,
     before: &Parse,
 ) -> Result<NextReading, AllocError>
-    requires next { IsNextText edition before.now.input next }
+    requires next { IsNextText grammar edition before.now.input next }
     requires before { IsOwnParse before.now }
-    ensures { IfOk result (IsNextReading edition (chars next.entry.text.now) before.now.input) }
+    ensures { IfOk result (IsNextReading grammar edition (chars next.entry.text.now) before.now.input) }
 {
     let NextText { text, kept, root } = next;
     let lexed = leaves_of(alloc, edition, text, &kept)?;
@@ -242,7 +253,7 @@ pub fn read_next(
             steps: 0,
         });
     }
-    let input = lexed.to_input(alloc)?;
+    let input = grammar.input(alloc, &lexed)?;
     if input == before.input {
         let reading = read_leaves(alloc, text, &lexed, &before.output)?;
         return Ok(NextReading {

@@ -19,7 +19,7 @@ use crate::lexing::lexed_content;
 use crate::parse::Parse;
 use crate::read::{NextReading, NextText, read, read_next};
 use parser_input::edition::Edition;
-use ra_parser::TopEntryPoint;
+use ra_parser::{Grammar, TopEntryPoint};
 use rowan_green::{GreenNode, TextRange};
 use std::alloc::{AllocError, Global};
 use syntax_editor::{SyntaxAnnotation, SyntaxEditor};
@@ -48,14 +48,15 @@ struct ReadBack {
 /// comments aside.
 fn read_back(
     alloc: Global,
+    grammar: Grammar,
     edition: Edition,
     tree: &GreenNode,
     before: &Parse,
 ) -> Result<ReadBack, CommitError>
     requires { IsOwnParse before.now }
-    ensures ok { IfOk result (λ r. IsReadBack edition tree.now before.now.input
+    ensures ok { IfOk result (λ r. IsReadBack grammar edition tree.now before.now.input
         (string_bytes r.text) r.reading) }
-    ensures refused { IfErr result (RefusesReadBack edition tree.now) }
+    ensures refused { IfErr result (RefusesReadBack grammar edition tree.now) }
 {
     if usize::from(tree.text_len()) > MAX_TEXT {
         return Err(CommitError::TooLong);
@@ -67,7 +68,7 @@ fn read_back(
         kept,
         root: None,
     };
-    let next = read_next(alloc, edition, unread, before)?;
+    let next = read_next(alloc, grammar, edition, unread, before)?;
     if same_bare(tree, &next.reading.root) {
         return Ok(ReadBack {
             text,
@@ -119,18 +120,19 @@ fn annotated_ranges(
 /// What an editor's changes make of its tree; `before` is the parse of the tree's own text.
 pub fn rewrite(
     alloc: Global,
+    grammar: Grammar,
     edition: Edition,
     editor: &SyntaxEditor,
     before: &Parse,
 ) -> Result<Rewritten, CommitError>
     requires { IsOwnParse before.now }
-    ensures ok { IfOk result (λ r. IsRewritten edition editor.now before.now.input
+    ensures ok { IfOk result (λ r. IsRewritten grammar edition editor.now before.now.input
         (string_bytes r.text) r.reading r.changed.items) }
     ensures annotated { IfOk result (λ r. map annotated_ends r.annotated.items ≡ annotated editor.now) }
-    ensures refused { IfErr result (RefusesRewritten edition editor.now) }
+    ensures refused { IfErr result (RefusesRewritten grammar edition editor.now) }
 {
     let rewritten = editor.rewritten(alloc)?;
-    let ReadBack { text, reading } = read_back(alloc, edition, &rewritten.green, before)?;
+    let ReadBack { text, reading } = read_back(alloc, grammar, edition, &rewritten.green, before)?;
     let annotated = annotated_ranges(alloc, editor, rewritten.green, &rewritten.pieces)?;
     Ok(Rewritten {
         text,
@@ -148,11 +150,12 @@ pub fn rewrite(
 /// - [`CommitError::NoMemory`] if an allocation fails.
 fn difference_from_reading(
     alloc: Global,
+    grammar: Grammar,
     edition: Edition,
     tree: &GreenNode,
 ) -> Result<Option<Difference>, CommitError>
     ensures fits { OnOk result (length (tree_text tree.now) ≤ MAX_TEXT) }
-    ensures told { IfOk result (λ r. option_map told_of r ≡ difference edition tree.now) }
+    ensures told { IfOk result (λ r. option_map told_of r ≡ difference grammar edition tree.now) }
     ensures refused { IfErr result (LacksReading tree.now) }
 {
     let len = usize::from(tree.text_len());
@@ -160,7 +163,13 @@ fn difference_from_reading(
         return Err(CommitError::TooLong);
     }
     let text = format!(in alloc; "{tree}")?;
-    let reading = read(alloc, TopEntryPoint::SourceFile, edition, text.as_str())?;
+    let reading = read(
+        alloc,
+        TopEntryPoint::SourceFile,
+        grammar,
+        edition,
+        text.as_str(),
+    )?;
     Ok(difference_of(tree, &reading.root))
 }
 
@@ -171,12 +180,13 @@ fn difference_from_reading(
 /// As of [`rewrite`], but never [`CommitError::Unfaithful`].
 pub fn rewritten_difference(
     alloc: Global,
+    grammar: Grammar,
     edition: Edition,
     editor: &SyntaxEditor,
 ) -> Result<Option<Difference>, CommitError>
-    ensures told { IfOk result (IsDifference edition editor.now) }
+    ensures told { IfOk result (IsDifference grammar edition editor.now) }
     ensures refused { IfErr result (LacksDifference editor.now) }
 {
     let made = editor.rewritten(alloc)?;
-    difference_from_reading(alloc, edition, &made.green)
+    difference_from_reading(alloc, grammar, edition, &made.green)
 }

@@ -8,8 +8,9 @@ use Rattle.rowan.specs.Place.{term_at}
 use Rattle.parser_input.specs.declared.edition.Edition.{Edition}
 use Rattle.ra_parser.specs.Entries.{production_of}
 use Rattle.ra_parser.specs.declared.entry_points.TopEntryPoint.{TopEntryPoint}
+use Rattle.ra_parser.specs.declared.grammar.Grammar.{Grammar}
 use Rattle.syntax_tree.specs.Element.{Element}
-use Rattle.rust_document.specs.Payload.{IsDetached, Message, TooLong, Whole, payload_of}
+use Rattle.rust_document.specs.Payload.{IsDetached, Message, TooLong, Whole, payload_in}
 use Rattle.rust_document.specs.Reading.{messages_by, tree_by}
 use Rattle.rust_document.specs.Step.{MAX_TEXT}
 use Rattle.rust_document.specs.declared.payload_entry.PayloadEntry.TheVariants.{Top}
@@ -21,6 +22,6 @@ no-leaf number false true t e l is stands = absurd is
 no-leaf number false false t e l is stands = let z : Some (terms.Node t) ≡ Some (terms.Token l) = ap (λ (x : Element). term_at x.place) (sym is) ∙ stands in cc
 
 -- a token is no root
-pub token-no-root : (number : ℕ) (top : TopEntryPoint) (edition : Edition) (text : List ℕ) (e : Element) (l : Leaf) → IsDetached number (payload_of (Top top) edition text) e → term_at e.place ≡ Some (terms.Token l) → ⊥
-token-no-root number top edition text e l is stands =
-    no-leaf number (nat_lt MAX_TEXT (length text)) (nat_lt 0 (length (messages_by (production_of top) edition (chars text)))) (tree_by (production_of top) edition (chars text)) e l is stands
+pub token-no-root : (number : ℕ) (top : TopEntryPoint) (grammar : Grammar) (edition : Edition) (text : List ℕ) (e : Element) (l : Leaf) → IsDetached number (payload_in (Top top) grammar edition text) e → term_at e.place ≡ Some (terms.Token l) → ⊥
+token-no-root number top grammar edition text e l is stands =
+    no-leaf number (nat_lt MAX_TEXT (length text)) (nat_lt 0 (length (messages_by (production_of top) grammar edition (chars text)))) (tree_by (production_of top) grammar edition (chars text)) e l is stands

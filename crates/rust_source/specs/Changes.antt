@@ -28,6 +28,7 @@ pub record ChangesBy (before after : State) (e : Editing) : Type 0 where
   pub accepted : verdict before e ≡ Accepted
   pub no_messages : HaveNoMessages before e
   pub edition : after.edition ≡ before.edition
+  pub grammar : after.grammar ≡ before.grammar
   pub text : after.text ≡ tree_text (rewritten e)
 
 -- the second document is the first with elements inserted: nothing is replaced or deleted

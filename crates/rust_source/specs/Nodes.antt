@@ -10,7 +10,8 @@ use Rattle.syntax_tree.specs.Search.{elements}
 use Rattle.syntax_tree.specs.declared.element.SyntaxElement.{SyntaxElement}
 use Rattle.parser_input.specs.declared.edition.Edition.{Edition}
 use Rattle.ra_parser.specs.declared.entry_points.TopEntryPoint.TheVariants as entries
-use Rattle.rust_document.specs.Payload.{Payload, Whole, RefusesPayload, payload_of}
+use Rattle.ra_parser.specs.declared.grammar.Grammar.{Grammar}
+use Rattle.rust_document.specs.Payload.{Payload, Whole, RefusesPayload, payload_in}
 use Rattle.rust_document.specs.declared.payload_entry.PayloadEntry.TheVariants.{Top}
 use Rattle.rust_document.specs.declared.error.PayloadError.TheVariants as payloads
 use Rattle.rust_source.specs.declared.error.NodeError.{NodeError}
@@ -45,14 +46,14 @@ abbrev pub first_node : ℕ → ℕ → Tree → Option Element
 first_node kind number t = first_of_kind kind (elements (root_of number t))
 
 -- what a text is as items, as statements, and as an expression
-abbrev pub items_payload : Edition → List ℕ → Payload
-items_payload edition text = payload_of (Top entries.MacroItems) edition text
+abbrev pub items_payload : Grammar → Edition → List ℕ → Payload
+items_payload grammar edition text = payload_in (Top entries.MacroItems) grammar edition text
 
-abbrev pub statements_payload : Edition → List ℕ → Payload
-statements_payload edition text = payload_of (Top entries.MacroStmts) edition text
+abbrev pub statements_payload : Grammar → Edition → List ℕ → Payload
+statements_payload grammar edition text = payload_in (Top entries.MacroStmts) grammar edition text
 
-abbrev pub expression_payload : Edition → List ℕ → Payload
-expression_payload edition text = payload_of (Top entries.Expr) edition text
+abbrev pub expression_payload : Grammar → Edition → List ℕ → Payload
+expression_payload grammar edition text = payload_in (Top entries.Expr) grammar edition text
 
 -- an attribute is read before an item
 abbrev pub attribute_text : List ℕ → List ℕ

@@ -17,7 +17,7 @@ pub use error::{NodeError, SourceError};
 pub use lines::Side;
 pub use making::is_of_kind;
 pub use parser_input::{Edition, SyntaxKind};
-pub use ra_parser::TopEntryPoint;
+pub use ra_parser::{Grammar, TopEntryPoint};
 pub use renamer::RenameError;
 pub use rowan_green::{TextRange, TextSize};
 pub use rust_document::{

@@ -11,7 +11,7 @@ ghost use Rattle.syntax_tree.specs.Element.{element_at};
 ghost use Rattle.syntax_tree.specs.Nodes.{is_of_kind};
 ghost use Rattle.syntax_tree.specs.Search.{elements};
 ghost use Rattle.syntax_editor.specs.Making.{RefusesMake};
-ghost use Rattle.rust_document.specs.Payload.{payload_of, Whole};
+ghost use Rattle.rust_document.specs.Payload.{payload_in, Whole};
 ghost use Rattle.rust_document.specs.declared.payload_entry.PayloadEntry.TheVariants.{Top};
 ghost use Rattle.rust_source.specs.Lending.{LendsNumbers};
 ghost use Rattle.rust_source.specs.Nodes.{attribute_text, first_node, first_of_kind, only, only_node, root_of, top_nodes, IsFound, LacksNode, RefusesNode, RefusesRoot};
@@ -98,10 +98,12 @@ impl Source {
     /// Returns the root of what an entry reads. Its tree gets the next number.
     fn payload_root(&mut self, entry: TopEntryPoint, text: &str) -> Result<SyntaxNode, NodeError>
         ensures root { IfOk result (λ n. (t : Tree)
-            × (payload_of (Top entry) self.old.document.edition text.now ≡ Whole t)
+            × (payload_in (Top entry)
+            self.old.document.grammar self.old.document.edition text.now ≡ Whole t)
             × (n ≡ root_of self.old.next t)) }
         ensures refused { IfErr result (RefusesRoot self.old.next
-            (payload_of (Top entry) self.old.document.edition text.now)) }
+            (payload_in (Top entry)
+            self.old.document.grammar self.old.document.edition text.now)) }
         ensures document { self.new.document ≡ self.old.document }
         ensures alloc { self.new.alloc ≡ self.old.alloc }
         ensures number { OnOk result (self.new.next ≡ self.old.next + 1) }
@@ -120,9 +122,11 @@ impl Source {
     /// Returns the only child node of the root of what an entry reads.
     fn payload_child(&mut self, entry: TopEntryPoint, text: &str) -> Result<SyntaxNode, NodeError>
         ensures found { IfOk result (IsFound only_node self.old.next
-            (payload_of (Top entry) self.old.document.edition text.now)) }
+            (payload_in (Top entry)
+            self.old.document.grammar self.old.document.edition text.now)) }
         ensures refused { IfErr result (RefusesNode only_node self.old.next
-            (payload_of (Top entry) self.old.document.edition text.now)) }
+            (payload_in (Top entry)
+            self.old.document.grammar self.old.document.edition text.now)) }
         ensures document { self.new.document ≡ self.old.document }
         ensures alloc { self.new.alloc ≡ self.old.alloc }
         ensures number { OnOk result (self.new.next ≡ self.old.next + 1) }
@@ -149,9 +153,11 @@ impl Source {
     /// On error, the source is unchanged.
     pub fn payload_item(&mut self, text: &str) -> Result<SyntaxNode, NodeError>
         ensures found { IfOk result (IsFound only_node self.old.next
-            (payload_of (Top entries.MacroItems) self.old.document.edition text.now)) }
+            (payload_in (Top entries.MacroItems)
+            self.old.document.grammar self.old.document.edition text.now)) }
         ensures refused { IfErr result (RefusesNode only_node self.old.next
-            (payload_of (Top entries.MacroItems) self.old.document.edition text.now)) }
+            (payload_in (Top entries.MacroItems)
+            self.old.document.grammar self.old.document.edition text.now)) }
         ensures document { self.new.document ≡ self.old.document }
         ensures alloc { self.new.alloc ≡ self.old.alloc }
         ensures number { OnOk result (self.new.next ≡ self.old.next + 1) }
@@ -171,9 +177,11 @@ impl Source {
     /// On error, the source is unchanged.
     pub fn payload_statement(&mut self, text: &str) -> Result<SyntaxNode, NodeError>
         ensures found { IfOk result (IsFound only_node self.old.next
-            (payload_of (Top entries.MacroStmts) self.old.document.edition text.now)) }
+            (payload_in (Top entries.MacroStmts)
+            self.old.document.grammar self.old.document.edition text.now)) }
         ensures refused { IfErr result (RefusesNode only_node self.old.next
-            (payload_of (Top entries.MacroStmts) self.old.document.edition text.now)) }
+            (payload_in (Top entries.MacroStmts)
+            self.old.document.grammar self.old.document.edition text.now)) }
         ensures document { self.new.document ≡ self.old.document }
         ensures alloc { self.new.alloc ≡ self.old.alloc }
         ensures number { OnOk result (self.new.next ≡ self.old.next + 1) }
@@ -198,9 +206,11 @@ impl Source {
         text: &str,
     ) -> Result<SyntaxNode, NodeError>
         ensures found { IfOk result (IsFound (first_node (raw_of kind)) self.old.next
-            (payload_of (Top entry) self.old.document.edition text.now)) }
+            (payload_in (Top entry)
+            self.old.document.grammar self.old.document.edition text.now)) }
         ensures refused { IfErr result (RefusesNode (first_node (raw_of kind)) self.old.next
-            (payload_of (Top entry) self.old.document.edition text.now)) }
+            (payload_in (Top entry)
+            self.old.document.grammar self.old.document.edition text.now)) }
         ensures document { self.new.document ≡ self.old.document }
         ensures alloc { self.new.alloc ≡ self.old.alloc }
         ensures number { OnOk result (self.new.next ≡ self.old.next + 1) }
@@ -227,9 +237,11 @@ impl Source {
     /// On error, the source is unchanged.
     pub fn payload_attribute(&mut self, text: &str) -> Result<SyntaxNode, NodeError>
         ensures found { IfOk result (IsFound (first_node ATTR) self.old.next
-            (payload_of (Top entries.SourceFile) self.old.document.edition (attribute_text text.now))) }
+            (payload_in (Top entries.SourceFile)
+            self.old.document.grammar self.old.document.edition (attribute_text text.now))) }
         ensures refused { IfErr result (RefusesNode (first_node ATTR) self.old.next
-            (payload_of (Top entries.SourceFile) self.old.document.edition (attribute_text text.now))) }
+            (payload_in (Top entries.SourceFile)
+            self.old.document.grammar self.old.document.edition (attribute_text text.now))) }
         ensures document { self.new.document ≡ self.old.document }
         ensures alloc { self.new.alloc ≡ self.old.alloc }
         ensures number { OnOk result (self.new.next ≡ self.old.next + 1) }

@@ -7,6 +7,7 @@ ghost use Rattle.renamer.specs.Plain.{IsPlain, LacksRoom};
 ghost use Rattle.renamer.specs.Renamed.{renamed_text};
 ghost use Rattle.syntax_editor.specs.Editing.{untouched};
 ghost use Rattle.syntax_tree.specs.Handle.{element_of};
+ghost use Rattle.ra_parser.specs.declared.grammar.Grammar.TheVariants.{Profile};
 ghost use Rattle.rust_document.specs.Commit.{RefusesCommit};
 ghost use Rattle.rust_document.specs.CommitWithoutMessages.{HaveNoMessages, RefusesRoom, RefusesWithoutMessages};
 ghost use Rattle.rust_document.specs.Committed.{annotated_ends, ends_of};
@@ -15,8 +16,8 @@ ghost use Rattle.rust_document.specs.Costs.{most_steps};
 ghost use Rattle.rust_document.specs.Edit.{RefusesEdit, can_edit, edited};
 ghost use Rattle.rust_document.specs.KeptTokens.{content_edit, counts_of, KeepsNoToken, KeepsOutput, KeepsTokens};
 ghost use Rattle.rust_document.specs.Open.{IsOpened, RefusesOpen};
-ghost use Rattle.rust_document.specs.Payload.{IsDetached, RefusesPayload, payload_of};
-ghost use Rattle.rust_document.specs.Reading.{messages};
+ghost use Rattle.rust_document.specs.Payload.{IsDetached, RefusesPayload, payload_in};
+ghost use Rattle.rust_document.specs.Reading.{messages_in};
 ghost use Rattle.rust_document.specs.Renames.{IsPlainRenaming, IsReadExactly};
 ghost use Rattle.rust_document.specs.Rewrite.{annotated, rewritten, changed};
 ghost use Rattle.rust_document.specs.Seen.{message_of_error};
@@ -27,11 +28,12 @@ ghost use Rattle.rust_document.specs.WithoutMessages.{HasNoMessages, HasPairedBr
 ghost use Rattle.rust_source.specs.Nodes.{IsSpentOnce};
 
 use parser_input::{Edition, SyntaxKind};
+use ra_parser::Grammar;
 use renamer::{RenameError, rename};
 use rowan_green::TextRange;
 use rust_document::{
     CommitError, Committed, Document, EditError, Edited, OpenError, PayloadEntry, PayloadError,
-    SyntaxEditor, SyntaxError, Tokens, WithoutMessagesError, payload,
+    SyntaxEditor, SyntaxError, Tokens, WithoutMessagesError,
 };
 use std::alloc::{AllocError, Global};
 use std::marker::Model;
@@ -65,17 +67,40 @@ impl Model for Source {
 }
 
 impl Source {
-    /// Reads a text. Its tree has the number 1.
+    /// Reads `text` by the profile, as [`Source::open_by`] does.
+    pub fn open(alloc: Global, edition: Edition, text: &str) -> Result<Source, OpenError>
+        ensures opened { IfOk result (λ s. s ≡
+            record {
+              alloc = alloc;
+              document = record { edition = edition; grammar = Profile; text = text.now; number = 1 };
+              next = 2;
+            }) }
+        ensures is_read { OnOk result (IsOpened text.now) }
+        ensures brackets { IfOk result (λ s. HasPairedBrackets s.document) }
+        ensures operators { IfOk result (λ s. HasPlacedOperators s.document) }
+        ensures core { IfOk result (λ s. IsReadAsCore s.document) }
+        ensures refused { IfErr result (RefusesOpen text.now 1) }
+    {
+        Source::open_by(alloc, edition, Grammar::Profile, text)
+    }
+
+    /// Reads `text` as `grammar` says. Its tree has the number 1. The source keeps the grammar: later
+    /// texts are read by it too.
     ///
     /// # Errors
     ///
     /// - [`OpenError::TooLong`] if `text` has more than 16,777,216 bytes.
     /// - [`OpenError::NoMemory`] if an allocation fails.
-    pub fn open(alloc: Global, edition: Edition, text: &str) -> Result<Source, OpenError>
+    pub fn open_by(
+        alloc: Global,
+        edition: Edition,
+        grammar: Grammar,
+        text: &str,
+    ) -> Result<Source, OpenError>
         ensures opened { IfOk result (λ s. s ≡
             record {
               alloc = alloc;
-              document = record { edition = edition; text = text.now; number = 1 };
+              document = record { edition = edition; grammar = grammar; text = text.now; number = 1 };
               next = 2;
             }) }
         ensures is_read { OnOk result (IsOpened text.now) }
@@ -85,7 +110,7 @@ impl Source {
         ensures refused { IfErr result (RefusesOpen text.now 1) }
     {
         let mut ids = TreeIds::new();
-        let document = Document::open(alloc, edition, text, &mut ids)?;
+        let document = Document::open_by(alloc, edition, grammar, text, &mut ids)?;
         Ok(Source {
             alloc,
             ids,
@@ -105,6 +130,13 @@ impl Source {
         ensures { result ≡ self.now.document.edition }
     {
         self.document.edition()
+    }
+
+    /// Returns the grammar that the text is read by.
+    pub fn grammar(&self) -> Grammar
+        ensures { result ≡ self.now.document.grammar }
+    {
+        self.document.grammar()
     }
 
     /// The text, of at most 16,777,216 bytes.
@@ -134,7 +166,8 @@ impl Source {
     /// tokens.
     pub fn errors(&self) -> &[SyntaxError]
         ensures { map message_of_error result.now
-            ≡ messages self.now.document.edition (chars self.now.document.text) }
+            ≡ messages_in self.now.document.grammar self.now.document.edition
+            (chars self.now.document.text) }
     {
         self.document.errors()
     }
@@ -164,6 +197,7 @@ impl Source {
               alloc = self.old.alloc;
               document = record {
                 edition = self.old.document.edition;
+                grammar = self.old.document.grammar;
                 text = edited self.old.document.text range.start.0 range.end.0 text.now;
                 number = self.old.next;
               };
@@ -179,7 +213,7 @@ impl Source {
             (KeepsTokens self.old.document.edition self.old.document.text self.new.document.text range.start.0 → ⊥)
             → KeepsNoToken self.old.document.edition self.new.document.text e) }
         ensures output { IfOk result (λ e. KeepsOutput self.old.document self.new.document e.steps) }
-        ensures steps { IfOk result (λ e. e.steps ≤ most_steps self.old.document.edition
+        ensures steps { IfOk result (λ e. e.steps ≤ most_steps self.old.document.grammar self.old.document.edition
             (chars (edited self.old.document.text range.start.0 range.end.0 text.now))) }
         ensures refused { IfErr result (RefusesEdit
             (edited self.old.document.text range.start.0 range.end.0 text.now) self.old.next) }
@@ -201,7 +235,7 @@ impl Source {
         self.document.find(self.alloc, kind, range)
     }
 
-    /// Reads a text in the source's edition, to put it into a tree: returns the root of the tree of an
+    /// Reads a text by the source's edition and grammar, to put it into a tree: returns the root of the tree of an
     /// entry, or a token in a new tree. The tree gets the next number.
     ///
     /// # Errors
@@ -219,16 +253,16 @@ impl Source {
         text: &str,
     ) -> Result<SyntaxElement, PayloadError>
         ensures given { IfOk result (λ e. IsDetached self.old.next
-            (payload_of entry self.old.document.edition text.now) (element_of e)) }
+            (payload_in entry self.old.document.grammar self.old.document.edition text.now) (element_of e)) }
         ensures document { self.new.document ≡ self.old.document }
         ensures alloc { self.new.alloc ≡ self.old.alloc }
         ensures number { OnOk result (self.new.next ≡ self.old.next + 1) }
         ensures refused { IfErr result (RefusesPayload self.old.next
-            (payload_of entry self.old.document.edition text.now)) }
+            (payload_in entry self.old.document.grammar self.old.document.edition text.now)) }
         ensures kept { IfErr result (λ _. self.new ≡ self.old) }
     {
-        let edition = self.edition();
-        payload(self.alloc, entry, edition, text, &mut self.ids)
+        self.document
+            .payload(self.alloc, entry, text, &mut self.ids)
     }
 
     /// Returns an editor of the present tree, with nothing recorded.
@@ -251,6 +285,7 @@ impl Source {
               alloc = self.old.alloc;
               document = record {
                 edition = self.old.document.edition;
+                grammar = self.old.document.grammar;
                 text = tree_text (rewritten editor);
                 number = self.old.next;
               };
@@ -262,7 +297,7 @@ impl Source {
         ensures changed { IfOk result (λ c. map ends_of c.changed.items ≡ changed editor) }
         ensures annotated { IfOk result (λ c. map annotated_ends c.annotated.items ≡ annotated editor) }
         ensures output { IfOk result (λ c. KeepsOutput self.old.document self.new.document c.steps) }
-        ensures steps { IfOk result (λ c. c.steps ≤ most_steps self.old.document.edition
+        ensures steps { IfOk result (λ c. c.steps ≤ most_steps self.old.document.grammar self.old.document.edition
             (chars (tree_text (rewritten editor)))) }
         ensures refused { IfErr result (RefusesCommit (verdict self.old.document editor) self.old.next) }
         ensures renames { IfErr result (λ error. IsPlainRenaming self.old.document editor
@@ -294,6 +329,7 @@ impl Source {
               alloc = self.old.alloc;
               document = record {
                 edition = self.old.document.edition;
+                grammar = self.old.document.grammar;
                 text = tree_text (rewritten editor);
                 number = self.old.next;
               };
@@ -305,7 +341,7 @@ impl Source {
         ensures changed { IfOk result (λ c. map ends_of c.changed.items ≡ changed editor) }
         ensures annotated { IfOk result (λ c. map annotated_ends c.annotated.items ≡ annotated editor) }
         ensures output { IfOk result (λ c. KeepsOutput self.old.document self.new.document c.steps) }
-        ensures steps { IfOk result (λ c. c.steps ≤ most_steps self.old.document.edition
+        ensures steps { IfOk result (λ c. c.steps ≤ most_steps self.old.document.grammar self.old.document.edition
             (chars (tree_text (rewritten editor)))) }
         ensures refused { IfErr result (RefusesWithoutMessages self.old.document editor self.old.next) }
         ensures renamed { OnOk result (IsPlainRenaming self.old.document editor

@@ -52,9 +52,11 @@ impl Document {
     ///
     /// The parser's output is kept if the parser's input is the same.
     ///
-    /// A well-spaced rewrite is always accepted too: the new tree is one of the core language, its
-    /// leaves are spelled as their kinds, and whitespace is between any two of them. Only places,
-    /// length, memory and tree numbers can refuse it.
+    /// A well-spaced rewrite of a document of the profile is always accepted too: the new tree is one
+    /// of the core language, its leaves are spelled as their kinds, and whitespace is between any two
+    /// of them. Only places, length, memory and tree numbers can refuse it.
+    ///
+    /// The new text is read by the edition and the grammar of the old one.
     ///
     /// # Errors
     ///
@@ -80,6 +82,7 @@ impl Document {
         ensures state { OnOk result (self.new ≡
             record {
               edition = self.old.edition;
+              grammar = self.old.grammar;
               text = tree_text (rewritten editor);
               number = ids.old;
             }) }
@@ -89,7 +92,7 @@ impl Document {
         ensures changed { IfOk result (λ c. map ends_of c.changed.items ≡ changed editor) }
         ensures annotated { IfOk result (λ c. map annotated_ends c.annotated.items ≡ annotated editor) }
         ensures output { IfOk result (λ c. KeepsOutput self.old self.new c.steps) }
-        ensures steps { IfOk result (λ c. c.steps ≤ most_steps self.old.edition
+        ensures steps { IfOk result (λ c. c.steps ≤ most_steps self.old.grammar self.old.edition
             (chars (tree_text (rewritten editor)))) }
         ensures number { OnOk result (ids.new ≡ ids.old + 1) }
         ensures refused { IfErr result (RefusesCommit (verdict self.old editor) ids.old) }
@@ -109,8 +112,8 @@ impl Document {
     /// new text has messages. A tree that messages are about is a recovery: that a text reads as it
     /// says little of the program that was meant.
     ///
-    /// A well-spaced rewrite of a text without messages is always accepted: only tree numbers and
-    /// memory can refuse it.
+    /// A well-spaced rewrite of a text without messages is always accepted if the document is one of
+    /// the profile: only tree numbers and memory can refuse it.
     ///
     /// # Errors
     ///
@@ -131,6 +134,7 @@ impl Document {
         ensures state { OnOk result (self.new ≡
             record {
               edition = self.old.edition;
+              grammar = self.old.grammar;
               text = tree_text (rewritten editor);
               number = ids.old;
             }) }
@@ -140,7 +144,7 @@ impl Document {
         ensures changed { IfOk result (λ c. map ends_of c.changed.items ≡ changed editor) }
         ensures annotated { IfOk result (λ c. map annotated_ends c.annotated.items ≡ annotated editor) }
         ensures output { IfOk result (λ c. KeepsOutput self.old self.new c.steps) }
-        ensures steps { IfOk result (λ c. c.steps ≤ most_steps self.old.edition
+        ensures steps { IfOk result (λ c. c.steps ≤ most_steps self.old.grammar self.old.edition
             (chars (tree_text (rewritten editor)))) }
         ensures number { OnOk result (ids.new ≡ ids.old + 1) }
         ensures refused { IfErr result (RefusesWithoutMessages self.old editor ids.old) }
@@ -172,13 +176,13 @@ impl Document {
         editor: &SyntaxEditor,
     ) -> Result<Option<Difference>, CommitError>
         ensures told { IfOk result (λ r. option_map told_of r
-            ≡ difference self.now.edition (rewritten editor.now)) }
+            ≡ difference self.now.grammar self.now.edition (rewritten editor.now)) }
         ensures faithful { IfOk result (λ r. MatchOption r (verdict self.now editor.now ≡ Accepted)
             (λ _. verdict self.now editor.now ≡ Unfaithful)) }
         ensures refused { IfErr result (RefusesDifference (verdict self.now editor.now)) }
     {
         if self.is_of(editor) {
-            return rewritten_difference(alloc, self.edition, editor);
+            return rewritten_difference(alloc, self.grammar, self.edition, editor);
         }
         Err(CommitError::Foreign)
     }
@@ -190,8 +194,8 @@ impl Document {
     /// As of `commit`, but never `NoTreeNumber`.
     fn rewritten(&self, alloc: Global, editor: &SyntaxEditor) -> Result<Rewritten, CommitError>
         ensures accepted { OnOk result (verdict self.now editor.now ≡ Accepted) }
-        ensures rewritten { IfOk result (λ r. IsRewritten self.now.edition editor.now
-            (tokens_in self.now.edition (chars self.now.text))
+        ensures rewritten { IfOk result (λ r. IsRewritten self.now.grammar self.now.edition editor.now
+            (tokens_in self.now.grammar self.now.edition (chars self.now.text))
             (string_bytes r.text) r.reading r.changed.items) }
         ensures annotated { IfOk result (λ r. map annotated_ends r.annotated.items
             ≡ annotated editor.now) }
@@ -206,7 +210,7 @@ impl Document {
         if !self.is_of(editor) {
             return Err(CommitError::Foreign);
         }
-        rewrite(alloc, self.edition, editor, &self.parse)
+        rewrite(alloc, self.grammar, self.edition, editor, &self.parse)
     }
 
     /// Replaces the present text with a rewritten one, and gives its tree the next number of `ids`.
@@ -222,11 +226,13 @@ impl Document {
         ids: &mut TreeIds,
     ) -> Result<Committed, TreeError>
         requires fits { length (string_bytes rewritten.text) ≤ MAX_TEXT }
-        requires is_next { IsNextReading self.old.edition (chars (string_bytes rewritten.text))
-            (tokens_in self.old.edition (chars self.old.text)) rewritten.reading }
+        requires is_next { IsNextReading self.old.grammar self.old.edition
+            (chars (string_bytes rewritten.text))
+            (tokens_in self.old.grammar self.old.edition (chars self.old.text)) rewritten.reading }
         ensures state { OnOk result (self.new ≡
             record {
               edition = self.old.edition;
+              grammar = self.old.grammar;
               text = string_bytes rewritten.text;
               number = ids.old;
             }) }

@@ -1,6 +1,7 @@
 -- The law is a lemma on the definitions.
+use Rattle.ra_parser.specs.declared.grammar.Grammar.TheVariants.{Profile}
 use Rattle.rust_document.proofs.CoreTexts.{core-read}
 use Rattle.rust_document.proofs.laws.core_texts_are_read.Goals as goal
 
 pub returns : goal.returns
-returns c = core-read
+returns c = core-read Profile

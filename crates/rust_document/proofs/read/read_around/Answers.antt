@@ -8,6 +8,6 @@ use Rattle.rust_document.proofs.Whole.{of-each}
 use Rattle.rust_document.proofs.read.read_around.Goals as goal
 
 pub returns : goal.returns
-returns c = of-each c.read_built.result _ _ (λ r own.
-    own SourceFile c.args.output.now.steps c.requires.parsed c.requires.root
+returns c = of-each c.read_built.result _ _ (λ r own grammar are root.
+    own SourceFile grammar c.args.output.now.steps are root
     (subst (λ (w : Whole). AreMessages c.args.output.now.steps (leaves_of w.leaves) c.in_ok-errors.errors.items) c.requires.whole c.in_ok-errors.ensures)) c.read_built.ensures

@@ -23,10 +23,10 @@ lexed_tokens-requires c =
     )
 
 pub returns : goal.returns
-returns c = λ top ss are root_is first.
+returns c = λ top grammar ss are root_is first.
     let edition = c.args.lexed.now.edition in
     let text = chars c.args.text.now in
-    whole top edition text _ _ _ _ root_is
+    whole top grammar edition text _ _ _ _ root_is
     (subst (λ (xs : List Step). AreMessages xs (leaves_in edition text) c.args.built.errors.items) are first)
     (c.in_ok-append_faults.ensures ∙ ap (λ (w : Whole). map message_of_error c.args.built.errors.items ++ of_leaves 0 w.leaves) c.requires.whole)
     (c.in_ok-tokens.ensures ∙ ap (λ (w : Whole). spans_from 0 (map in_bytes (leaves_of w.leaves))) c.requires.whole)

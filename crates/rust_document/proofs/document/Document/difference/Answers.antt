@@ -10,11 +10,11 @@ returns-clause-refused c = foreign c.args.self.now c.args.editor.now _ c.is_of.e
 
 pub returns-then-is_of-clause-told : goal.returns-then-is_of-clause-told
 returns-then-is_of-clause-told c =
-    answer-told c.args.self.now c.args.editor.now _ c.rewritten_difference.result (ap (λ (s : State). s.edition) c.self.view_is) c.rewritten_difference.ensures.told
+    answer-told c.args.self.now c.args.editor.now _ _ c.rewritten_difference.result (ap (λ (s : State). s.grammar) c.self.view_is, ap (λ (s : State). s.edition) c.self.view_is) c.rewritten_difference.ensures.told
 
 pub returns-then-is_of-clause-faithful : goal.returns-then-is_of-clause-faithful
 returns-then-is_of-clause-faithful c =
-    answer-verdict c.args.self.now c.args.editor.now _ _ c.rewritten_difference.result c.is_of.ensures c.if-is_of.true (ap (λ (s : State). s.edition) c.self.view_is)
+    answer-verdict c.args.self.now c.args.editor.now _ _ _ c.rewritten_difference.result c.is_of.ensures c.if-is_of.true (ap (λ (s : State). s.grammar) c.self.view_is, ap (λ (s : State). s.edition) c.self.view_is)
     c.rewritten_difference.ensures.told
 
 pub returns-then-is_of-clause-refused : goal.returns-then-is_of-clause-refused

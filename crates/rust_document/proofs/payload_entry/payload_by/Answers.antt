@@ -1,6 +1,6 @@
 -- A refusal is one of its parts.
 use Rattle.std.proofs.lemmas.Result.{err_from_is_err_and}
-use Rattle.rust_document.proofs.payload_entry.payload.Goals as goal
+use Rattle.rust_document.proofs.payload_entry.payload_by.Goals as goal
 
 pub returns-in_err-leaf-in-Token-clause-refused : goal.returns-in_err-leaf-in-Token-clause-refused
 returns-in_err-leaf-in-Token-clause-refused c =
