@@ -6,7 +6,7 @@ run meets no refusal. Says how many runs there were, and which ended otherwise t
 
 A run that met a refusal ends as the run that met none, with the same output: so do tests that make a refused call again. With --fault
 it ends with status 2, 'fault: memory' on standard error, and a front of the output: so does document_tool. With --calls its output has
-one line more, which comes first and names the call that answered out of memory: so do memory_suite and document_memory_suite. With
+one line more, which comes first and names the call that answered out of memory: so do memory_suite, document_memory_suite and command_suite. With
 either of the two, a run that met a refusal and answers as if there was none is wrong.
 Standard input is empty, or FILE. Wants glibc, and the Rattle kit's C compiler or another one.
 """

@@ -5,7 +5,7 @@ use document_requests::run::run;
 use document_requests::serve::{Outcome, serve_bytes};
 use document_requests::{
     Change, Command, CommitRule, Entry, Op, Refusal, Reply, Target, Watched, answer_by,
-    commands_of, serve_lines,
+    commands_of, first_difference, serve_lines,
 };
 use memory_table::row::{Ask, Row};
 use parser_input::{Edition, SyntaxKind};
@@ -20,6 +20,7 @@ pub(crate) enum RequestCall {
     Apply,
     AnswerBy,
     CommandsOf,
+    FirstDifference,
     Serve,
     ServeLines,
     Run,
@@ -136,6 +137,20 @@ fn all_answered_by(alloc: Global, refused: &mut u32) -> anyhow::Result<String> {
     told(alloc, &document, &replies)
 }
 
+/// The kinds at the first difference of a commit that puts a comment before an item.
+fn reason(alloc: Global) -> anyhow::Result<String> {
+    let mut ids = TreeIds::new();
+    let document = Document::open(alloc, Edition::Edition2021, "struct Tee;", &mut ids)?;
+    let commands = commands(alloc)?;
+    let Some(Command::Commit { changes }) = commands.last() else {
+        bail!("no commit");
+    };
+    match first_difference(alloc, &document, changes.as_slice(), &mut ids)? {
+        Some(found) => Ok(format!(in alloc; "{:?} {:?}", found.wanted, found.read)?),
+        None => bail!("no difference"),
+    }
+}
+
 /// How many commands a list in JSON has.
 fn commands_read(alloc: Global) -> anyhow::Result<String> {
     let value = Value::from_str(alloc, "[{\"do\":\"tree\"},{\"do\":\"errors\"}]")?;
@@ -200,6 +215,7 @@ impl Ask for RequestCall {
             RequestCall::Apply => applied(alloc, refused),
             RequestCall::AnswerBy => all_answered_by(alloc, refused),
             RequestCall::CommandsOf => commands_read(alloc),
+            RequestCall::FirstDifference => reason(alloc),
             RequestCall::Serve => served(alloc),
             RequestCall::ServeLines => lines_answered(alloc),
             RequestCall::Run => answered(alloc),
@@ -227,6 +243,11 @@ pub(crate) const ROWS: &[Row<RequestCall>] = &[
         "document_requests::commands_of",
         RequestCall::CommandsOf,
         "2",
+    ),
+    (
+        "document_requests::first_difference",
+        RequestCall::FirstDifference,
+        "Some(STRUCT) None",
     ),
     (
         "document_requests::serve_lines",

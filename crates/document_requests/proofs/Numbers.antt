@@ -8,7 +8,7 @@ use Rattle.syntax_tree.specs.Element.{Element}
 use Rattle.syntax_tree.specs.Handle.{parent_of}
 use Rattle.rowan.specs.Place.{index_of}
 use Rattle.rust_document.specs.Edit.{can_edit, edited}
-use Rattle.rust_document.specs.Payload.{Payload, IsDetached, One, Whole, payload_of}
+use Rattle.rust_document.specs.Payload.{Payload, IsDetached, One, Whole, payload_in}
 use Rattle.rust_document.specs.Step as step
 use Rattle.rust_document.specs.Step.{State, Verdict, MAX_TEXT, root_element, verdict}
 use Rattle.document_requests.specs.Applied.{TakesSome}
@@ -75,8 +75,8 @@ deleted-number (Some old) e next = recorded-number e next (replacing e old [])
 put-counts : (op : Op) (o : Option Element) (entry : Entry) (text : List ℕ) (d : State) (e : Editing) (next : ℕ) → next ≤ number_after_preparing (put_at op o entry text d e next)
 put-counts op None entry text d e next = omega arith
 put-counts op (Some old) entry text d e next =
-    let is = taken-number op old e (taken entry d.edition text next) in
-    let counts = taken-counts entry (numbered_payload next (payload_of (payload_entry entry) d.edition text)) next in
+    let is = taken-number op old e (taken entry d text next) in
+    let counts = taken-counts entry (numbered_payload next (payload_in (payload_entry entry) d.grammar d.edition text)) next in
     omega (arith, is, counts)
 
 pub preparing-counts : (c : Change) (d : State) (e : Editing) (next : ℕ) → next ≤ number_after_preparing (prepared_by c d e next)

@@ -15,3 +15,4 @@ pub mod Outcome
 pub mod LineAnswers
 pub mod Serving
 pub mod Rules
+pub mod Reasons

@@ -6,6 +6,8 @@ use Rattle.serde_json.specs.Read.{read}
 use Rattle.serde_json.specs.Written.{has_float}
 use Rattle.document_requests.specs.Floats.{writes_float}
 use Rattle.parser_input.specs.declared.edition.Edition.{Edition}
+use Rattle.ra_parser.specs.declared.grammar.Grammar.{Grammar}
+use Rattle.ra_parser.specs.declared.grammar.Grammar.TheVariants.{Profile}
 use Rattle.rust_document.specs.Step.{MAX_TEXT}
 use Rattle.document_requests.specs.Reply.{Reply, Refused, line, lines}
 use Rattle.document_requests.specs.Request.{Request, request_of}
@@ -30,14 +32,15 @@ output_of (Completed replies text) = record { written = lines replies ++ text; s
 abbrev pub ended : Run → Ran
 ended r = Completed r.replies r.after.document.text
 
--- The first tree has the number 1.
-abbrev pub first_session : Edition → List ℕ → Session
-first_session edition text = record { document = record { edition = edition; text = text; number = 1 }; next = 2 }
+-- a text that is opened, with the number 1 for its tree
+abbrev pub first_session : Grammar → Edition → List ℕ → Session
+first_session grammar edition text =
+    record { document = record { edition = edition; grammar = grammar; text = text; number = 1 }; next = 2 }
 
 abbrev pub served : Request → Ran
 served r =
     if nat_lt MAX_TEXT (length r.text) then Rejected refusals.TooLong
-    else ended (run r.commands (first_session r.edition r.text))
+    else ended (run r.commands (first_session Profile r.edition r.text))
 
 -- a value that is a request
 abbrev pub served_if_any : Option Request → Ran

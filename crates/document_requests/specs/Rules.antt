@@ -1,7 +1,7 @@
 -- Commands under a rule for commits.
 use Rattle.std.specs.Prelude.{ℕ, ◌==◌, ◌&&◌, Bool, List, length, chars, if◌then◌else◌}
 use Rattle.rowan_green.specs.Forest.{tree_text}
-use Rattle.rust_document.specs.Reading.{messages}
+use Rattle.rust_document.specs.Reading.{messages_in}
 use Rattle.rust_document.specs.Rewrite.{rewritten}
 use Rattle.rust_document.specs.Step as step
 use Rattle.rust_document.specs.Step.{State, Verdict, root_element, verdict}
@@ -16,7 +16,8 @@ use Rattle.document_requests.specs.declared.rule.CommitRule.TheVariants.{Faithfu
 -- Neither the present text nor that of the rewritten tree has a message.
 abbrev pub have_no_messages : State → Editing → Bool
 have_no_messages d e =
-    (length (messages d.edition (chars d.text)) == 0) && (length (messages d.edition (chars (tree_text (rewritten e)))) == 0)
+    (length (messages_in d.grammar d.edition (chars d.text)) == 0)
+    && (length (messages_in d.grammar d.edition (chars (tree_text (rewritten e)))) == 0)
 
 abbrev pub accepted_clean : Session → Editing → Answer
 accepted_clean s e = if have_no_messages s.document e then accepted s e else refused refusals.Messages s

@@ -2,7 +2,6 @@
 use Rattle.std.specs.Prelude.{ℕ, ◌+◌, ◌^◌, ◌==◌, ◌&&◌, Bool, true, false, nat_lt, nat_le, List, [], ◌∷◌, length, map, chars, Option, Some, None, if◌then◌else◌}
 use Rattle.parser_input.specs.Kind.{raw_of}
 use Rattle.parser_input.specs.Kinds.{TOMBSTONE}
-use Rattle.parser_input.specs.declared.edition.Edition.{Edition}
 use Rattle.rowan_green.specs.Forest.{tree_text}
 use Rattle.rowan_green.specs.Leaf.{Leaf}
 use Rattle.rowan_green.specs.Term.{tree_of}
@@ -11,7 +10,7 @@ use Rattle.rowan.specs.Place.{index_of, terms_below}
 use Rattle.syntax_tree.specs.Element.{Element, element_at}
 use Rattle.syntax_tree.specs.Handle.{parent_of}
 use Rattle.rust_document.specs.Payload as payload
-use Rattle.rust_document.specs.Payload.{Payload, payload_of}
+use Rattle.rust_document.specs.Payload.{Payload, payload_in}
 use Rattle.ra_parser.specs.declared.entry_points.TopEntryPoint.TheVariants as tops
 use Rattle.rust_document.specs.declared.payload_entry.PayloadEntry.{PayloadEntry}
 use Rattle.rust_document.specs.declared.payload_entry.PayloadEntry.TheVariants as payloads
@@ -21,7 +20,7 @@ use Rattle.syntax_editor.specs.Recording as records
 use Rattle.syntax_editor.specs.Recording.{Recording, inserting, replacing}
 use Rattle.rust_document.specs.Step as step
 use Rattle.rust_document.specs.Edit.{can_edit, edited}
-use Rattle.rust_document.specs.Reading.{messages}
+use Rattle.rust_document.specs.Reading.{messages_in}
 use Rattle.rust_document.specs.Step.{MAX_TEXT, State, first_element, present, root_element, Verdict, verdict}
 use Rattle.document_requests.specs.Reply as reply
 use Rattle.document_requests.specs.Reply.{Reply, Edited, Changed, Refused}
@@ -63,7 +62,7 @@ found d t =
 abbrev pub accepted : Session → Editing → Answer
 accepted s e =
     if s.next == 2 ^ 32 then refused refusals.NoTreeNumber s
-    else record { reply = Changed (changed e); after = numbered (record { document = record { edition = s.document.edition; text = tree_text (rewritten e); number = s.next }; next = s.next }) }
+    else record { reply = Changed (changed e); after = numbered (record { document = record { edition = s.document.edition; grammar = s.document.grammar; text = tree_text (rewritten e); number = s.next }; next = s.next }) }
 
 -- An editor of the present tree is never foreign.
 abbrev pub answer_to : Verdict → Session → Editing → Answer
@@ -125,9 +124,9 @@ abbrev pub taken_of : Entry → Option Element → ℕ → Taken
 taken_of entry None next = Withheld refusals.Payload next
 taken_of entry (Some e) next = if next == 2 ^ 32 then Withheld refusals.NoTreeNumber next else part_of entry e (next + 1)
 
--- what a text is, read as an entry
-abbrev pub taken : Entry → Edition → List ℕ → ℕ → Taken
-taken entry edition text next = taken_of entry (numbered_payload next (payload_of (payload_entry entry) edition text)) next
+-- what a text is, read as an entry by a document's edition and grammar
+abbrev pub taken : Entry → State → List ℕ → ℕ → Taken
+taken entry d text next = taken_of entry (numbered_payload next (payload_in (payload_entry entry) d.grammar d.edition text)) next
 
 -- ---- what is recorded
 
@@ -164,7 +163,7 @@ put_taken op old e (Withheld refusal next) = Stopped refusal next
 -- The target comes first, then the text, then the recording.
 abbrev pub put_at : Op → Option Element → Entry → List ℕ → State → Editing → ℕ → Prepared
 put_at op None entry text d e next = Stopped refusals.NoTarget next
-put_at op (Some old) entry text d e next = put_taken op old e (taken entry d.edition text next)
+put_at op (Some old) entry text d e next = put_taken op old e (taken entry d text next)
 
 abbrev pub deleted_at : Option Element → Editing → ℕ → Prepared
 deleted_at None e next = Stopped refusals.NoTarget next
@@ -196,7 +195,7 @@ abbrev pub read_anew : Session → List ℕ → Answer
 read_anew s text =
     if nat_lt MAX_TEXT (length text) then refused refusals.TooLong s
     else if s.next == 2 ^ 32 then refused refusals.NoTreeNumber s
-    else record { reply = Edited; after = numbered (record { document = record { edition = s.document.edition; text = text; number = s.next }; next = s.next }) }
+    else record { reply = Edited; after = numbered (record { document = record { edition = s.document.edition; grammar = s.document.grammar; text = text; number = s.next }; next = s.next }) }
 
 -- A text takes the place of the bytes from `start` to just before `stop`.
 abbrev pub edited_by : ℕ → ℕ → List ℕ → Session → Answer
@@ -206,7 +205,7 @@ abbrev pub answer : Command → Session → Answer
 answer (asked.Edit start stop text) s = edited_by start stop text s
 answer (asked.Commit changes) s = committed changes s
 answer asked.Tree s = record { reply = reply.Tree (tree_lines (present s.document)); after = s }
-answer asked.Errors s = record { reply = reply.Errors (map worded (messages s.document.edition (chars s.document.text))); after = s }
+answer asked.Errors s = record { reply = reply.Errors (map worded (messages_in s.document.grammar s.document.edition (chars s.document.text))); after = s }
 
 -- the replies to commands, one each, and what they leave
 pub record Run : Type 0 where

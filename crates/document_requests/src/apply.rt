@@ -13,7 +13,7 @@ use crate::request::{Change, Command, Entry, Op, Target};
 use crate::stop::Stop;
 use ra_parser::TopEntryPoint;
 use rowan_green::{TextRange, TextSize};
-use rust_document::{Document, PayloadEntry, SyntaxEditor, payload};
+use rust_document::{Document, PayloadEntry, SyntaxEditor};
 use std::alloc::{AllocError, Global};
 use syntax_tree::{Position, SyntaxElement, SyntaxNode, TreeIds};
 
@@ -88,13 +88,13 @@ fn taken(
     text: &str,
     ids: &mut TreeIds,
 ) -> Result<SyntaxElement, Stop>
-    ensures given { IfOk result (λ element. taken entry document.now.edition text.now ids.old
+    ensures given { IfOk result (λ element. taken entry document.now text.now ids.old
         ≡ Given (element_of element) ids.new) }
-    ensures stopped { IfErr result (IsWithheld (taken entry document.now.edition text.now ids.old) ids.new) }
+    ensures stopped { IfErr result (IsWithheld (taken entry document.now text.now ids.old) ids.new) }
     ensures numbers { OnErr result (TakesSome ids.old ids.new
-        (number_after_taking (taken entry document.now.edition text.now ids.old))) }
+        (number_after_taking (taken entry document.now text.now ids.old))) }
 {
-    let payload = payload(alloc, payload_entry(entry), document.edition(), text, ids)?;
+    let payload = document.payload(alloc, payload_entry(entry), text, ids)?;
     prove!(payload.tree() <= u32::MAX);
     if !is_only_child(entry) {
         return Ok(payload);

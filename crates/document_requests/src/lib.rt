@@ -11,6 +11,7 @@ pub mod fault;
 mod floats;
 mod lines;
 mod print;
+mod reason;
 pub mod reply;
 pub mod request;
 mod request_lines;
@@ -22,6 +23,7 @@ pub mod stop;
 pub mod watched;
 
 pub use fault::Fault;
+pub use reason::first_difference;
 pub use reply::{Refusal, Reply};
 pub use request::{Change, Command, Entry, Op, Request, Target};
 pub use request_lines::serve_lines;

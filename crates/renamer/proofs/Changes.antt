@@ -125,7 +125,7 @@ or-false : (a b : Bool) → a ≡ false → b ≡ false → (a || b) ≡ false
 or-false true b p q = p
 or-false false b p q = q
 
-or-parts : (a b : Bool) → (a || b) ≡ false → (a ≡ false) × (b ≡ false)
+pub or-parts : (a b : Bool) → (a || b) ≡ false → (a ≡ false) × (b ≡ false)
 or-parts true b h = let z : true ≡ false = h in absurd (cc)
 or-parts false b h = (refl, h)
 

@@ -4,3 +4,4 @@ pub mod RawKinds
 pub mod NewLeaves
 pub mod SingleNames
 pub mod PlainRenames
+pub mod Undone

@@ -29,7 +29,7 @@ use Rattle.renamer.specs.Renamed.{identifier, is_named, renamed_leaves, renamed_
 use Rattle.renamer.proofs.Changes.{changes_after, ways_after, changes-are, no-collision, with_way, has_way, Covered, covered, AreNamed, named-with, named-at, leaf_change, changes-of, all-replace, leaf-after}
 use Rattle.rowan_green.specs.Same.{same_leaf-Decides}
 
-there : {X : Type 0} (xs : List X) (i : ℕ) (x : X) (ys : List X) → drop i xs ≡ x ∷ ys → (slice_get xs i ≡ Some x) × (drop (i + 1) xs ≡ ys)
+pub there : {X : Type 0} (xs : List X) (i : ℕ) (x : X) (ys : List X) → drop i xs ≡ x ∷ ys → (slice_get xs i ≡ Some x) × (drop (i + 1) xs ≡ ys)
 there [] zero x ys e = absurd (let z : [] ≡ x ∷ ys = e in cc)
 there [] (suc i) x ys e = absurd (let z : [] ≡ x ∷ ys = e in cc)
 there (z ∷ xs) zero x ys e = (let same : z ≡ x = cc in ap Some same, let rest : xs ≡ ys = cc in rest)

@@ -1,2 +1,3 @@
 pub mod Renamed
 pub mod Plain
+pub mod Undone

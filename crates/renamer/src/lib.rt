@@ -6,6 +6,8 @@ ghost use Rattle.rust_document.specs.Step.{MAX_TEXT, present};
 ghost use Rattle.renamer.specs.Plain.{IsPlain, LacksRoom};
 ghost use Rattle.renamer.specs.Renamed.{is_named, renamed_text};
 
+pub mod laws;
+
 use parser_input::syntax_kind::SyntaxKind;
 use rust_document::{CommitError, Document, PayloadEntry, PayloadError, RecordError, payload};
 use std::alloc::{AllocError, Global};
@@ -98,6 +100,7 @@ pub fn rename(
     ensures text { OnOk result (document.new.text
         ≡ renamed_text old.now new.now (present document.old)) }
     ensures edition { OnOk result (document.new.edition ≡ document.old.edition) }
+    ensures grammar { OnOk result (document.new.grammar ≡ document.old.grammar) }
     ensures tree { OnOk result (document.new.number ≡ ids.old + 1) }
     ensures number { OnOk result (ids.new ≡ ids.old + 2) }
     ensures numbers { IfErr result (λ _. (ids.old ≤ ids.new) × (ids.new ≤ ids.old + 1)) }

@@ -1,5 +1,5 @@
 -- Lemmas on commands that run one after another.
-use Rattle.std.proofs.Common.{◌≡◌, ℕ, suc, ◌+◌, ◌<◌, ◌≤◌, None, Some, List, [], ◌∷◌, length, map, drop, get_or, refl, ap, sym, ◌∙◌, add-one, arith, drop-cons}
+use Rattle.std.proofs.Common.{◌≡◌, ℕ, suc, ◌+◌, ◌<◌, ◌≤◌, Option, None, Some, List, [], ◌∷◌, length, map, drop, get_or, refl, ap, sym, ◌∙◌, add-one, arith, drop-cons}
 use Rattle.std.proofs.lemmas.List.{drop_all}
 use Rattle.line_index.specs.declared.encoding.Encoding.TheVariants.{Utf32}
 use Rattle.line_index.specs.declared.line_col.LineCol.{LineCol}
@@ -12,7 +12,8 @@ use Rattle.document_requests.specs.Session.{Answer, Session}
 use Rattle.document_requests.specs.declared.reply.Refusal.{Refusal}
 use Rattle.document_requests.specs.declared.request.Command.{Command as CommandCode}
 use Rattle.document_requests.specs.declared.rule.CommitRule.{CommitRule}
-use Rattle.source_rewrites.specs.Rewriting.{Rewriting, Rewritten, Stopped, refusal_of, rewriting, start_of}
+use Rattle.rust_document.specs.Difference.{Told}
+use Rattle.source_rewrites.specs.Rewriting.{Rewriting, Rewritten, Stopped, difference_of, refusal_of, rewriting, start_of}
 
 rewriting-none : (rule : CommitRule) (i : ℕ) (s : Session) → rewriting rule i [] s ≡ Rewritten s.document.text
 unfolding rewriting
@@ -23,8 +24,12 @@ rewriting-on : (rule : CommitRule) (i : ℕ) (c : Command) (cs : List Command) (
 unfolding rewriting
 rewriting-on rule i c cs s h = rw (h, rewriting) refl
 
+-- what stops at a refused command
+abbrev pub stopped-at : ℕ → Refusal → Command → Session → Rewriting
+stopped-at i r c after = Stopped i r (line_col Utf32 after.document.text (start_of c)) (difference_of c after)
+
 rewriting-stops : (rule : CommitRule) (i : ℕ) (c : Command) (cs : List Command) (s : Session) (r : Refusal) → refusal_of (answer_by rule c s).reply ≡ Some r →
-    rewriting rule i (c ∷ cs) s ≡ Stopped i r (line_col Utf32 (answer_by rule c s).after.document.text (start_of c))
+    rewriting rule i (c ∷ cs) s ≡ stopped-at i r c (answer_by rule c s).after
 unfolding rewriting
 rewriting-stops rule i c cs s r h = rw (h, rewriting) refl
 
@@ -51,13 +56,17 @@ module _ (rule : CommitRule) (cs : List CommandCode) (i : ℕ) (c : CommandCode)
       sym (here ∙ rewriting-on rule i (command_in c) rest s accepted ∙ ap (λ (a : Answer). rewriting rule (suc i) rest a.after) answered ∙ ap (λ n. rewriting rule n rest after) next)
 
   -- the command was refused
-  pub commands-stop : (refusal : Refusal) (place : LineCol) → refusal_of reply ≡ Some refusal → place ≡ line_col Utf32 after.document.text (start_of (command_in c)) → w ≡ Stopped i refusal place
-  commands-stop refusal place some at =
+  pub commands-stop :
+      (refusal : Refusal) (place : LineCol) (difference : Option Told) → refusal_of reply ≡ Some refusal
+      → place ≡ line_col Utf32 after.document.text (start_of (command_in c)) → difference ≡ difference_of (command_in c) after
+      → w ≡ Stopped i refusal place difference
+  commands-stop refusal place difference some at apart =
       let rest = map command_in (drop (i + 1) cs) in
       let stopped : refusal_of (answer_by rule (command_in c) s).reply ≡ Some refusal = ap (λ (a : Answer). refusal_of a.reply) answered ∙ some in
       here ∙ rewriting-stops rule i (command_in c) rest s refusal stopped
-      ∙ ap (λ (a : Answer). Stopped i refusal (line_col Utf32 a.after.document.text (start_of (command_in c)))) answered
-      ∙ ap (Stopped i refusal) (sym at)
+      ∙ ap (λ (a : Answer). stopped-at i refusal (command_in c) a.after) answered
+      ∙ ap (λ (p : LineCol). Stopped i refusal p (difference_of (command_in c) after)) (sym at)
+      ∙ ap (Stopped i refusal place) (sym apart)
 
 -- all commands were accepted
 pub commands-done : (rule : CommitRule) (cs : List CommandCode) (i : ℕ) (s : Session) (w : Rewriting) → length cs ≤ i → rewriting rule i (map command_in (drop i cs)) s ≡ w → w ≡ Rewritten s.document.text

@@ -3,6 +3,7 @@ use Rattle.std.specs.Prelude.{◌≡◌, ◌⊎◌, ◌<◌, ℕ, List, [], All,
 use Rattle.std.specs.List.{flat_map}
 use Rattle.std.specs.Global.{Global}
 use Rattle.file_target.specs.Files.{Files, FileState}
+use Rattle.rust_document.specs.Difference.{told_of}
 use Rattle.rust_document.specs.Step.{MAX_TEXT}
 use Rattle.document_requests.specs.Asked.{command}
 use Rattle.document_requests.specs.Output.{first_session}
@@ -25,11 +26,11 @@ path_of r = string_bytes r.source.path
 
 -- what the commands make of a text
 abbrev pub outcome : CommitRule → Rewrite → List ℕ → Rewriting
-outcome rule r text = rewriting rule 0 (map command r.commands.items) (first_session r.source.edition text)
+outcome rule r text = rewriting rule 0 (map command r.commands.items) (first_session r.source.dialect.grammar r.source.dialect.edition text)
 
 abbrev pub text_of : Rewriting → Option (List ℕ)
 text_of (Rewritten text) = Some text
-text_of (Stopped i refusal place) = None
+text_of (Stopped i refusal place difference) = None
 
 -- the bytes of a file after all commands, if it is text and none is refused
 abbrev pub rewritten_bytes : CommitRule → Rewrite → List ℕ → Option (List ℕ)
@@ -45,13 +46,13 @@ abbrev pub RefusesText : CommitRule → Rewrite → List ℕ → RewriteFault �
 RefusesText rule r text (File errors.TooLong) = MAX_TEXT < length text
 RefusesText rule r text (File errors.NoMemory) = Unit {0}
 RefusesText rule r text (File e) = ⊥
-RefusesText rule r text (Refused f) = outcome rule r text ≡ Stopped f.index f.refusal f.place
+RefusesText rule r text (Refused f) = outcome rule r text ≡ Stopped f.index f.refusal f.place (option_map told_of f.difference)
 
 -- why commands stop
 abbrev pub StopsCommands : Rewriting → RewriteFault → Type 0
 StopsCommands w (File errors.NoMemory) = Unit {0}
 StopsCommands w (File e) = ⊥
-StopsCommands w (Refused f) = w ≡ Stopped f.index f.refusal f.place
+StopsCommands w (Refused f) = w ≡ Stopped f.index f.refusal f.place (option_map told_of f.difference)
 
 abbrev pub RefusesIfAny : CommitRule → Rewrite → Option (List ℕ) → RewriteFault → Type 0
 RefusesIfAny rule r None e = (e ≡ File errors.NotUtf8) ⊎ (e ≡ File errors.NoMemory)

@@ -1,17 +1,18 @@
 //! The bytes of a file are rewritten by commands.
 
-ghost use Rattle.std.specs.Prelude.{◌≡◌, ◌+◌, ◌<◌, ◌^◌, ℕ, MatchResult, OnOk, IfErr, Some, map, length};
+ghost use Rattle.std.specs.Prelude.{◌≡◌, ◌+◌, ◌<◌, ◌^◌, ℕ, MatchResult, OnOk, IfErr, IfOk, Some, map, length, option_map};
 ghost use Rattle.document_requests.specs.Answered.{reply as answered};
 ghost use Rattle.document_requests.specs.Applied.{session};
 ghost use Rattle.document_requests.specs.Asked.{change as change_in, command as command_in};
 ghost use Rattle.document_requests.specs.declared.reply.Reply.{Reply};
-ghost use Rattle.source_rewrites.specs.Rewriting.{refusal_of, rewriting, start_of, start_of_change, start_of_first, Rewritten};
+ghost use Rattle.rust_document.specs.Difference.{told_of};
+ghost use Rattle.source_rewrites.specs.Rewriting.{difference_of, refusal_of, rewriting, start_of, start_of_change, start_of_first, Rewritten};
 ghost use Rattle.source_rewrites.specs.Rewrites.{IsRewritable, RefusesBytes, StopsCommands, rewritten_bytes};
 
-use document_requests::{Change, Command, CommitRule, Refusal, Reply, answer_by};
+use document_requests::{Change, Command, CommitRule, Refusal, Reply, answer_by, first_difference};
 use line_index::{Encoding, LineCol, LineIndex};
-use rust_document::{Document, OpenError};
-use source_tools::{FileError, Source, encode, text_of};
+use rust_document::{Difference, Document, OpenError};
+use source_tools::{Dialect, FileError, Source, encode, text_of};
 use std::alloc::{AllocError, Global};
 use std::fmt;
 use syntax_tree::TreeIds;
@@ -31,6 +32,9 @@ pub struct RefusedCommand {
     pub refusal: Refusal,
     /// The line and column of its start, in characters.
     pub place: LineCol,
+    /// Of an unfaithful commit, the first difference between the rewritten tree and the reading of
+    /// its text.
+    pub difference: Option<Difference>,
 }
 
 /// Why a file is not rewritten.
@@ -54,6 +58,22 @@ impl From<AllocError> for RewriteFault {
     }
 }
 
+/// Writes where the new text is not read as the rewritten tree.
+fn write_difference<W: fmt::Write>(
+    f: &mut fmt::Formatter<W>,
+    difference: &Difference,
+) -> fmt::Result {
+    let start = difference.range.start().0;
+    let end = difference.range.end().0;
+    write!(f, ": bytes {start}..{end} of the new text are ")?;
+    match (difference.wanted, difference.read) {
+        (Some(wanted), Some(read)) => write!(f, "{wanted:?}, but read as {read:?}"),
+        (Some(wanted), None) => write!(f, "{wanted:?}, but not read as a part of that node"),
+        (None, Some(read)) => write!(f, "no part of that node, but read as {read:?}"),
+        (None, None) => Ok(()),
+    }
+}
+
 impl fmt::Display for RewriteFault {
     fn fmt<W: fmt::Write>(&self, f: &mut fmt::Formatter<W>) -> fmt::Result {
         match self {
@@ -63,7 +83,11 @@ impl fmt::Display for RewriteFault {
                 let column = refused.place.col.saturating_add(1);
                 let index = refused.index;
                 let name = refused.refusal.name();
-                write!(f, "{line}:{column}: command {index} is refused: {name}")
+                write!(f, "{line}:{column}: command {index} is refused: {name}")?;
+                match &refused.difference {
+                    Some(difference) => write_difference(f, difference),
+                    None => Ok(()),
+                }
             }
         }
     }
@@ -123,6 +147,29 @@ fn command_start(command: &Command<'_>) -> u64
     }
 }
 
+/// Returns the first difference between the rewritten tree of a commit and the reading of its text,
+/// if the commit is unfaithful.
+fn difference_of(
+    alloc: Global,
+    document: &Document,
+    command: &Command<'_>,
+    ids: &mut TreeIds,
+) -> Result<Option<Difference>, AllocError>
+    ensures { IfOk result (λ found. option_map told_of found
+        ≡ difference_of (command_in command.now) (session document.now ids.old)) }
+{
+    match command {
+        Command::Commit { changes } => first_difference(alloc, document, changes, ids),
+        Command::Edit {
+            start: _,
+            stop: _,
+            text: _,
+        } => Ok(None),
+        Command::Tree => Ok(None),
+        Command::Errors => Ok(None),
+    }
+}
+
 /// Does the commands in order, up to the first that is refused.
 fn run_commands(
     alloc: Global,
@@ -142,10 +189,12 @@ fn run_commands(
         if let Some(refusal) = refusal_of(&reply) {
             let lines = LineIndex::try_new(alloc, document.text())?;
             let place = lines.line_col(Encoding::Utf32, command_start(command) as usize);
+            let difference = difference_of(alloc, document, command, ids)?;
             return Err(RewriteFault::Refused(RefusedCommand {
                 index,
                 refusal,
                 place,
+                difference,
             }));
         }
     }
@@ -172,7 +221,8 @@ pub fn rewrite_bytes(
         return Err(RewriteFault::File(FileError::NotUtf8));
     };
     let mut ids = TreeIds::new();
-    let mut document = match Document::open(alloc, rewrite.source.edition, text, &mut ids) {
+    let Dialect { edition, grammar } = rewrite.source.dialect;
+    let mut document = match Document::open_by(alloc, edition, grammar, text, &mut ids) {
         Ok(document) => document,
         Err(OpenError::TooLong) => return Err(RewriteFault::File(FileError::TooLong)),
         Err(OpenError::NoTreeNumber) => unreachable!(),

@@ -5,8 +5,9 @@ use document_requests::{CommitRule, Refusal};
 use file_target::{Memory, Target};
 use line_index::LineCol;
 use parser_input::Edition;
+use rust_document::Grammar;
 use serde_json::Value;
-use source_tools::Source;
+use source_tools::{Dialect, Source};
 use std::alloc::Global;
 use std::test::Fail;
 
@@ -26,7 +27,10 @@ fn rewrite(
         rewrites.push(Rewrite {
             source: Source {
                 path: String::from_str(alloc, file.path)?,
-                edition: Edition::Edition2021,
+                dialect: Dialect {
+                    edition: Edition::Edition2021,
+                    grammar: Grammar::Whole,
+                },
             },
             commands: file.commands,
         })?;
@@ -79,6 +83,7 @@ fn a_refused_command_writes_nothing(rt: HostRuntime) -> Result<(), Fail> {
         index: 1,
         refusal: Refusal::NoTarget,
         place: LineCol { line: 1, col: 0 },
+        difference: None,
     };
     let is_right = match stop {
         Some(RewriteStop::RefusedFile(failure)) => match failure.fault {
@@ -96,5 +101,25 @@ fn a_refused_command_writes_nothing(rt: HostRuntime) -> Result<(), Fail> {
             b"struct B;\n struct C;"
         )?
     );
+    Ok(())
+}
+
+/// A commit of `a.rs` that puts a sum for a factor.
+const UNFAITHFUL: &str = "{\"a.rs\":[{\"do\":\"commit\",\"changes\":\
+    [{\"op\":\"replace\",\"at\":[\"PATH_EXPR\",9,10],\"with\":[\"expr\",\"1 + 2\"]}]}]}";
+
+#[test]
+fn a_reason_is_the_first_difference(rt: HostRuntime) -> Result<(), Fail> {
+    let alloc = rt.alloc();
+    let mut memory = Memory::new(alloc);
+    memory.add(alloc, "a.rs", b"fn f() { a * 2 }")?;
+    let stop = rewrite(alloc, &mut memory, CommitRule::Faithful, UNFAITHFUL)?;
+    let text = match stop {
+        Some(RewriteStop::RefusedFile(failure)) => format!(in alloc; "{}", failure.fault)?,
+        _ => String::new(alloc),
+    };
+    let expected = "1:10: command 0 is refused: Unfaithful: bytes 9..14 of the new text are \
+        BIN_EXPR, but read as LITERAL";
+    assert!(rt; text.as_str() == expected);
     Ok(())
 }

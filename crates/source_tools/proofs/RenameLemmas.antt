@@ -12,7 +12,7 @@ use Rattle.file_target.specs.declared.target.Contents.{Contents}
 use Rattle.file_target.specs.declared.error.TargetError.{TargetError}
 use Rattle.file_target.specs.declared.error.TargetError.TheVariants as targets
 use Rattle.file_target.specs.Files.{Files, FileState, ReadGives, IsReadError}
-use Rattle.parser_input.specs.declared.edition.Edition.{Edition}
+use Rattle.source_tools.specs.declared.source.Dialect.{Dialect}
 use Rattle.source_tools.specs.Decoded.{decoded}
 use Rattle.source_tools.specs.Writes.{Change, HasChanges, change_in}
 use Rattle.source_tools.specs.declared.plan.RenameFailure.{RenameFailure}
@@ -27,13 +27,13 @@ use Rattle.source_tools.proofs.ListLemmas.{flat-more, map-more}
 
 -- ---- out of memory comes at any point
 
-memory-text : (n : Renaming) (edition : Edition) (o : Option (List ℕ)) → RefusesIfAny n edition o (File errors.NoMemory)
-memory-text n edition None = inr refl
-memory-text n edition (Some text) = tt
+memory-text : (n : Renaming) (dialect : Dialect) (o : Option (List ℕ)) → RefusesIfAny n dialect o (File errors.NoMemory)
+memory-text n dialect None = inr refl
+memory-text n dialect (Some text) = tt
 
 memory-state : (n : Renaming) (s : Source) (o : Option FileState) → IsReadError o targets.NoMemory → RefusesState n s o (File errors.NoMemory)
 memory-state n s None e = absurd (cc)
-memory-state n s (Some f) e = memory-text n s.edition (decoded f.bytes)
+memory-state n s (Some f) e = memory-text n s.dialect (decoded f.bytes)
 
 pub memory-read : (n : Renaming) (s : Source) (o : Option Files) (r : Result Contents TargetError) → r ≡ Err targets.NoMemory → ReadGives o (string_bytes s.path) r →
     IfSome o (λ files. RefusesFile n files s (File errors.NoMemory))
@@ -99,7 +99,7 @@ pub memory-push : (n : Renaming) (o : Option Files) (s : Source) (r : Result (Op
 memory-push n None s r c ok is = tt
 memory-push n (Some files) s r c ok is =
     let here = MatchResult-at_ok (IsOne n files s) _ c ok is in
-    subst (λ (o : Option FileState). RefusesState n s o (File errors.NoMemory)) (sym here.0.1) (memory-text n s.edition (decoded here.0.0.bytes))
+    subst (λ (o : Option FileState). RefusesState n s o (File errors.NoMemory)) (sym here.0.1) (memory-text n s.dialect (decoded here.0.0.bytes))
 
 -- ---- the plan, and a refusal
 

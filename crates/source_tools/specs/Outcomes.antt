@@ -1,12 +1,12 @@
 -- What becomes of files that are shown one after another.
 use Rattle.std.specs.Prelude.{◌≡◌, ◌⊎◌, ℕ, suc, ◌==◌, Bool, false, true, not, nat_lt, List, [], ◌∷◌, map, length, chars, Option, Some, None, Result, MatchResult, string_bytes, if◌then◌else◌}
 use Rattle.std.specs.List.{flat_map, list_any}
-use Rattle.parser_input.specs.declared.edition.Edition.{Edition}
 use Rattle.file_target.specs.Files.{Files, FileState}
-use Rattle.rust_document.specs.Reading.{messages}
+use Rattle.rust_document.specs.Reading.{messages_in}
 use Rattle.rust_document.specs.Step.{MAX_TEXT}
 use Rattle.source_tools.specs.Decoded.{decoded}
 use Rattle.source_tools.specs.Texts.{rows_of}
+use Rattle.source_tools.specs.declared.source.Dialect.{Dialect}
 use Rattle.source_tools.specs.declared.source.Source.{Source}
 use Rattle.source_tools.specs.declared.source.FileError.{FileError}
 use Rattle.source_tools.specs.declared.source.FileError.TheVariants.{NotFound, Changed, NotUtf8, TooLong, NoMemory, Io}
@@ -26,24 +26,24 @@ pub data Outcome : Type 0 where
   Unknown : Outcome
 
 -- Messages count where they are shown.
-abbrev pub has_messages : View → Edition → List ℕ → Bool
-has_messages (Messages format) edition text = not (length (messages edition (chars text)) == 0)
-has_messages (Tokens format) edition text = false
-has_messages (Tree format) edition text = false
+abbrev pub has_messages : View → Dialect → List ℕ → Bool
+has_messages (Messages format) dialect text = not (length (messages_in dialect.grammar dialect.edition (chars text)) == 0)
+has_messages (Tokens format) dialect text = false
+has_messages (Tree format) dialect text = false
 
 -- what becomes of a text
-abbrev pub viewed : View → List ℕ → Edition → List ℕ → Outcome
-viewed view path edition text =
+abbrev pub viewed : View → List ℕ → Dialect → List ℕ → Outcome
+viewed view path dialect text =
     if nat_lt MAX_TEXT (length text) then Long
-    else Viewed (rows_of view path edition text) (has_messages view edition text)
+    else Viewed (rows_of view path dialect text) (has_messages view dialect text)
 
-abbrev pub viewed_if_any : View → List ℕ → Edition → Option (List ℕ) → Outcome
-viewed_if_any view path edition None = NotText
-viewed_if_any view path edition (Some text) = viewed view path edition text
+abbrev pub viewed_if_any : View → List ℕ → Dialect → Option (List ℕ) → Outcome
+viewed_if_any view path dialect None = NotText
+viewed_if_any view path dialect (Some text) = viewed view path dialect text
 
 -- what becomes of a file with these bytes
 abbrev pub outcome_of : View → Source → List ℕ → Outcome
-outcome_of view s bytes = viewed_if_any view (string_bytes s.path) s.edition (decoded bytes)
+outcome_of view s bytes = viewed_if_any view (string_bytes s.path) s.dialect (decoded bytes)
 
 -- what becomes of a file, if there is one
 abbrev pub outcome_if_any : View → Source → Option FileState → Outcome

@@ -4,15 +4,15 @@ use Rattle.std.specs.List.{flat_map, list_any}
 use Rattle.std.specs.Global.{Global}
 use Rattle.std.specs.Str.{bytes_eq}
 use Rattle.parser_input.specs.Kinds.{IDENT}
-use Rattle.parser_input.specs.declared.edition.Edition.{Edition}
 use Rattle.file_target.specs.Files.{Files, FileState}
 use Rattle.renamer.specs.Plain.{IsPlain, LacksRoom}
 use Rattle.renamer.specs.Renamed.{renamed_text}
-use Rattle.rust_document.specs.Reading.{tree}
+use Rattle.rust_document.specs.Reading.{tree_in}
 use Rattle.rust_document.specs.Step.{MAX_TEXT, State}
 use Rattle.rust_document.specs.Tokens.{Span, tokens_of}
 use Rattle.source_tools.specs.Decoded.{decoded, encoded}
 use Rattle.source_tools.specs.Writes.{Change, HasChanges, change_in}
+use Rattle.source_tools.specs.declared.source.Dialect.{Dialect}
 use Rattle.source_tools.specs.declared.source.Source.{Source}
 use Rattle.source_tools.specs.declared.source.FileError.TheVariants as errors
 use Rattle.source_tools.specs.declared.renaming.Renaming.{Renaming}
@@ -28,48 +28,49 @@ abbrev pub is_identifier : List ℕ → List ℕ → Span → Bool
 is_identifier name text t = (t.kind == IDENT) && bytes_eq (slice_range text t.start t.end) name
 
 -- whether a text has the identifier `name`
-abbrev pub has_identifier : List ℕ → Edition → List ℕ → Bool
-has_identifier name edition text = list_any (is_identifier name text) (tokens_of edition (chars text))
+abbrev pub has_identifier : List ℕ → Dialect → List ℕ → Bool
+has_identifier name dialect text = list_any (is_identifier name text) (tokens_of dialect.edition (chars text))
 
 -- The new name may be taken, or is no identifier of the text.
-abbrev pub is_free : Renaming → Edition → List ℕ → Bool
-is_free n edition text = n.merge || not (has_identifier n.new.now edition text)
+abbrev pub is_free : Renaming → Dialect → List ℕ → Bool
+is_free n dialect text = n.merge || not (has_identifier n.new.now dialect text)
 
 -- the text in which the identifiers are renamed
-abbrev pub renamed : Renaming → Edition → List ℕ → List ℕ
-renamed n edition text = renamed_text n.old.now n.new.now (tree edition (chars text))
+abbrev pub renamed : Renaming → Dialect → List ℕ → List ℕ
+renamed n dialect text = renamed_text n.old.now n.new.now (tree_in dialect.grammar dialect.edition (chars text))
 
 -- what the bytes of a file become, if they are text
-abbrev pub renamed_bytes : Renaming → Edition → List ℕ → Option (List ℕ)
-renamed_bytes n edition bytes = option_map (λ text. encoded bytes (renamed n edition text)) (decoded bytes)
+abbrev pub renamed_bytes : Renaming → Dialect → List ℕ → Option (List ℕ)
+renamed_bytes n dialect bytes = option_map (λ text. encoded bytes (renamed n dialect text)) (decoded bytes)
 
 -- The bytes are text, and the new name is free in it.
-pub record IsRenamable (n : Renaming) (edition : Edition) (bytes : List ℕ) : Type 0 where
+pub record IsRenamable (n : Renaming) (dialect : Dialect) (bytes : List ℕ) : Type 0 where
   pub text : List ℕ
   pub decodes : decoded bytes ≡ Some text
-  pub free : is_free n edition text ≡ true
+  pub free : is_free n dialect text ≡ true
 
 -- a document as it is opened
-abbrev pub opened : Edition → List ℕ → State
-opened edition text = record { edition = edition; text = text; number = 1 }
+abbrev pub opened : Dialect → List ℕ → State
+opened dialect text =
+    record { edition = dialect.edition; grammar = dialect.grammar; text = text; number = 1 }
 
 -- Why a text is not renamed in: the name is taken, or what the renamer says. Where both names are
 -- plain and the new text is not too long, that is want of memory.
-abbrev pub RefusesText : Renaming → Edition → List ℕ → RenameFault → Type 0
-RefusesText n edition text (File errors.TooLong) = MAX_TEXT < length text
-RefusesText n edition text (File errors.NoMemory) = Unit {0}
-RefusesText n edition text (File e) = ⊥
-RefusesText n edition text NameTaken = is_free n edition text ≡ false
-RefusesText n edition text (Refused e) =
-    IsPlain (opened edition text) n.old.now n.new.now → length (renamed n edition text) ≤ MAX_TEXT → LacksRoom 2 n.new.now e
+abbrev pub RefusesText : Renaming → Dialect → List ℕ → RenameFault → Type 0
+RefusesText n dialect text (File errors.TooLong) = MAX_TEXT < length text
+RefusesText n dialect text (File errors.NoMemory) = Unit {0}
+RefusesText n dialect text (File e) = ⊥
+RefusesText n dialect text NameTaken = is_free n dialect text ≡ false
+RefusesText n dialect text (Refused e) =
+    IsPlain (opened dialect text) n.old.now n.new.now → length (renamed n dialect text) ≤ MAX_TEXT → LacksRoom 2 n.new.now e
 
-abbrev pub RefusesIfAny : Renaming → Edition → Option (List ℕ) → RenameFault → Type 0
-RefusesIfAny n edition None e = (e ≡ File errors.NotUtf8) ⊎ (e ≡ File errors.NoMemory)
-RefusesIfAny n edition (Some text) e = RefusesText n edition text e
+abbrev pub RefusesIfAny : Renaming → Dialect → Option (List ℕ) → RenameFault → Type 0
+RefusesIfAny n dialect None e = (e ≡ File errors.NotUtf8) ⊎ (e ≡ File errors.NoMemory)
+RefusesIfAny n dialect (Some text) e = RefusesText n dialect text e
 
 -- why a file with these bytes is not renamed in
-abbrev pub RefusesBytes : Renaming → Edition → List ℕ → RenameFault → Type 0
-RefusesBytes n edition bytes e = RefusesIfAny n edition (decoded bytes) e
+abbrev pub RefusesBytes : Renaming → Dialect → List ℕ → RenameFault → Type 0
+RefusesBytes n dialect bytes e = RefusesIfAny n dialect (decoded bytes) e
 
 -- ---- files
 
@@ -80,7 +81,7 @@ change_to path old (Some new) = if bytes_eq new old then [] else record { path =
 
 abbrev pub change_if_any : Renaming → Source → Option FileState → List Change
 change_if_any n s None = []
-change_if_any n s (Some f) = change_to (string_bytes s.path) f.bytes (renamed_bytes n s.edition f.bytes)
+change_if_any n s (Some f) = change_to (string_bytes s.path) f.bytes (renamed_bytes n s.dialect f.bytes)
 
 -- the change of a file, if its bytes change
 abbrev pub changes_of : Renaming → Files → Source → List Change
@@ -89,11 +90,11 @@ changes_of n files s = change_if_any n s (files (string_bytes s.path))
 -- There is a file, and it can be renamed in.
 abbrev pub IsRenamableFile : Renaming → Files → Source → Type 0
 IsRenamableFile n files s =
-    (f : FileState) × (files (string_bytes s.path) ≡ Some f) × IsRenamable n s.edition f.bytes
+    (f : FileState) × (files (string_bytes s.path) ≡ Some f) × IsRenamable n s.dialect f.bytes
 
 abbrev pub RefusesState : Renaming → Source → Option FileState → RenameFault → Type 0
 RefusesState n s None e = e ≡ File errors.NotFound
-RefusesState n s (Some f) e = RefusesBytes n s.edition f.bytes e
+RefusesState n s (Some f) e = RefusesBytes n s.dialect f.bytes e
 
 -- why a file is not renamed in
 abbrev pub RefusesFile : Renaming → Files → Source → RenameFault → Type 0
@@ -109,8 +110,8 @@ changes_in (Some c) = change_in c ∷ []
 abbrev pub IsRenamedBytes : Renaming → Source → List ℕ → Result (Option FileChange) RenameFault → Type 0
 IsRenamedBytes n s bytes r =
     MatchResult r
-    (λ c. IsRenamable n s.edition bytes × (changes_in c ≡ change_to (string_bytes s.path) bytes (renamed_bytes n s.edition bytes)))
-    (RefusesBytes n s.edition bytes)
+    (λ c. IsRenamable n s.dialect bytes × (changes_in c ≡ change_to (string_bytes s.path) bytes (renamed_bytes n s.dialect bytes)))
+    (RefusesBytes n s.dialect bytes)
 
 -- what becomes of a file
 abbrev pub IsRenamedFile : Renaming → Files → Source → Result (Option FileChange) RenameFault → Type 0

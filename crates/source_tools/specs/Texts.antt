@@ -7,14 +7,15 @@ use Rattle.rowan.specs.Around.{Cursor, place_in}
 use Rattle.rowan.specs.Walk.{Event, walk}
 use Rattle.rowan.specs.declared.utility_types.WalkEvent.TheVariants.{Enter, Leave}
 use Rattle.syntax_tree.specs.Element.{element_at}
-use Rattle.parser_input.specs.declared.edition.Edition.{Edition}
-use Rattle.rust_document.specs.Reading.{Message, messages, tree}
+use Rattle.rust_document.specs.Reading.{Message, messages_in, tree_in}
+use Rattle.rust_document.specs.Step.{State}
 use Rattle.rust_document.specs.Tokens.{Span, tokens_of}
 use Rattle.source_tools.specs.Rows.{message_rows, range_text, token_row, quoted}
 use Rattle.source_tools.specs.Words.{kind_name, words}
 use Rattle.line_index.specs.declared.encoding.Encoding.TheVariants.{Utf32}
 use Rattle.line_index.specs.Columns.{line_col}
 use Rattle.source_tools.specs.Json.{message_item, token_item, element_item, file_object}
+use Rattle.source_tools.specs.declared.source.Dialect.{Dialect}
 use Rattle.source_tools.specs.declared.view.Format.{Format}
 use Rattle.source_tools.specs.declared.view.Format.TheVariants.{Text, Json}
 use Rattle.source_tools.specs.declared.view.View.{View}
@@ -69,23 +70,27 @@ tree_items depth (Leave c ∷ events) = tree_items (depth - 1) events
 
 -- ---- a text in each view
 
-abbrev pub events_of : Edition → List ℕ → List Event
-events_of edition text = walk (Node (element_at 0 (tree edition (chars text)) []).place)
+-- the Rust that a document is read as
+abbrev pub dialect_of : State → Dialect
+dialect_of d = record { edition = d.edition; grammar = d.grammar }
 
-abbrev pub message_view : Format → List ℕ → Edition → List ℕ → List ℕ
-message_view Text path edition text = flat_map (rows_of_message path text) (messages edition (chars text))
-message_view Json path edition text = file_object path (codes "messages") (flat_map (item_of_message text) (messages edition (chars text)))
+abbrev pub events_of : Dialect → List ℕ → List Event
+events_of dialect text = walk (Node (element_at 0 (tree_in dialect.grammar dialect.edition (chars text)) []).place)
 
-abbrev pub token_view : Format → List ℕ → Edition → List ℕ → List ℕ
-token_view Text path edition text = flat_map (row_of_token text) (tokens_of edition (chars text))
-token_view Json path edition text = file_object path (codes "tokens") (flat_map item_of_token (tokens_of edition (chars text)))
+abbrev pub message_view : Format → List ℕ → Dialect → List ℕ → List ℕ
+message_view Text path dialect text = flat_map (rows_of_message path text) (messages_in dialect.grammar dialect.edition (chars text))
+message_view Json path dialect text = file_object path (codes "messages") (flat_map (item_of_message text) (messages_in dialect.grammar dialect.edition (chars text)))
 
-abbrev pub tree_view : Format → List ℕ → Edition → List ℕ → List ℕ
-tree_view Text path edition text = tree_rows [] (events_of edition text)
-tree_view Json path edition text = file_object path (codes "tree") (tree_items 0 (events_of edition text))
+abbrev pub token_view : Format → List ℕ → Dialect → List ℕ → List ℕ
+token_view Text path dialect text = flat_map (row_of_token text) (tokens_of dialect.edition (chars text))
+token_view Json path dialect text = file_object path (codes "tokens") (flat_map item_of_token (tokens_of dialect.edition (chars text)))
+
+abbrev pub tree_view : Format → List ℕ → Dialect → List ℕ → List ℕ
+tree_view Text path dialect text = tree_rows [] (events_of dialect text)
+tree_view Json path dialect text = file_object path (codes "tree") (tree_items 0 (events_of dialect text))
 
 -- what is shown of a text
-unfoldable pub rows_of : View → List ℕ → Edition → List ℕ → List ℕ
-rows_of (Messages format) path edition text = message_view format path edition text
-rows_of (Tokens format) path edition text = token_view format path edition text
-rows_of (Tree format) path edition text = tree_view format path edition text
+unfoldable pub rows_of : View → List ℕ → Dialect → List ℕ → List ℕ
+rows_of (Messages format) path dialect text = message_view format path dialect text
+rows_of (Tokens format) path dialect text = token_view format path dialect text
+rows_of (Tree format) path dialect text = tree_view format path dialect text

@@ -23,7 +23,7 @@ pub use plan::{RenameFailure, plan_renames};
 pub use rename::{RenameStop, rename_files};
 pub use renaming::{RenameFault, Renaming, rename_bytes};
 pub use show_files::{Stop, show};
-pub use source::{FileError, FileFault, Source};
+pub use source::{Dialect, FileError, FileFault, Source};
 pub use summary::Summary;
 pub use view::{FileView, Format, View, view_bytes, view_file};
 pub use writes::{FileChange, WriteFault, write_changes};

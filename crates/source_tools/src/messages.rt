@@ -2,7 +2,7 @@
 
 ghost use Rattle.std.specs.Prelude.{◌≡◌, ◌<◌, ◌^◌, ◌++◌, OnOk, codes, length, chars, map};
 ghost use Rattle.std.specs.List.{flat_map};
-ghost use Rattle.rust_document.specs.Reading.{messages};
+ghost use Rattle.rust_document.specs.Reading.{messages_in};
 ghost use Rattle.rust_document.specs.Seen.{message_of_error};
 ghost use Rattle.line_index.specs.declared.encoding.Encoding.TheVariants.{Utf32};
 ghost use Rattle.line_index.specs.Columns.{line_col};
@@ -84,7 +84,8 @@ pub(crate) fn push_messages(
 ) -> Result<(), AllocError>
     ensures { OnOk result (rows.new.items ≡ rows.old.items
         ++ flat_map (rows_of_message path.now document.now.text)
-        (messages document.now.edition (chars document.now.text))) }
+        (messages_in document.now.grammar document.now.edition
+            (chars document.now.text))) }
 {
     let index = LineIndex::try_new(alloc, document.text())?;
     push_errors(alloc, path, &index, document.errors(), rows)?;
@@ -148,7 +149,8 @@ pub(crate) fn push_message_list(
 ) -> Result<(), AllocError>
     ensures { OnOk result (rows.new.items ≡ rows.old.items ++ file_object path.now (codes "messages")
         (flat_map (item_of_message document.now.text)
-        (messages document.now.edition (chars document.now.text)))) }
+        (messages_in document.now.grammar document.now.edition
+            (chars document.now.text)))) }
 {
     let index = LineIndex::try_new(alloc, document.text())?;
     let mut items = Vec::new(alloc);

@@ -34,7 +34,7 @@ fn change_of(
         bytes: old,
         version,
     } = contents;
-    let new = match rename_bytes(alloc, renaming, source.edition, old.as_slice()) {
+    let new = match rename_bytes(alloc, renaming, source.dialect, old.as_slice()) {
         Ok(new) => new,
         Err(fault) => return Err(fault),
     };

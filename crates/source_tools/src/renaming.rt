@@ -3,11 +3,12 @@
 ghost use Rattle.std.specs.Prelude.{◌≡◌, MatchResult, Some, chars};
 ghost use Rattle.source_tools.specs.Renames.{IsRenamable, RefusesBytes, has_identifier, is_free, is_identifier, renamed_bytes};
 ghost use Rattle.rust_document.specs.Tokens.{span_of};
+ghost use Rattle.source_tools.specs.Texts.{dialect_of};
 
 use crate::decode::{encode, text_of};
-use crate::source::FileError;
+use crate::source::{Dialect, FileError};
 use crate::tokens::part;
-use parser_input::{Edition, SyntaxKind};
+use parser_input::SyntaxKind;
 use renamer::{RenameError, rename};
 use rust_document::{Document, LexedToken, OpenError};
 use std::alloc::{AllocError, Global};
@@ -73,7 +74,7 @@ fn is_identifier(text: &str, token: LexedToken, name: &str) -> bool
 
 /// Returns `true` if `document` has the identifier `name`.
 fn has_identifier(document: &Document, name: &str) -> bool
-    ensures { result ≡ has_identifier name.now document.now.edition document.now.text }
+    ensures { result ≡ has_identifier name.now (dialect_of document.now) document.now.text }
 {
     let text = document.text();
     for token in document.tokens() {
@@ -86,7 +87,7 @@ fn has_identifier(document: &Document, name: &str) -> bool
 
 /// Returns `true` if the new name may be taken, or is no identifier of `document`.
 fn is_free(renaming: &Renaming<'_>, document: &Document) -> bool
-    ensures { result ≡ is_free renaming.now document.now.edition document.now.text }
+    ensures { result ≡ is_free renaming.now (dialect_of document.now) document.now.text }
 {
     renaming.merge || !has_identifier(document, renaming.new)
 }
@@ -102,19 +103,20 @@ fn is_free(renaming: &Renaming<'_>, document: &Document) -> bool
 pub fn rename_bytes(
     alloc: Global,
     renaming: &Renaming<'_>,
-    edition: Edition,
+    dialect: Dialect,
     bytes: &[u8],
 ) -> Result<Vec<u8>, RenameFault>
     ensures { MatchResult result
-        (λ new. IsRenamable renaming.now edition bytes.now
-        × (renamed_bytes renaming.now edition bytes.now ≡ Some new.items))
-        (RefusesBytes renaming.now edition bytes.now) }
+        (λ new. IsRenamable renaming.now dialect bytes.now
+        × (renamed_bytes renaming.now dialect bytes.now ≡ Some new.items))
+        (RefusesBytes renaming.now dialect bytes.now) }
 {
     let Some(text) = text_of(bytes) else {
         return Err(RenameFault::File(FileError::NotUtf8));
     };
     let mut ids = TreeIds::new();
-    let mut document = match Document::open(alloc, edition, text, &mut ids) {
+    let Dialect { edition, grammar } = dialect;
+    let mut document = match Document::open_by(alloc, edition, grammar, text, &mut ids) {
         Ok(document) => document,
         Err(OpenError::TooLong) => return Err(RenameFault::File(FileError::TooLong)),
         Err(OpenError::NoTreeNumber) => unreachable!(),

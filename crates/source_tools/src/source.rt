@@ -2,15 +2,23 @@
 
 use file_target::TargetError;
 use parser_input::Edition;
+use rust_document::Grammar;
 use std::alloc::{AllocError, AllocFailed};
 use std::io;
 use thiserror::Error;
 
-/// A file, and the edition in which it is read.
+/// The Rust that a file is read as.
+#[derive(Clone, Copy, Debug, PartialEq, Eq, Drop)]
+pub struct Dialect {
+    pub edition: Edition,
+    pub grammar: Grammar,
+}
+
+/// A file, and the Rust that it is read as.
 #[derive(Debug, Drop)]
 pub struct Source {
     pub path: String,
-    pub edition: Edition,
+    pub dialect: Dialect,
 }
 
 /// Why a file is left out.

@@ -1,13 +1,13 @@
-//! Files in memory, also where a read or a write fails.
+//! Files in memory.
 
 use crate::{
-    FileError, Format, RenameFault, RenameStop, Renaming, Source, Stop, Summary, View,
-    plan_renames, rename_files, show, write_diffs,
+    Dialect, FileError, Format, RenameFault, Renaming, Source, Stop, Summary, View, plan_renames, show,
+    write_diffs,
 };
-use file_target::{Contents, Memory, Target, TargetError, Version};
+use file_target::Memory;
 use parser_input::Edition;
+use rust_document::Grammar;
 use std::alloc::{AllocError, Global};
-use std::cell::Cell;
 use std::test::Fail;
 
 /// Returns sources of edition 2021.
@@ -16,7 +16,10 @@ fn sources(alloc: Global, paths: &[&str]) -> Result<Vec<Source>, AllocError> {
     for path in paths {
         sources.push(Source {
             path: String::from_str(alloc, path)?,
-            edition: Edition::Edition2021,
+            dialect: Dialect {
+                edition: Edition::Edition2021,
+                grammar: Grammar::Whole,
+            },
         })?;
     }
     Ok(sources)
@@ -113,58 +116,11 @@ fn views_have_objects(rt: HostRuntime) -> Result<(), Fail> {
     Ok(())
 }
 
-/// Files in memory, of which one call fails.
-struct Failing {
-    memory: Memory,
-    /// How many calls there are up to the one that fails.
-    left: Cell<u32>,
-}
+/// The files that are renamed in; the second one stays as it is.
+const PATHS: [&str; 2] = ["b.rs", "c.rs"];
 
-impl Drop for Failing {
-    fn drop(self) {
-        let Failing {
-            memory: _memory,
-            left: _left,
-        } = self;
-    }
-}
-
-impl Failing {
-    /// Counts a call. Returns `true` if it fails.
-    fn fails(&self) -> bool {
-        let left = self.left.get();
-        self.left.set(left.saturating_sub(1));
-        left == 1
-    }
-}
-
-impl Target for Failing {
-    fn read(&self, alloc: Global, path: &str) -> Result<Contents, TargetError> {
-        if self.fails() {
-            return Err(TargetError::Changed);
-        }
-        self.memory.read(alloc, path)
-    }
-
-    fn write(
-        &mut self,
-        alloc: Global,
-        path: &str,
-        version: Version,
-        bytes: &[u8],
-    ) -> Result<(), TargetError> {
-        if self.fails() {
-            return Err(TargetError::Changed);
-        }
-        self.memory.write(alloc, path, version, bytes)
-    }
-}
-
-/// The files that are renamed in; the third one stays as it is.
-const PATHS: [&str; 4] = ["a.rs", "b.rs", "c.rs", "d.rs"];
-
-/// Returns the files, of which the call with this number fails.
-fn files_failing_at(alloc: Global, call: u32) -> Result<Failing, AllocError> {
+/// Returns the files.
+fn files(alloc: Global) -> Result<Memory, AllocError> {
     let mut memory = Memory::new(alloc);
     for path in PATHS {
         let text = if path == "c.rs" {
@@ -174,73 +130,13 @@ fn files_failing_at(alloc: Global, call: u32) -> Result<Failing, AllocError> {
         };
         memory.add(alloc, path, text.as_bytes())?;
     }
-    Ok(Failing {
-        memory,
-        left: Cell::new(call),
-    })
-}
-
-/// Returns how many of the files are renamed in, if these are the first ones.
-fn written(alloc: Global, memory: &Memory) -> Result<Option<usize>, TargetError> {
-    let mut count = 0usize;
-    let mut is_over = false;
-    let mut is_front = true;
-    for path in ["a.rs", "b.rs", "d.rs"] {
-        let contents = memory.read(alloc, path)?;
-        if contents.bytes.as_slice() == b"fn new() {}".as_slice() {
-            is_front &= !is_over;
-            count = count.saturating_add(1);
-        } else {
-            is_front &= contents.bytes.as_slice() == b"fn old() {}".as_slice();
-            is_over = true;
-        }
-    }
-    Ok(if is_front { Some(count) } else { None })
-}
-
-/// The first four calls read, the next three write.
-#[test]
-fn a_renaming_stops_at_a_fault(rt: HostRuntime) -> Result<(), Fail> {
-    let alloc = rt.alloc();
-    let sources = sources(alloc, &PATHS)?;
-    let renaming = Renaming {
-        old: "old",
-        new: "new",
-        merge: false,
-    };
-    for call in 1..9u32 {
-        let mut target = files_failing_at(alloc, call)?;
-        let stop = rename_files(alloc, &renaming, &mut target, sources.as_slice());
-        let done = match stop {
-            Ok(count) => (call > 7) & (count == 3),
-            Err(RenameStop::RefusedFile(failure)) => {
-                (call < 5)
-                    & (failure.index.saturating_add(1) == call as usize)
-                    & matches!(failure.fault, RenameFault::File(FileError::Changed))
-            }
-            Err(RenameStop::Unwritten(path, error)) => {
-                let expected = ["a.rs", "b.rs", "d.rs"];
-                let index = call.saturating_sub(5).min(2) as usize;
-                (call > 4)
-                    & (call < 8)
-                    & (path.as_str() == expected[index])
-                    & matches!(error, TargetError::Changed)
-            }
-        };
-        let expected = call.saturating_sub(5).min(3) as usize;
-        assert!(rt; done, "call {call}");
-        assert!(rt;
-            written(alloc, &target.memory)? == Some(expected),
-            "call {call}"
-        );
-    }
-    Ok(())
+    Ok(memory)
 }
 
 #[test]
 fn a_diff_is_of_the_files_that_change(rt: HostRuntime) -> Result<(), Fail> {
     let alloc = rt.alloc();
-    let target = files_failing_at(alloc, 0)?;
+    let target = files(alloc)?;
     let paths = sources(alloc, &["b.rs", "c.rs"])?;
     let mut renaming = Renaming {
         old: "old",

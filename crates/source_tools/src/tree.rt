@@ -2,7 +2,7 @@
 
 ghost use Rattle.std.specs.Prelude.{◌≡◌, [], ◌++◌, OnOk, codes};
 ghost use Rattle.source_tools.specs.Json.{file_object};
-ghost use Rattle.source_tools.specs.Texts.{events_of, item_of_element, outer, row_of_element, tree_items, tree_rows};
+ghost use Rattle.source_tools.specs.Texts.{dialect_of, events_of, item_of_element, outer, row_of_element, tree_items, tree_rows};
 
 use crate::json::{ElementPlace, push_element_item, push_object};
 use crate::rows::{push_range, push_text};
@@ -38,7 +38,7 @@ pub(crate) fn push_tree(
     rows: &mut Vec<u8>,
 ) -> Result<(), AllocError>
     ensures { OnOk result (rows.new.items ≡ rows.old.items
-        ++ tree_rows [] (events_of document.now.edition document.now.text)) }
+        ++ tree_rows [] (events_of (dialect_of document.now) document.now.text)) }
 {
     let mut margin = Vec::new(alloc);
     let mut events = document.root().cursor().preorder_with_tokens(alloc)?;
@@ -77,7 +77,7 @@ fn push_item(
 /// Appends an item for each element of the tree of `document`, a node before what is in it.
 fn push_items(alloc: Global, document: &Document, items: &mut Vec<u8>) -> Result<(), AllocError>
     ensures { OnOk result (items.new.items ≡ items.old.items
-        ++ tree_items 0 (events_of document.now.edition document.now.text)) }
+        ++ tree_items 0 (events_of (dialect_of document.now) document.now.text)) }
 {
     let mut levels: Vec<u8> = Vec::new(alloc);
     let mut events = document.root().cursor().preorder_with_tokens(alloc)?;
@@ -101,7 +101,7 @@ pub(crate) fn push_tree_list(
     rows: &mut Vec<u8>,
 ) -> Result<(), AllocError>
     ensures { OnOk result (rows.new.items ≡ rows.old.items ++ file_object path.now (codes "tree")
-        (tree_items 0 (events_of document.now.edition document.now.text))) }
+        (tree_items 0 (events_of (dialect_of document.now) document.now.text))) }
 {
     let mut items = Vec::new(alloc);
     push_items(alloc, document, &mut items)?;

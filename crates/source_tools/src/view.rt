@@ -1,12 +1,12 @@
 //! What is shown of a text.
 
 ghost use Rattle.std.specs.Prelude.{◌≡◌, ◌++◌, IfOk, IfSome, OnOk};
-ghost use Rattle.source_tools.specs.Texts.{message_view, rows_of, token_view, tree_view};
+ghost use Rattle.source_tools.specs.Texts.{dialect_of, message_view, rows_of, token_view, tree_view};
 ghost use Rattle.source_tools.specs.Outcomes.{IsOutcome, has_messages, outcome_in, outcome_of, viewed};
 
 use crate::decode::text_of;
 use crate::messages::{push_message_list, push_messages};
-use crate::source::{FileError, Source};
+use crate::source::{Dialect, FileError, Source};
 use crate::tokens::{push_token_list, push_tokens};
 use crate::tree::{push_tree, push_tree_list};
 use file_target::{Target, TargetError};
@@ -52,7 +52,7 @@ fn push_message_view(
     rows: &mut Vec<u8>,
 ) -> Result<(), AllocError>
     ensures { OnOk result (rows.new.items ≡ rows.old.items
-        ++ message_view format path.now document.now.edition document.now.text) }
+        ++ message_view format path.now (dialect_of document.now) document.now.text) }
 {
     match format {
         Format::Text => push_messages(alloc, path, document, rows),
@@ -69,7 +69,7 @@ fn push_token_view(
     rows: &mut Vec<u8>,
 ) -> Result<(), AllocError>
     ensures { OnOk result (rows.new.items ≡ rows.old.items
-        ++ token_view format path.now document.now.edition document.now.text) }
+        ++ token_view format path.now (dialect_of document.now) document.now.text) }
 {
     match format {
         Format::Text => push_tokens(alloc, document, rows),
@@ -86,7 +86,7 @@ fn push_tree_view(
     rows: &mut Vec<u8>,
 ) -> Result<(), AllocError>
     ensures { OnOk result (rows.new.items ≡ rows.old.items
-        ++ tree_view format path.now document.now.edition document.now.text) }
+        ++ tree_view format path.now (dialect_of document.now) document.now.text) }
 {
     match format {
         Format::Text => push_tree(alloc, document, rows),
@@ -102,7 +102,7 @@ fn rows_of(
     document: &Document,
 ) -> Result<Vec<u8>, AllocError>
     ensures { IfOk result (λ rows. rows.items
-        ≡ rows_of view path.now document.now.edition document.now.text) }
+        ≡ rows_of view path.now (dialect_of document.now) document.now.text) }
 {
     let mut rows = Vec::new(alloc);
     match view {
@@ -115,7 +115,7 @@ fn rows_of(
 
 /// Returns `true` if messages are shown.
 fn has_messages(view: View, document: &Document) -> bool
-    ensures { result ≡ has_messages view document.now.edition document.now.text }
+    ensures { result ≡ has_messages view (dialect_of document.now) document.now.text }
 {
     match view {
         View::Messages(_) => !document.errors().is_empty(),
@@ -142,7 +142,8 @@ pub fn view_bytes(
         return Err(FileError::NotUtf8);
     };
     let mut ids = TreeIds::new();
-    let document = match Document::open(alloc, source.edition, text, &mut ids) {
+    let Dialect { edition, grammar } = source.dialect;
+    let document = match Document::open_by(alloc, edition, grammar, text, &mut ids) {
         Ok(document) => document,
         Err(OpenError::TooLong) => return Err(FileError::TooLong),
         Err(OpenError::NoTreeNumber) => unreachable!(),

@@ -9,7 +9,8 @@ const ABOUT: &str =
 const AFTER: &str = "\
 A FILE is a path, `-` for standard input, or a directory for the `.rs` files in it, in order of name; \
 links in it are not followed. A file's edition is that of `--edition`, or else of the nearest \
-`Cargo.toml`, or else 2021.
+`Cargo.toml`, or else 2021. Its grammar is the whole language, or with `--grammar profile` the part \
+of it that requests are read by.
 
 The exit status is 0, or 1 if `check` prints messages, or 2 after a fault: a file that cannot be read \
 is named on standard error, and the others are still read.";
@@ -27,7 +28,8 @@ path that is named twice the last list counts.
 
 Without `--write` nothing is written, and a diff is printed that `patch -p1` and `git apply` read. \
 No file is written unless all commands of all files are accepted; the first one that is refused is \
-named with its file, line, column and number, which counts from 0. A commit is refused if the text has \
+named with its file, line, column and number, which counts from 0, and where a commit is unfaithful, \
+with the first difference. A commit is refused if the text has \
 messages before or after it, unless `--allow-messages` is given.";
 
 const SERVE: &str = "\
@@ -60,6 +62,20 @@ fn edition<'a>(alloc: Global) -> Arg<'a> {
         .action(ArgAction::Set)
 }
 
+fn grammar<'a>(alloc: Global) -> Arg<'a> {
+    Arg::new(alloc, "grammar")
+        .long("grammar")
+        .value_name("GRAMMAR")
+        .value_parser(["whole", "profile"].as_slice())
+        .help("The grammar of all files")
+        .action(ArgAction::Set)
+}
+
+/// Adds the Rust that files are read as.
+fn with_dialect<'a>(alloc: Global, command: Command<'a>) -> Result<Command<'a>, AllocError> {
+    command.arg(edition(alloc))?.arg(grammar(alloc))
+}
+
 fn files<'a>(alloc: Global) -> Arg<'a> {
     Arg::new(alloc, "files")
         .value_name("FILE")
@@ -71,11 +87,10 @@ fn files<'a>(alloc: Global) -> Arg<'a> {
 
 /// Returns a command that reads files.
 fn reading<'a>(alloc: Global, name: &'a str, about: &'a str) -> Result<Command<'a>, AllocError> {
-    Command::new(alloc, name)
+    let command = Command::new(alloc, name)
         .about(about)
-        .arg(flag(alloc, "json", JSON))?
-        .arg(edition(alloc))?
-        .arg(files(alloc))
+        .arg(flag(alloc, "json", JSON))?;
+    with_dialect(alloc, command)?.arg(files(alloc))
 }
 
 /// Returns a flag.
@@ -120,7 +135,7 @@ fn renaming<'a>(alloc: Global) -> Result<Command<'a>, AllocError> {
         .about("Renames identifiers")
         .long_about(RENAME);
     let command = with_names(alloc, with_flags(alloc, command)?)?;
-    command.arg(edition(alloc))?.arg(files(alloc))
+    with_dialect(alloc, command)?.arg(files(alloc))
 }
 
 /// Returns the command that rewrites files.
@@ -140,7 +155,7 @@ fn rewriting<'a>(alloc: Global) -> Result<Command<'a>, AllocError> {
         "A file of commands, or - for standard input",
     );
     let command = with_flags(alloc, command)?.arg(messages)?;
-    command.arg(edition(alloc))?.arg(commands)
+    with_dialect(alloc, command)?.arg(commands)
 }
 
 /// Returns the command that answers requests.

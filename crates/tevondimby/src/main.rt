@@ -3,6 +3,7 @@
 #![tactic(auto)]
 
 mod command_line;
+mod dialect_options;
 mod edition_of;
 mod inputs;
 mod rewrite;

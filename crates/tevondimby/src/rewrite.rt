@@ -1,6 +1,6 @@
 //! Files are rewritten by commands.
 
-use crate::edition_of::{edition_named, edition_of};
+use crate::dialect_options::DialectOptions;
 use crate::inputs::Inputs;
 use crate::run::FAULT;
 use anyhow::{Result, anyhow};
@@ -15,22 +15,19 @@ use source_rewrites::{
 use source_tools::{Source, write_diffs};
 use std::alloc::AllocError;
 
-/// Returns the rewrites of the files, each in its edition.
+/// Returns the rewrites of the files, each read as its own Rust.
 fn rewrites_of<'a>(
     rt: &HostRuntime,
     matches: &ArgMatches<'_>,
     files: Vec<FileCommands<'a>>,
 ) -> Result<Vec<Rewrite<'a>>, AllocError> {
-    let given = matches.get_str("edition").and_then(edition_named);
+    let options = DialectOptions::new(matches);
     let mut rewrites = Vec::new(rt.alloc());
     for file in files {
-        let edition = match given {
-            Some(edition) => edition,
-            None => edition_of(rt, file.path),
-        };
+        let dialect = options.dialect(rt, file.path);
         let path = String::from_str(rt.alloc(), file.path)?;
         rewrites.push(Rewrite {
-            source: Source { path, edition },
+            source: Source { path, dialect },
             commands: file.commands,
         })?;
     }

@@ -1,7 +1,7 @@
 //! A command is run.
 
 use crate::command_line::command;
-use crate::edition_of::edition_named;
+use crate::dialect_options::DialectOptions;
 use crate::inputs::Inputs;
 use crate::rewrite::rewrite;
 use crate::source_list::{SourceList, source_list};
@@ -24,14 +24,11 @@ pub(crate) fn files_of(
     rt: &HostRuntime,
     matches: &ArgMatches<'_>,
 ) -> Result<SourceList, AllocError> {
-    let edition = match matches.get_str("edition") {
-        Some(name) => edition_named(name),
-        None => None,
-    };
+    let options = DialectOptions::new(matches);
     let Some(paths) = matches.get_strs("files") else {
-        return source_list(rt, [].as_slice(), edition);
+        return source_list(rt, [].as_slice(), options);
     };
-    source_list(rt, paths, edition)
+    source_list(rt, paths, options)
 }
 
 /// Returns the path of the source with this index.

@@ -1,8 +1,7 @@
 //! The files that a command reads.
 
-use crate::edition_of::edition_of;
+use crate::dialect_options::DialectOptions;
 use crate::inputs::STANDARD_INPUT;
-use parser_input::Edition;
 use source_tools::Source;
 use std::alloc::{AllocError, Global};
 use std::{fs, io};
@@ -72,13 +71,10 @@ impl SourceList {
         &mut self,
         rt: &HostRuntime,
         path: String,
-        edition: Option<Edition>,
+        options: DialectOptions,
     ) -> Result<(), AllocError> {
-        let edition = match edition {
-            Some(edition) => edition,
-            None => edition_of(rt, path.as_str()),
-        };
-        self.sources.push(Source { path, edition })?;
+        let dialect = options.dialect(rt, path.as_str());
+        self.sources.push(Source { path, dialect })?;
         Ok(())
     }
 
@@ -87,7 +83,7 @@ impl SourceList {
         &mut self,
         rt: &HostRuntime,
         given: &str,
-        edition: Option<Edition>,
+        options: DialectOptions,
     ) -> Result<(), AllocError> {
         let alloc: Global = rt.alloc();
         let mut rest = Vec::new(alloc);
@@ -102,7 +98,7 @@ impl SourceList {
                     Ok(mut paths) => rest.append(&mut paths)?,
                     Err(error) => self.report(rt, path.as_str(), &error),
                 },
-                Ok(PathKind::File) => self.push(rt, path, edition)?,
+                Ok(PathKind::File) => self.push(rt, path, options)?,
                 Ok(PathKind::Other) => {}
                 Err(error) => self.report(rt, path.as_str(), &error),
             }
@@ -122,14 +118,14 @@ impl SourceList {
 pub(crate) fn source_list(
     rt: &HostRuntime,
     paths: &[&str],
-    edition: Option<Edition>,
+    options: DialectOptions,
 ) -> Result<SourceList, AllocError> {
     let mut list = SourceList {
         sources: Vec::new(rt.alloc()),
         has_faults: false,
     };
     for path in paths {
-        list.add(rt, path, edition)?;
+        list.add(rt, path, options)?;
     }
     Ok(list)
 }

@@ -15,7 +15,7 @@ returns-in_err-old-in-Put-clause-numbers c =
 
 pub returns-in_err-new-in-Put-clause-numbers : goal.returns-in_err-new-in-Put-clause-numbers
 returns-in_err-new-in-Put-clause-numbers c =
-    let text = taken c.in-Put.entry c.args.document.now.edition c.in-Put.text.now c.args.ids.now in
+    let text = taken c.in-Put.entry c.args.document.now c.in-Put.text.now c.args.ids.now in
     let is : prepared_by (change_in c.args.change) c.args.document.now c.args.editor.now c.args.ids.now ≡ put_taken c.in-Put.op (element_of c.in-Some.old) c.args.editor.now text = search rules in
     let same = ap number_after_preparing is ∙ taken-number c.in-Put.op (element_of c.in-Some.old) c.args.editor.now text in
     let took = c.in_err-new-in-Put.ensures.numbers in
@@ -25,7 +25,7 @@ returns-in_err-new-in-Put-clause-numbers c =
 
 pub returns-in_ok-new-in-Put-clause-numbers : goal.returns-in_ok-new-in-Put-clause-numbers
 returns-in_ok-new-in-Put-clause-numbers c =
-    let text = taken c.in-Put.entry c.args.document.now.edition c.in-Put.text.now c.args.ids.now in
+    let text = taken c.in-Put.entry c.args.document.now c.in-Put.text.now c.args.ids.now in
     let is : prepared_by (change_in c.args.change) c.args.document.now c.args.editor.now c.args.ids.now ≡ put_taken c.in-Put.op (element_of c.in-Some.old) c.args.editor.now text = search rules in
     let same = ap number_after_preparing is ∙ taken-number c.in-Put.op (element_of c.in-Some.old) c.args.editor.now text ∙ ap number_after_taking c.in_ok-new-in-Put.ensures.given in
     let counts = preparing-counts (change_in c.args.change) c.args.document.now c.args.editor.now c.args.ids.now in
