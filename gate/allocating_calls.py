@@ -33,6 +33,7 @@ MADE_BY = {
     "rust_source::Source::insert_on_line_before": "syntax_editor::SyntaxEditor::insert_all",
     "rust_source::Source::make_token": "syntax_editor::SyntaxFactory::token",
     "rust_source::Source::open": "rust_document::Document::open",
+    "rust_source::Source::open_by": "rust_document::Document::open_by",
     "rust_source::Source::payload": "rust_document::payload",
     "rust_source::Source::payload_attribute": "rust_document::payload",
     "rust_source::Source::payload_item": "rust_document::payload",

@@ -9,6 +9,7 @@
 
 mod differences;
 mod documents;
+mod grammars;
 mod requests;
 
 use memory_table::row::{Tally, try_all};
@@ -17,6 +18,7 @@ fn main(rt: HostRuntime) -> anyhow::Result<()> {
     let alloc = rt.alloc();
     let mut tally = Tally::new(alloc);
     try_all(alloc, documents::ROWS, &mut tally)?;
+    try_all(alloc, grammars::ROWS, &mut tally)?;
     try_all(alloc, requests::ROWS, &mut tally)?;
     if tally.refused != 0 {
         println!(rt; "{} out of memory: {}", tally.refused, tally.last_refused)?;
