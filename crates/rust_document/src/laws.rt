@@ -20,14 +20,14 @@ pub fn leaves_are_slices()
     ensures { LeavesAreSlices }
 {}
 
-/// Documents of equal edition, grammar and text agree in tokens, messages and tree, whatever commands made
-/// them.
+/// Documents of equal edition, grammar and text agree in tokens, messages and tree, whatever
+/// commands made them.
 pub fn texts_decide()
     ensures { TextsDecide }
 {}
 
-/// In documents of equal edition, grammar and text a pointer leads to the same node. So it does after a
-/// refused command, which leaves both.
+/// In documents of equal edition, grammar and text a pointer leads to the same node. So it does
+/// after a refused command, which leaves all three.
 pub fn pointers_follow_texts()
     ensures { PointersFollowTexts }
 {}
@@ -73,8 +73,8 @@ pub fn swaps_are_one()
     laws::swaps_agree();
 }
 
-/// A text whose parser's input by the profile is a core file reads as the tree of its derivation, and only the lexer
-/// has messages.
+/// A text whose parser's input by the profile is a core file reads as the tree of its derivation,
+/// and only the lexer has messages.
 pub fn core_texts_are_read()
     ensures { CoreTextsAreRead }
 {}
@@ -104,8 +104,8 @@ pub fn histories_go_on()
     ensures { HistoriesGoOn }
 {}
 
-/// In a document of the profile a rewrite of the present tree whose changes have places, whose text is within the limits and
-/// whose new tree is well-spaced is accepted.
+/// In a document of the profile a rewrite of the present tree whose changes have places, whose text
+/// is within the limits and whose new tree is well-spaced is accepted.
 pub fn well_spaced_rewrites_are_accepted()
     ensures { WellSpacedRewritesAreAccepted }
 {}

@@ -1,7 +1,7 @@
 //! A text with its reading: its messages and its tree, and nothing that an earlier text left.
 //!
-//! A text is read whole, by the grammar that the document was opened with: the profile, or the whole
-//! language. It changes by edits of its bytes, and by what an editor records on its tree.
+//! A text is read whole, by the grammar that the document was opened with: the profile, or the
+//! whole language. It changes by edits of its bytes, and by what an editor records on its tree.
 #![tactic(auto)]
 
 mod bare;

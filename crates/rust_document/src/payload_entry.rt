@@ -34,8 +34,8 @@ pub(crate) struct PayloadText<'a> {
     pub text: &'a str,
 }
 
-/// Reads a text to be put in the place of an element, by the profile: the tree of an entry, or a token
-/// in a tree of its own, with the next number of `ids`.
+/// Reads a text to be put in the place of an element, by the profile: the tree of an entry, or a
+/// token in a tree of its own, with the next number of `ids`.
 ///
 /// Refuses a text of more than 16,777,216 bytes as too long, then a text about which there is a
 /// message, then as a token a text that is not one, then for want of a tree number. In a token no
@@ -99,10 +99,11 @@ fn whole_tree(
     top: TopEntryPoint,
     text: PayloadText<'_>,
 ) -> Result<GreenNode, PayloadError>
-    ensures given { IfOk result (λ t.
-        entry_payload (production_of top) text.entry.grammar text.entry.edition text.entry.text.now ≡ Whole t) }
-    ensures refused { IfErr result (λ e. (number : ℕ) → RefusesPayload number
-        (entry_payload (production_of top) text.entry.grammar text.entry.edition text.entry.text.now) e) }
+    ensures given { IfOk result (λ t. entry_payload (production_of top)
+        text.entry.grammar text.entry.edition text.entry.text.now ≡ Whole t) }
+    ensures refused { IfErr result (λ e. (number : ℕ)
+        → RefusesPayload number (entry_payload (production_of top)
+        text.entry.grammar text.entry.edition text.entry.text.now) e) }
 {
     let PayloadText {
         grammar,

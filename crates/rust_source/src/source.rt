@@ -235,8 +235,8 @@ impl Source {
         self.document.find(self.alloc, kind, range)
     }
 
-    /// Reads a text by the source's edition and grammar, to put it into a tree: returns the root of the tree of an
-    /// entry, or a token in a new tree. The tree gets the next number.
+    /// Reads a text by the source's edition and grammar, to put it into a tree: returns the root of
+    /// the tree of an entry, or a token in a new tree. The tree gets the next number.
     ///
     /// # Errors
     ///
