@@ -26,6 +26,7 @@ MADE_BY = {
     "parser_input::LexedStr::from_tokens": "rust_document::Document::edit",
     "rust_source::Source::commit": "rust_document::Document::commit",
     "rust_source::Source::commit_without_messages": "rust_document::Document::commit_without_messages",
+    "rust_source::Source::difference": "rust_document::Document::difference",
     "rust_source::Source::edit": "rust_document::Document::edit",
     "rust_source::Source::editor": "rust_document::Document::editor",
     "rust_source::Source::find": "rust_document::Document::find",

@@ -21,14 +21,15 @@ pub use ra_parser::{Grammar, TopEntryPoint};
 pub use renamer::RenameError;
 pub use rowan_green::{TextRange, TextSize};
 pub use rust_document::{
-    Annotations, CommitError, Committed, EditError, Edited, IndentLevel, LexedToken, MakeError,
-    MergeError, OpenError, PayloadEntry, PayloadError, RecordError, Space, SyntaxAnnotation,
+    Annotations, CommitError, Committed, Difference, EditError, Edited, IndentLevel, LexedToken,
+    MakeError, MergeError, OpenError, PayloadEntry, PayloadError, RecordError, Space, SyntaxAnnotation,
     SyntaxEditor, SyntaxError, SyntaxMessage, Tokens, WhitespaceError, WithoutMessagesError,
     is_plain_name,
 };
 pub use source::Source;
 pub use syntax_tree::{
-    Element, Position, PositionError, SyntaxElement, SyntaxNode, SyntaxToken, TreeIds,
+    Element, Position, PositionError, SyntaxElement, SyntaxMapping, SyntaxMappingBuilder,
+    SyntaxNode, SyntaxToken, TreeIds,
 };
 pub use typed_nodes::{
     AstNode, Attr, AttrParts, Call, CallParts, Enum, EnumParts, Fn, FnParts, HasArgList,

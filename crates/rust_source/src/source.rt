@@ -1,5 +1,5 @@
 //! A text with all that its calls need.
-ghost use Rattle.std.specs.Prelude.{◌≡◌, ◌≤◌, ◌+◌, ℕ, true, chars, length, map, option_map, IfOk, IfErr, OnOk};
+ghost use Rattle.std.specs.Prelude.{◌≡◌, ◌≤◌, ◌+◌, ℕ, true, chars, length, map, option_map, IfOk, IfErr, MatchOption, OnOk};
 ghost use Rattle.lexed_text.specs.Kept.{IsKept};
 ghost use Rattle.parser_input.specs.Kind.{raw_of};
 ghost use Rattle.rowan_green.specs.Forest.{tree_text};
@@ -13,6 +13,7 @@ ghost use Rattle.rust_document.specs.CommitWithoutMessages.{HaveNoMessages, Refu
 ghost use Rattle.rust_document.specs.Committed.{annotated_ends, ends_of};
 ghost use Rattle.rust_document.specs.Core.{IsReadAsCore};
 ghost use Rattle.rust_document.specs.Costs.{most_steps};
+ghost use Rattle.rust_document.specs.Difference.{difference, told_of, RefusesDifference};
 ghost use Rattle.rust_document.specs.Edit.{RefusesEdit, can_edit, edited};
 ghost use Rattle.rust_document.specs.KeptTokens.{content_edit, counts_of, KeepsNoToken, KeepsOutput, KeepsTokens};
 ghost use Rattle.rust_document.specs.Open.{IsOpened, RefusesOpen};
@@ -21,7 +22,7 @@ ghost use Rattle.rust_document.specs.Reading.{messages_in};
 ghost use Rattle.rust_document.specs.Renames.{IsPlainRenaming, IsReadExactly};
 ghost use Rattle.rust_document.specs.Rewrite.{annotated, rewritten, changed};
 ghost use Rattle.rust_document.specs.Seen.{message_of_error};
-ghost use Rattle.rust_document.specs.Step.{MAX_TEXT, first_element, present, root_element, verdict, Accepted};
+ghost use Rattle.rust_document.specs.Step.{MAX_TEXT, first_element, present, root_element, verdict, Accepted, Unfaithful};
 ghost use Rattle.rust_document.specs.Tokens.{span_of, tokens_of};
 ghost use Rattle.rust_document.specs.WellSpaced.{IsWellSpacedRewrite};
 ghost use Rattle.rust_document.specs.WithoutMessages.{HasNoMessages, HasPairedBrackets, HasPlacedOperators};
@@ -32,8 +33,8 @@ use ra_parser::Grammar;
 use renamer::{RenameError, rename};
 use rowan_green::TextRange;
 use rust_document::{
-    CommitError, Committed, Document, EditError, Edited, OpenError, PayloadEntry, PayloadError,
-    SyntaxEditor, SyntaxError, Tokens, WithoutMessagesError,
+    CommitError, Committed, Difference, Document, EditError, Edited, OpenError, PayloadEntry,
+    PayloadError, SyntaxEditor, SyntaxError, Tokens, WithoutMessagesError,
 };
 use std::alloc::{AllocError, Global};
 use std::marker::Model;
@@ -270,6 +271,24 @@ impl Source {
         ensures { IfOk result (λ e. e ≡ untouched (root_element self.now.document)) }
     {
         self.document.editor(self.alloc)
+    }
+
+    /// Returns the first difference between the rewritten tree of `editor` and the reading of its
+    /// text, whitespace and comments aside; `None` exactly if `commit` would find the new text to read
+    /// as the rewritten tree.
+    ///
+    /// # Errors
+    ///
+    /// As of [`Document::difference`].
+    pub fn difference(&self, editor: &SyntaxEditor) -> Result<Option<Difference>, CommitError>
+        ensures told { IfOk result (λ r. option_map told_of r
+            ≡ difference self.now.document.grammar self.now.document.edition (rewritten editor.now)) }
+        ensures faithful { IfOk result (λ r. MatchOption r
+            (verdict self.now.document editor.now ≡ Accepted)
+            (λ _. verdict self.now.document editor.now ≡ Unfaithful)) }
+        ensures refused { IfErr result (RefusesDifference (verdict self.now.document editor.now)) }
+    {
+        self.document.difference(self.alloc, editor)
     }
 
     /// Applies all changes of `editor` if the new text reads as the rewritten tree, whatever messages
