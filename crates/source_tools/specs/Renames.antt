@@ -55,7 +55,7 @@ opened dialect text =
     record { edition = dialect.edition; grammar = dialect.grammar; text = text; number = 1 }
 
 -- Why a text is not renamed in: the name is taken, or the renamer's error. Where both names are
--- plain and the new text is not too long, that error is out of memory.
+-- plain and the new text is not too long, that error is one of `LacksRoom`.
 abbrev pub RefusesText : Renaming → Dialect → List ℕ → RenameFault → Type 0
 RefusesText n dialect text (File errors.TooLong) = MAX_TEXT < length text
 RefusesText n dialect text (File errors.NoMemory) = Unit {0}
