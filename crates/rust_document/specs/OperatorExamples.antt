@@ -5,7 +5,7 @@ use Rattle.parser_input.specs.Kinds.{WHITESPACE, COMMENT, IDENT, L_PAREN, R_PARE
 use Rattle.rust_document.specs.Shape.{kinds_in}
 use Rattle.rust_document.specs.Operators.{are_operators_placed}
 
--- elements that are put before others
+-- elements that others follow
 abbrev Part : Type 0
 Part = Forest → Forest
 

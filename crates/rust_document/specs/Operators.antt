@@ -38,7 +38,7 @@ is_operator_placed children =
     let right_fits = own == 1 || nat_lt own right in
     nat_lt 0 own && left_fits && right_fits
 
--- each binary expression has its operator placed so, in a forest without whitespace and comments
+-- `is_operator_placed` holds for each binary expression, in a forest without whitespace and comments
 unfoldable pub are_operators_placed : Forest → Bool
 are_operators_placed empty = true
 are_operators_placed (leaf l r) = are_operators_placed r
