@@ -19,6 +19,6 @@ ends-outside text shown start stop same past =
     ap (λ b. (nat_le start stop && is_boundary start text) && b) (outside stop text (omega (arith, past, ap length same)))
     ∙ never (nat_le start stop && is_boundary start text)
 
--- from front to end
+-- a range whose end is before its start
 pub turned : (text : List ℕ) (start stop : ℕ) → stop < start → can_edit text start stop ≡ false
 turned text start stop below = ap (λ b. (b && is_boundary start text) && is_boundary stop text) (lt-leb start stop below)

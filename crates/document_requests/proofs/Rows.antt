@@ -63,7 +63,7 @@ next-lines inner place next e old new before after all first moved more so-far =
     ∙ ap (λ es. before ++ lines_from inner place (forest_of es)) (sym first)
     ∙ so-far)
 
--- a line as it is put together
+-- the parts of a line, joined
 pub line-is :
     (margin name : List ℕ) (start kind raw end stop : ℕ) → name ≡ kind_name raw → raw ≡ kind → end ≡ stop
     → margin ++ (name ++ (64 ∷ (decimal start ++ (46 ∷ 46 ∷ decimal end)))) ≡ line_of margin kind start stop

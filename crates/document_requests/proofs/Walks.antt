@@ -31,7 +31,7 @@ module _ {X C : Type 0} (of : Data → Option X) (seen : C → X) where
   map_last [] c = refl
   map_last (x ∷ old) c = ap (λ cs. seen x ∷ cs) (map_last old c)
 
-  -- what was found and what is to be found in the rest, where the next item is told
+    -- what was found and what is to be found in the rest, where `o` is the value of the next item
   abbrev with_rest : List X → Items → Option X → Option (List X)
   with_rest done ds o = option_map (λ xs. done ++ xs) (option_and_then (λ x. option_map (λ xs. x ∷ xs) (all_in of ds)) o)
 
@@ -68,7 +68,7 @@ module _ {X C : Type 0} (of : Data → Option X) (seen : C → X) where
       let none_left : items_view (drop i vs) ≡ no_items = rw past (no_item_left vs) in
       ap Some (sym (append-nil done)) ∙ (rw none_left at before)
 
--- whether there is a float is told by this item and those after it
+-- there is a float if this item or one after it has one
 pub float_next :
     (vs : List Value) (i : ℕ) (v : Value) → i < length vs → v ≡ get_or vs i v
     → items_have_float (items_view (drop i vs)) ≡ (has_float (view v) || items_have_float (items_view (drop (i + 1) vs)))

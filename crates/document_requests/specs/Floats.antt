@@ -19,7 +19,7 @@ abbrev mutual
   outside_strings [] = []
   outside_strings (c ∷ s) = c ∷ (if c == quote then after_string s else outside_strings s)
 
-  -- the same, from inside a string on; a backslash stands before what ends no string
+    -- the variant that starts inside a string; a backslash precedes a character that does not end the string
   pub after_string : List ℕ → List ℕ
   after_string [] = []
   after_string (c ∷ []) = []

@@ -1,4 +1,4 @@
--- What becomes of a request in code.
+-- The result of a request in code.
 use Rattle.std.specs.Prelude.{map}
 use Rattle.document_requests.specs.Answered.{reply}
 use Rattle.document_requests.specs.Output.{Output, Ran, Rejected, Completed, output_of}

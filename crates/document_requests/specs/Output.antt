@@ -47,8 +47,8 @@ abbrev pub served_if_any : Option Request → Ran
 served_if_any None = Rejected refusals.Request
 served_if_any (Some r) = served r
 
--- A value that is written with a number with a point or an exponent is refused before its shape is looked at. (`-0` and whole numbers
--- past 64 bits are read as floats too; they are no whole numbers, and where nobody looks at them they change nothing.)
+-- A value that is written with a number with a point or an exponent is refused before its shape is examined. (`-0` and whole
+-- numbers past 64 bits are read as floats too; they are not whole numbers, and change nothing in a member that is not read.)
 abbrev pub of_value : List ℕ → Data → Ran
 of_value text d = if has_float d && writes_float text then Rejected refusals.Float else served_if_any (request_of d)
 

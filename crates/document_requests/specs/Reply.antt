@@ -7,8 +7,8 @@ use Rattle.serde_json.specs.Written.{compact_text}
 use Rattle.document_requests.specs.declared.reply.Refusal.{Refusal}
 use Rattle.document_requests.specs.declared.reply.Refusal.TheVariants.{Request, Float, Range, TooLong, NoTarget, Payload, NoParent, BadTarget, Intersecting, MissingMapping, Unfaithful, NoTreeNumber, Messages}
 
--- an edit was made; the ranges of the new text that a commit put in; the tree's lines; messages, each with its place; why nothing was
--- done
+-- an edit was made; the ranges of the new text that a commit inserted; the tree's lines; messages, each with its place; why
+-- nothing was done
 pub data Reply : Type 0 where
   Edited : Reply
   Changed : List (ℕ × ℕ) → Reply

@@ -14,7 +14,7 @@ pub data Change : Type 0 where
   Put : Op → Target → Entry → List ℕ → Change
   Delete : Target → Change
 
--- a text comes in the place of some bytes; changes are made at once; the tree or the messages are asked for
+-- a text replaces some bytes; changes are applied atomically; the tree or the messages are asked for
 pub data Command : Type 0 where
   Edit : ℕ → ℕ → List ℕ → Command
   Commit : List Change → Command
@@ -91,7 +91,7 @@ command_named word d =
 abbrev pub command_of : Data → Option Command
 command_of d = option_and_then (λ word. command_named word d) (text_in (codes "do") d)
 
--- the request, whose further members are not looked at
+-- the request; further members are ignored
 abbrev pub request_of : Data → Option Request
 request_of d =
     option_and_then

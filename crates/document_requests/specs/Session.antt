@@ -93,7 +93,7 @@ is_only_child _ = false
 abbrev pub only_child : Element → Option Element
 only_child e = if length (terms_below e.place) == 1 then Some (element_at e.number e.place.root (0 ∷ e.place.up)) else None
 
--- the token in a tree of its own
+-- the token as the only child of the root of a new tree
 abbrev pub detached : ℕ → Leaf → Element
 detached number l = element_at number (tree_of TOMBSTONE (terms.Token l ∷ [])) (0 ∷ [])
 
@@ -186,7 +186,7 @@ abbrev pub settled : State → Prepared → Answer
 settled d (Ready e next) = answer_to (verdict d e) (record { document = d; next = next }) e
 settled d (Stopped refusal next) = refused refusal (record { document = d; next = next })
 
--- all changes of a commit are made at once
+-- all changes of a commit are applied atomically
 abbrev pub committed : List Change → Session → Answer
 committed changes s = settled s.document (prepared changes s.document (untouched (root_element s.document)) s.next)
 

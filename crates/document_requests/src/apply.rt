@@ -223,7 +223,7 @@ fn range_of(document: &Document, start: u64, stop: u64) -> Option<TextRange>
     document.can_edit(range).then_some(range)
 }
 
-/// Puts a text in the place of the bytes from `start` to just before `stop`.
+/// Replaces the bytes from `start` to just before `stop` with `text`.
 fn edit(
     alloc: Global,
     document: &mut Document,

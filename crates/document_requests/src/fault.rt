@@ -11,7 +11,7 @@ pub enum Fault {
     /// A write failed. A write that takes no byte has failed.
     #[error("fault: writing")]
     Writing,
-    /// Memory was refused.
+    /// Out of memory.
     #[error("fault: memory")]
     Memory,
 }

@@ -44,7 +44,7 @@ fn members_have_float(members: &Map<String, Value>) -> bool
     false
 }
 
-/// What stands after a string, from inside it on.
+/// Returns the text after a string. `text` starts inside the string.
 fn after_string(text: &[u8]) -> &[u8]
     ensures left { outside_strings result.now ≡ after_string text.now }
     ensures shorter { length result.now ≤ length text.now }
@@ -60,7 +60,8 @@ fn after_string(text: &[u8]) -> &[u8]
     rest
 }
 
-/// What stands outside of strings after a byte that does: of a quote, what stands after its string.
+/// Returns the text after `byte`, which is outside of strings; after a quote, the text after the
+/// string that the quote opens.
 fn after_byte(byte: u8, after: &[u8]) -> &[u8]
     ensures next { outside_strings (byte ∷ after.now) ≡ byte ∷ outside_strings result.now }
     ensures shorter { length result.now ≤ length after.now }
@@ -71,7 +72,7 @@ fn after_byte(byte: u8, after: &[u8]) -> &[u8]
     after
 }
 
-/// Whether an exponent begins here, in what stands after a digit.
+/// Returns `true` if an exponent starts at `text`, which follows a digit.
 fn begins_exponent(text: &[u8]) -> bool
     ensures { result ≡ begins_exponent (outside_strings text.now) }
 {

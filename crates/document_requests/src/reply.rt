@@ -7,7 +7,7 @@ use rust_document::SyntaxError;
 pub enum Reply {
     /// An edit was made.
     Edit,
-    /// A commit was accepted; these bytes of the new text were put in.
+    /// A commit was accepted; `changed` are the ranges of the new text that it inserted.
     Commit { changed: Vec<TextRange> },
     /// The tree: a line for each element, a node before what it holds, with two spaces for each
     /// node around it.
@@ -33,7 +33,7 @@ pub enum Refusal {
     NoTarget,
     /// The text to be put is not what it is to be read as, or has more than 16,777,216 bytes.
     Payload,
-    /// Nothing stands beside the root.
+    /// The target of an insertion is the root, which has no siblings.
     NoParent,
     /// The root would be deleted, or a token would take its place.
     BadTarget,
@@ -43,7 +43,7 @@ pub enum Refusal {
     MissingMapping,
     /// The new text does not read as the rewritten tree.
     Unfaithful,
-    /// Each tree number was given.
+    /// No tree number is left.
     NoTreeNumber,
     /// The present or the new text has messages, and the commit is to leave none.
     Messages,

@@ -19,7 +19,7 @@ pub enum Command<'a> {
         stop: u64,
         text: &'a str,
     },
-    /// Changes that are made at once.
+    /// Changes that are applied atomically.
     Commit {
         changes: Vec<Change<'a>>,
     },

@@ -1,4 +1,4 @@
-//! A request's bytes, and what becomes of them.
+//! Requests in bytes, and their results.
 ghost use Rattle.std.specs.Prelude.{◌≡◌, map, option_map, IfOk};
 ghost use Rattle.document_requests.specs.Asked.{request as request_asked};
 ghost use Rattle.document_requests.specs.Outcome.{output, ran_of};

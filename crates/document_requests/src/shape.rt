@@ -198,7 +198,7 @@ pub fn commands_of(alloc: Global, value: &Value) -> Result<Option<Vec<Command<'_
     }
 }
 
-/// The request that a value is, if it is one; further members are not looked at.
+/// Returns the request that `value` holds, if it holds one. Further members are ignored.
 pub fn request_of(alloc: Global, value: &Value) -> Result<Option<Request<'_>>, AllocError>
     ensures { IfOk result (λ found. option_map request found ≡ request_of (view value.now)) }
 {

@@ -11,7 +11,7 @@ use syntax_tree::PositionError;
 pub enum Stop {
     /// The command is answered by a refusal.
     Refused(Refusal),
-    /// Memory was refused, and the command has no answer.
+    /// Out of memory; the command has no answer.
     NoMemory,
 }
 

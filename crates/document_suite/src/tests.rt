@@ -1,4 +1,5 @@
-//! Documents and trees as a caller has them: that calls succeed where memory is ample, and the worked cases.
+//! Tests of documents and trees from a caller's view: calls succeed while allocations succeed, and
+//! the worked cases.
 //!
 //! A test asserts when what it made is dropped already, and helpers join facts by `&`: each way out of a function is proved, with
 //! all that is dropped on it.
@@ -68,7 +69,7 @@ fn replacing(
     Ok(editor)
 }
 
-/// So many spaces.
+/// Returns `count` spaces.
 fn spaces(alloc: Global, count: usize) -> Result<String, AllocError> {
     let mut text = String::with_capacity(alloc, count)?;
     for _ in 0..count {
@@ -80,7 +81,7 @@ fn spaces(alloc: Global, count: usize) -> Result<String, AllocError> {
 /// The name in `struct S;`.
 const IDENT: Place = (SyntaxKind::IDENT, 7, 8);
 
-/// The white space in `struct S;`.
+/// The whitespace in `struct S;`.
 const SPACE: Place = (SyntaxKind::WHITESPACE, 6, 7);
 
 /// The end of `struct S;`.

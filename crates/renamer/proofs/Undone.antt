@@ -30,7 +30,7 @@ use Rattle.renamer.proofs.Changes.{AreNamed, all-replace, changes-are, changes-o
 use Rattle.renamer.proofs.PlainRenames.{plain-renaming}
 use Rattle.renamer.proofs.Walked.{named-tree, renamed-tree, there}
 
--- the leaf with the new name, in a tree of its own
+-- the leaf with the new name, as the only child of the root of a new tree
 abbrev token : List ℕ → Element
 token new = element_at 0 (tree_of TOMBSTONE (Token (identifier new) ∷ [])) (0 ∷ [])
 

@@ -1,4 +1,5 @@
-//! What no contract says: that runs succeed where memory is ample, and the cases that no line of the stored run can hold.
+//! Tests what contracts leave open: runs succeed while allocations succeed. Also the cases that no
+//! line of the stored run can hold.
 mod broken;
 mod devices;
 mod error_numbers;

@@ -95,7 +95,7 @@ level-shown j c i h t s e = whichever (j == BIN_EXPR) e
     whichever true e = ap power (operator-shown c i h t s (has-operator c e))
     whichever false e = refl
 
--- of a node that stands first
+-- the facts about a forest whose first element is a node
 pub record Parts (j : ℕ) (c f : forest.Forest) : Type 0 where
   pub own : node_placed j c ≡ true
   pub inner : grammar.are_operators_placed c ≡ true
@@ -159,7 +159,7 @@ some-shown (forest.Float b c f) r h t s e = elim h.1.1.1.1 [
   ]
 ]
 
--- what stands after a node that something follows
+-- after a node that something follows, the right level is that of the rest
 after-node : (j : ℕ) (i r : Forest) → is_none r ≡ false → right_level (node j i r) ≡ right_level r
 unfolding is_none right_level
 after-node j i empty e = absurd (true≢false e)
@@ -329,7 +329,7 @@ document-bound g edition text none =
     document-holds asked are_operators_placed operators-carried g edition text none
     (both-true (has_solid_leaves (forest_by source_file g edition ls)) (grammar.are_operators_placed (forest_by source_file g edition ls)) (entry-solid source_file g edition ls) (entries-bind source_file (input (is_whole g) edition ls)))
 
--- Rows are told by computing.
+-- Rows are decided by computation.
 pub placed-told : PlacedOperatorsAreTold
 unfolding is_among power operator level left_level right_level is_operator_placed are_operators_placed
 placed-told = (refl, (refl, (refl, (refl, (refl, (refl, (refl, (refl, (refl, (refl, (refl, (refl, (refl, (refl, (refl, (refl, (refl, (refl, (refl, tt)))))))))))))))))))

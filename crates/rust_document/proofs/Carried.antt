@@ -49,7 +49,7 @@ module _ (given : forest.Forest → Bool) (holds : Forest → Bool) (carried : C
   kept : Kept holds
   kept = carried.kept
 
-  -- What stands after the last tree is leaves.
+  -- Only leaves follow the last tree.
   leaves-hold : (ls : List Leaf) → holds (shown (as_dressed ls)) ≡ true
   unfolding shown as_dressed
   leaves-hold [] = kept.nothing

@@ -38,7 +38,7 @@ closed-before k r p = whichever (k == WHITESPACE || k == COMMENT)
     whichever true = p
     whichever false = p
 
--- what ends an opening bracket's tree is no white space, and no end
+-- the kind that ends an opening bracket's tree is neither whitespace nor a comment, and not the end
 record Solid (kind : ℕ) : Type 0 where
   pub stays : (kind == WHITESPACE || kind == COMMENT) ≡ false
   pub some : kind ≡ EOF → ⊥
@@ -67,7 +67,7 @@ last-alone : (kind : ℕ) → Solid kind → last_kind (kind_before kind empty) 
 unfolding kind_before last_kind
 last-alone kind s = rw s.stays refl
 
--- a leaf ends the trees, or what stands after it does
+-- a leaf ends the trees, or the trees after it end so
 ends-leaf : (kind j n : ℕ) (f : forest.Forest) → ends_with kind (forest.Leaf j n f) ≡ true → ((f ≡ forest.End) × ((j == kind) ≡ true)) ⊎ (ends_with kind f ≡ true)
 unfolding ends_with
 ends-leaf kind j n forest.End e = inl (refl, and_l (j == kind) (n == 1) e)

@@ -85,7 +85,7 @@ some-fault : (n place : ℕ) (ls : List Lexed) → nat_lt 0 (length (faults n (m
 some-fault n place [] = refl
 some-fault n place (l ∷ ls) = fault-at n place l ls l.message refl (λ k at. some-fault k at ls)
 
--- what the lexer says of a text is told after a `;`
+-- The lexer has messages about a text if and only if it has some about the text after a `;`.
 pub has-messages :
     (edition : Edition) (text bytes : List ℕ) → IsUtf8 bytes → bytes ≡ 59 ∷ text → nat_lt 0 (length (faults 0 (map (λ l. l.message) (lexed edition (chars bytes))))) ≡ nat_lt 0 (length (lexer_messages edition (chars text)))
 unfolding lexer_messages encode

@@ -90,7 +90,7 @@ core-read grammar edition text core is =
           ∙ ap (λ (xs : List Saying). map of_grammar xs ++ of_leaves 0 (lexed edition text)) silent;
     }
 
--- the same where the grammar is the profile
+-- a core file is read as its tree, if the grammar is the profile
 pub document-core :
     (grammar : Grammar) (edition : Edition) (text : List ℕ) → grammar ≡ Profile → (core : forest.Forest) → IsCoreFile (input false edition (leaves_in edition text)) core → ReadsAs grammar edition text core
 document-core grammar edition text is core h = subst (λ (g : Grammar). ReadsAs g edition text core) (sym is) (core-read Profile edition text core h)

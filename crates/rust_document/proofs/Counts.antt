@@ -8,7 +8,7 @@ use Rattle.rust_document.specs.ContentEdit.{AreCounts}
 use Rattle.rust_document.specs.KeptTokens.{content_edit, counts_of, KeepsTokens}
 use Rattle.rust_document.specs.declared.document.Edited.{Edited}
 
--- what an edit tells of counts, or of so many leaves
+-- what an edit returns: `counts`, or if there are none, `leaves` as the number of lexed tokens
 abbrev pub Tells : Option Kept → (leaves steps : ℕ) → Edited → Type 0
 Tells counts leaves steps e =
     MatchOption counts (e ≡ record { front = 0; lexed = leaves; back = 0; steps = steps })

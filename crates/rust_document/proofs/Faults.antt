@@ -35,7 +35,7 @@ from-leaf p (l ∷ ls) (suc i) within =
 from-zero : (n : ℕ) → n ≡ (0 + n)
 from-zero n = omega arith
 
--- the same of all leaves
+-- `from-leaf` for all leaves
 from-leaf-of-all :
     (ls : List Lexed) (i : ℕ) → i < length ls
     → of_leaf (offset ls i) (leaf_at ls i).message ++ of_leaves (offset ls (suc i)) (drop (suc i) ls) ≡ of_leaves (offset ls i) (drop i ls)

@@ -111,7 +111,7 @@ pub entry_too_long : (x : Production) (grammar : Grammar) (edition : Edition) (t
 unfolding first_fit
 entry_too_long x grammar edition text h = entry-is x grammar edition text true _ (lt-ltb MAX_TEXT (length text) h) refl
 
--- as many messages as the code has
+-- The code has as many messages as the model.
 same-count : (es : List SyntaxError) (ms : List reading.Message) → map own.message_of_error es ≡ ms → length es ≡ length ms
 same-count es ms e = sym (length-map es own.message_of_error) ∙ ap (λ (xs : List reading.Message). length xs) e
 

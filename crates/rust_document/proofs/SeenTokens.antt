@@ -1,4 +1,4 @@
--- Tokens of a text's leaves, which stand apart from white space and comments.
+-- Tokens of a text's leaves, without whitespace and comments.
 use Rattle.std.proofs.Common.{◌≡◌, ℕ, zero, suc, ◌+◌, ◌≤◌, Bool, true, false, ◌==◌, List, [], ◌∷◌, length, take, drop, refl, sym, ap, ◌∙◌, arith, inl, inr, if◌then◌else◌}
 use Rattle.std.specs.List.{prefix_len}
 use Rattle.std.proofs.lemmas.Bool.{cases_Bool, eqb-true, or_cases}
@@ -27,7 +27,7 @@ unfoldable pub tokens : List Seen → List Token
 tokens [] = []
 tokens (s ∷ ss) = s.token ∷ tokens ss
 
--- the same from the input and the dots
+-- the tokens with their dots, from the input and the dots
 unfoldable pub together : List Token → List Bool → List Seen
 together [] bs = []
 together (t ∷ ts) [] = record { token = t; dot = false } ∷ together ts []
@@ -92,7 +92,7 @@ pending-no-more : (l : Leaf) (ls : List Leaf) → is_trivia l ≡ false → pend
 unfolding pending
 pending-no-more l ls i = rw i refl
 
--- What is left after the next tokens, and after white space and comments.
+-- What is left after the next tokens, and after whitespace and comments.
 pub seen-reach : (w : Bool) (e : Edition) (n : ℕ) (ls : List Leaf) → seen w e (drop (reach n ls) ls) ≡ drop n (seen w e ls)
 unfolding seen reach
 seen-reach w e zero ls = refl
@@ -102,7 +102,7 @@ seen-reach w e (suc n) (l ∷ ls) = elim (cases_Bool (is_trivia l)) [
   | inr i ↦ rw i (ap (seen w e) (drop-one (reach n ls) l ls) ∙ seen-reach w e n ls)
 ]
 
--- so many of the pending leaves, where the first is one
+-- one pending leaf fewer after a first leaf that is trivia
 pub one-less : (l : Leaf) (ls : List Leaf) (c : ℕ) → is_trivia l ≡ true → suc c ≤ length (pending (l ∷ ls)) → c ≤ length (pending ls)
 one-less l ls c i le = omega (arith, le, ap (λ (ms : List Leaf). length ms) (pending-more l ls i))
 

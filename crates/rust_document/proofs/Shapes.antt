@@ -81,7 +81,7 @@ all-pending w e (l ∷ ls) none = elim (cases_Bool (is_trivia l)) [
   | inr i ↦ absurd (let z : record { token = token_of w e l ls; dot = dot_of l } ∷ seen w e ls ≡ [] = subst (λ (b : Bool). (if b then seen w e ls else record { token = token_of w e l ls; dot = dot_of l } ∷ seen w e ls) ≡ []) i none in cc)
 ]
 
--- the next leaf, where no white space or comment is next
+-- the next leaf, where no whitespace or comment is next
 solid-next : (l : Leaf) (ls : List Leaf) → pending (l ∷ ls) ≡ [] → is_trivia l ≡ false
 solid-next l ls none = elim (cases_Bool (is_trivia l)) [
   | inr i ↦ i
@@ -129,7 +129,7 @@ pub seen-pending : (w : Bool) (e : Edition) (s : Dressing) → seen w e (put_pen
 unfolding put_pending put_each put
 seen-pending w e s = seen-over w e (length (pending s.left)) s.left (omega arith)
 
--- what stands inside a node is opened after the white space and comments that stay outside
+-- a node is opened after the whitespace and comments that stay outside of it
 unfoldable pub inside : ℕ → Dressing → Dressing
 inside k s = put_each (attached k (pending s.left)) (open_node (put_each (length (pending s.left) - attached k (pending s.left)) s))
 

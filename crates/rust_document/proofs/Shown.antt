@@ -11,7 +11,7 @@ use Rattle.parser_events.specs.Trivia.{pending, attached}
 use Rattle.parser_events.specs.Dress.{Dressing, put, put_pending, put_leaf, open_node, close_node, say, next_text, before_dot, from_dot, is_empty, number, access, access_dot, dress}
 use Rattle.rust_document.proofs.Shapes.{shown, beside, beside-empty, shown-followed, idle-shown, inside, outside, within}
 
--- a leaf of a kind before these, if it is no white space and no comment
+-- a leaf of a kind before these, unless it is whitespace or a comment
 unfoldable pub kind_before : ℕ → Forest → Forest
 kind_before k r = if k == WHITESPACE || k == COMMENT then r else leaf (record { kind = k; text = [] }) r
 
@@ -188,7 +188,7 @@ pub either-dressing : (q : Bool) (P : Dressing → Type 0) (x y : Dressing) → 
 either-dressing true P x y p r = p refl
 either-dressing false P x y p r = r refl
 
--- what stands after a float
+-- the elements after a float
 float-added :
     (b : Bool) (c f : forest.Forest) (s x : Dressing) (i k m l : Forest) → Shows c i → shown x.given ≡ beside (shown s.given) k
     → (after : Dressed) → Shows f m → shown after ≡ beside (shown x.given) m → l ≡ beside k m → (l ≡ parted i m) ⊎ ((l ≡ accessed i m) ⊎ (l ≡ wronged i m)) → Added (forest.Float b c f) s.given after

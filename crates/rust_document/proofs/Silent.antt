@@ -1,4 +1,4 @@
--- Where nothing is told, the parser's trees told nothing.
+-- If the dressed trees have no messages, the parser's trees have none.
 use Rattle.std.proofs.Common.{◌≡◌, ℕ, suc, ◌+◌, ◌-◌, ◌≤◌, not, ◌&&◌, List, [], ◌∷◌, ◌++◌, map, length, take, drop, refl, arith, inl, inr}
 use Rattle.std.proofs.lemmas.Bool.{cases_Bool}
 use Rattle.parser_input.specs.Kinds.{ERROR, FIELD_EXPR, FLOAT_NUMBER, DOT}
@@ -21,7 +21,7 @@ told (forest.ErrorLeaf m k f) = suc (told f)
 told (forest.Node k c f) = told c + told f
 told (forest.Float b c f) = told c + told f
 
--- how many messages are told
+-- the number of messages in dressed trees
 unfoldable pub said : Dressed → ℕ
 said dressed.End = 0
 said (dressed.Leaf k t d) = said d

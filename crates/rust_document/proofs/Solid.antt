@@ -1,4 +1,4 @@
--- No leaf of an entry's tree is white space or a comment.
+-- No leaf of an entry's tree is whitespace or a comment.
 use Rattle.std.proofs.Common.{◌≡◌, ℕ, zero, suc, Bool, true, false, not, ◌&&◌, ◌||◌, ◌==◌, List, [], ◌∷◌, length, drop, Option, Some, None, unwrap_or, find, option_and_then, refl, sym, subst, inl, inr, if◌then◌else◌, true≢false}
 use Rattle.std.proofs.lemmas.Bool.{cases_Bool, eqb-true, or_cases}
 use Rattle.parser_input.specs.Kinds.{EOF, IDENT, WHITESPACE, COMMENT, PIPE, PIPE_GT}
@@ -20,7 +20,7 @@ use Rattle.rust_grammar.proofs.EntriesInOrder.{entries-in-order}
 use Rattle.rust_grammar.proofs.Plain.{and_l, and_r}
 use Rattle.rust_grammar.proofs.Spelling.{both-true}
 
--- neither white space nor a comment
+-- neither whitespace nor a comment
 unfoldable pub is_solid : ℕ → Bool
 is_solid kind = not (kind == WHITESPACE || kind == COMMENT)
 

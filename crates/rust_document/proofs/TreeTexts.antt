@@ -109,7 +109,7 @@ leaf-slice d way l u h =
 same-itself : (t : Tree) → same_tree t t ≡ true
 same-itself t = (same_tree-Decides t t).1 refl
 
--- the tree of its own text
+-- The tree of a document is faithful to its text.
 faithful-itself : (d : State) → IsUtf8 d.text → is_faithful d.grammar d.edition (present d) ≡ true
 faithful-itself d u =
     ap (λ (bs : List ℕ). same_tree (bare_tree (present d)) (bare_tree (tree_in d.grammar d.edition (chars bs)))) (present-text d u) ∙ same-itself (bare_tree (present d))

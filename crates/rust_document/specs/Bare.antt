@@ -1,4 +1,4 @@
--- Children without white space and comments, one by one.
+-- Children without whitespace and comments, one by one.
 use Rattle.std.specs.Prelude.{◌≡◌, ◌+◌, ◌≤◌, ◌==◌, ◌||◌, Bool, false, List}
 use Rattle.rowan_green.specs.Forest.{Forest, node, leaf, forest_count}
 use Rattle.rowan_green.specs.Term.{Term, forest_of, term_count}
@@ -6,12 +6,12 @@ use Rattle.rowan_green.specs.declared.utility_types.NodeOrToken.TheVariants.{Nod
 use Rattle.parser_input.specs.Kinds.{WHITESPACE, COMMENT}
 use Rattle.rust_document.specs.Rewrite.{bare}
 
--- white space or a comment
+-- whitespace or a comment
 abbrev pub is_left_out : Term → Bool
 is_left_out (Node t) = false
 is_left_out (Token l) = l.kind == WHITESPACE || l.kind == COMMENT
 
--- a forest begins with this element as it is without white space and comments, and the rest comes after it
+-- a forest begins with this element, without the whitespace and comments inside it, and the rest comes after it
 abbrev pub BeginsWith : Forest → Term → Forest → Type 0
 BeginsWith f (Node t) rest = f ≡ node t.kind (bare t.forest) rest
 BeginsWith f (Token l) rest = f ≡ leaf l rest

@@ -18,7 +18,7 @@ is_closed empty = false
 is_closed (leaf l r) = is_opening l.kind && last_kind r == partner l.kind
 is_closed (node k f r) = false
 
--- each token tree is so, in a forest without white space and comments
+-- each token tree is closed, in a forest without whitespace and comments
 unfoldable pub are_token_trees_closed : Forest → Bool
 are_token_trees_closed empty = true
 are_token_trees_closed (leaf l r) = are_token_trees_closed r

@@ -22,7 +22,7 @@ CoreTextsAreRead =
     (edition : Edition) (text : List ℕ) (core : Forest) → IsCoreFile (input false edition (leaves_in edition text)) core →
     ReadsAs Profile edition text core
 
--- the same of a document of the profile
+-- In a document of the profile, a text that is a core file reads as the tree of its derivation.
 abbrev pub IsReadAsCore : State → Type 0
 IsReadAsCore d =
     d.grammar ≡ Profile → (core : Forest) → IsCoreFile (input false d.edition (leaves_in d.edition (chars d.text))) core →

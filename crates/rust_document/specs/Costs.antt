@@ -6,7 +6,7 @@ use Rattle.ra_parser.specs.Grammars.{is_whole}
 use Rattle.ra_parser.specs.declared.grammar.Grammar.{Grammar}
 use Rattle.rust_document.specs.Reading.{leaves_in}
 
--- for so many tokens of the parser's input, and for its end
+-- the most lookaheads for these tokens of the parser's input, and for its end
 abbrev pub steps_for : List Token → ℕ
 steps_for tokens = 4096 * (length tokens + 1)
 

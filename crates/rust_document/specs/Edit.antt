@@ -1,4 +1,4 @@
--- An edit of a text: some of its bytes give way to others.
+-- An edit of a text: some of its bytes are replaced.
 use Rattle.std.specs.Prelude.{◌≡◌, ◌<◌, ◌^◌, ℕ, zero, suc, Bool, true, false, ◌&&◌, nat_le, List, [], ◌∷◌, ◌++◌, take, drop, length, codes}
 use Rattle.std.specs.Fmt.{is_char_start}
 use Rattle.syntax_tree.specs.declared.error.TreeError.{TreeError}
@@ -8,11 +8,11 @@ use Rattle.rust_document.specs.Step.{MAX_TEXT}
 use Rattle.rust_document.specs.declared.error.EditError.{EditError}
 use Rattle.rust_document.specs.declared.error.EditError.TheVariants.{TooLong, NoTreeNumber, NoMemory}
 
--- a text with other bytes in the place of those from `start` to just before `end`
+-- a text whose bytes from `start` to just before `end` are replaced by other bytes
 abbrev pub edited : List ℕ → ℕ → ℕ → List ℕ → List ℕ
 edited text start end put = take start text ++ put ++ drop end text
 
--- After so many bytes a character starts, or the text ends.
+-- At this offset in bytes a character starts, or the text ends.
 unfoldable pub is_boundary : ℕ → List ℕ → Bool
 is_boundary zero [] = true
 is_boundary zero (b ∷ bs) = is_char_start b
@@ -29,7 +29,7 @@ RefusesEdit text number TooLong = MAX_TEXT < length text
 RefusesEdit text number NoTreeNumber = IsOpened text × (number ≡ 2 ^ 32)
 RefusesEdit text number NoMemory = Unit {0}
 
--- the same before a number is asked for
+-- when an edit is refused before a number is asked for
 abbrev pub IsUnedited : List ℕ → EditError → Type 0
 IsUnedited text TooLong = MAX_TEXT < length text
 IsUnedited text NoTreeNumber = ⊥

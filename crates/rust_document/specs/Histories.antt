@@ -24,7 +24,7 @@ abbrev pub text_by : List ℕ → Command → List ℕ
 text_by text (Edit start end put) = edited text start end put
 text_by text (Commit e) = tree_text (rewritten e)
 
--- an opened text with all accepted changes made
+-- an opened text with all accepted changes applied
 abbrev pub text_after : List ℕ → List Event → List ℕ
 text_after text [] = text
 text_after text (Accepted c number ∷ es) = text_after (text_by text c) es
@@ -61,8 +61,8 @@ EditsAreOpenings =
     (d : State) (start end : ℕ) (put : List ℕ) (number other : ℕ)
     → Agree (taken d (Edit start end put) number) (opened d (edited d.text start end put) other)
 
--- After any list of commands the text is the opened one with the accepted changes made, and the document agrees with one that is
--- opened on that text.
+-- After any list of commands the text is the opened one with the accepted changes applied, and the document agrees with
+-- one that is opened on that text.
 pub record EndsInReading (d : State) (es : List Event) : Type 0 where
   pub text_is : (after d es).text ≡ text_after d.text es
   pub agrees : (number : ℕ) → Agree (after d es) (opened d (text_after d.text es) number)

@@ -62,7 +62,7 @@ abbrev pub UntouchedIsKept : Type 0
 UntouchedIsKept = (d : State) → IsUtf8 d.text → IsOpened d.text → IsKept d
 
 -- Two texts with equal input, of whose floats those at equal places both hold a dot or both do not, have trees of equal kinds and
--- nesting, white space and comments aside.
+-- nesting, apart from whitespace and comments.
 abbrev pub KindsFollowInputs : Type 0
 KindsFollowInputs =
     (x : Production) (g h : Grammar) (first second : Edition) (a b : List ℕ)

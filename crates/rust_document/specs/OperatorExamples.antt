@@ -5,7 +5,7 @@ use Rattle.parser_input.specs.Kinds.{WHITESPACE, COMMENT, IDENT, L_PAREN, R_PARE
 use Rattle.rust_document.specs.Shape.{kinds_in}
 use Rattle.rust_document.specs.Operators.{are_operators_placed}
 
--- what stands before other elements
+-- elements that others follow
 abbrev Part : Type 0
 Part = Forest → Forest
 
@@ -57,7 +57,7 @@ rows =
     ∷ wrong (bracketed (binary (binary a PLUS a) STAR a))
     ∷ []
 
--- Each is told from the others.
+-- The predicate has the value of each row for its tree.
 abbrev pub AreTold : List Row → Type 0
 AreTold [] = Unit {0}
 AreTold (row ∷ more) = (are_operators_placed (kinds_in row.tree) ≡ row.placed) × AreTold more

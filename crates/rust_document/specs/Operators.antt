@@ -10,25 +10,25 @@ operator empty = EOF
 operator (leaf l r) = if power l.kind == 0 then operator r else l.kind
 operator (node k f r) = operator r
 
--- How tightly a node holds together: a binary expression as its operator binds, any other node more tightly than each operator.
+-- The binding power of a node: that of the operator for a binary expression, more than that of each operator for any other node.
 unfoldable pub level : (kind : ℕ) → (children : Forest) → ℕ
 level kind children = if kind == BIN_EXPR then power (operator children) else 13
 
--- how tightly the first of these elements holds together
+-- the binding power of the first of these elements
 unfoldable pub left_level : Forest → ℕ
 left_level empty = 13
 left_level (leaf l r) = 13
 left_level (node k f r) = level k f
 
--- how tightly the last of these elements holds together
+-- the binding power of the last of these elements
 unfoldable pub right_level : Forest → ℕ
 right_level empty = 13
 right_level (leaf l r) = right_level r
 right_level (node k f empty) = level k f
 right_level (node k f r) = right_level r
 
--- In a binary expression with these children the left operand holds together no less tightly than the operator binds, and is no
--- assignment; the right one holds together more tightly than the operator binds, unless that is an assignment.
+-- In a binary expression with these children the left operand binds no less tightly than the operator, and is no assignment;
+-- the right one binds more tightly than the operator, unless that is an assignment.
 unfoldable pub is_operator_placed : Forest → Bool
 is_operator_placed children =
     let own = power (operator children) in
@@ -38,7 +38,7 @@ is_operator_placed children =
     let right_fits = own == 1 || nat_lt own right in
     nat_lt 0 own && left_fits && right_fits
 
--- each binary expression is so, in a forest without white space and comments
+-- `is_operator_placed` holds for each binary expression, in a forest without whitespace and comments
 unfoldable pub are_operators_placed : Forest → Bool
 are_operators_placed empty = true
 are_operators_placed (leaf l r) = are_operators_placed r

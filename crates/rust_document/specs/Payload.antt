@@ -60,11 +60,11 @@ abbrev pub payload_in : PayloadEntry → Grammar → Edition → List ℕ → Pa
 payload_in (entries.Top top) grammar edition text = entry_payload (production_of top) grammar edition text
 payload_in entries.Token grammar edition text = token_payload edition text
 
--- the same by the profile
+-- what a text is as a payload by the profile
 abbrev pub payload_of : PayloadEntry → Edition → List ℕ → Payload
 payload_of entry edition text = payload_in entry Profile edition text
 
--- The tree has the number; a token stands in a tree of its own, as the only child of the root.
+-- The tree has the number; a token is the only child of the root of a new tree.
 abbrev pub IsDetached : ℕ → Payload → Element → Type 0
 IsDetached number (Whole t) e = e ≡ element_at number t []
 IsDetached number (One l) e = e ≡ element_at number (tree_of TOMBSTONE (Token l ∷ [])) (0 ∷ [])
@@ -75,8 +75,8 @@ IsGiven (One l) = Unit {0}
 IsGiven (Whole t) = Unit {0}
 IsGiven p = ⊥
 
--- A refusal tells which case fits. Want of a tree number comes only where none is left and the text is a payload, want of
--- memory at any point.
+-- The error tells which case fits. `NoTreeNumber` comes only where none is left and the text is a payload, `NoMemory` at any
+-- point.
 
 abbrev pub RefusesPayload : ℕ → Payload → PayloadError → Type 0
 RefusesPayload number p refusals.TooLong = p ≡ TooLong

@@ -45,7 +45,7 @@ root_of f = record { kind = ERROR; forest = f }
 abbrev pub forest_by : Production → Grammar → Edition → List Leaf → forest.Forest
 forest_by x grammar edition ls = entry whole x (input (is_whole grammar) edition ls)
 
--- the same, dressed with these leaves
+-- the trees of an entry, dressed with these leaves
 unfoldable pub dressed_by : Production → Grammar → Edition → List Leaf → Dressed
 dressed_by x grammar edition ls = dress_root (forest_by x grammar edition ls) ls
 
@@ -57,7 +57,7 @@ tree_by x grammar edition text = root_of (terms_of (dressed_by x grammar edition
 abbrev pub tree_in : Grammar → Edition → List ℕ → Tree
 tree_in = tree_by source_file
 
--- the same by the profile
+-- the tree of a source file by the profile
 abbrev pub tree : Edition → List ℕ → Tree
 tree = tree_in Profile
 
@@ -74,7 +74,7 @@ Message = ℕ × Fault
 abbrev pub of_grammar : Saying → Message
 of_grammar s = (s.place, OfGrammar s.message)
 
--- the message of the lexer about a leaf, if there is one: it stands where the leaf begins
+-- the message of the lexer about a leaf, if any; its place is the start of the leaf
 abbrev pub of_leaf : ℕ → Option leaves.Message → List Message
 of_leaf place None = []
 of_leaf place (Some m) = (place, OfLeaf (wording m)) ∷ []
@@ -98,6 +98,6 @@ messages_by x grammar edition text =
 abbrev pub messages_in : Grammar → Edition → List ℕ → List Message
 messages_in = messages_by source_file
 
--- the same by the profile
+-- the messages of a source file by the profile
 abbrev pub messages : Edition → List ℕ → List Message
 messages = messages_in Profile

@@ -11,15 +11,15 @@ use Rattle.syntax_editor.specs.Editing.{Editing}
 use Rattle.syntax_editor.specs.Rewriting.{rewriting}
 use Rattle.rust_document.specs.Reading.{root_of}
 
--- the tree with all recorded changes made at once
+-- the tree with all recorded changes applied
 abbrev pub rewritten : Editing → Tree
 rewritten e = root_of (forest_in (rewriting e))
 
--- the ranges in the new text of what was put in by changes that lie in no other, in the order of the tree
+-- the ranges in the new text that outermost changes inserted, in the order of the tree
 abbrev pub changed : Editing → List (ℕ × ℕ)
 changed e = changed_at (rewriting e) 0
 
--- the bytes of what stands at a place, and at a way in a tree
+-- the bytes of the element at a place, and at an up-path in a tree
 abbrev pub bytes_at : Place → ℕ × ℕ
 bytes_at p = (start_of p, end_of p)
 
@@ -31,7 +31,7 @@ bounds_at t w = bytes_at (record { root = t; up = w })
 abbrev pub annotated : Editing → List ((ℕ × ℕ) × ℕ)
 annotated e = map (λ x. (bounds_at (rewritten e) x.0, x.1)) (found_again e)
 
--- the elements without the leaves that are white space or comments
+-- the elements without the leaves that are whitespace or comments
 abbrev pub bare : Forest → Forest
 bare empty = empty
 bare (node k f r) = node k (bare f) (bare r)

@@ -29,7 +29,8 @@ RefusesReadBack grammar edition t Unfaithful = (length (tree_text t) ≤ MAX_TEX
 RefusesReadBack grammar edition t NoMemory = Unit {0}
 RefusesReadBack grammar edition t error = ⊥
 
--- the changes have places, the rewritten tree is within the limits, and this is its text with its reading, and what was put in
+-- the changes have places, the rewritten tree is within the limits, and this is its text with its reading, and the inserted
+-- ranges
 pub record IsRewritten (grammar : Grammar) (edition : Edition) (e : Editing) (before : List Token) (text : List ℕ) (next : NextReading) (ranges : List TextRange) : Type 0 where
   pub placeable : IsPlaceable e
   pub within : is_too_long e ≡ false

@@ -39,11 +39,11 @@ root_element d = element_at d.number (present d) []
 abbrev pub first_element : State → ℕ → ℕ → ℕ → Option Element
 first_element d kind start end = option_map element_of (first_of kind start end (root_element d))
 
--- a tree without white space and comments
+-- a tree without whitespace and comments
 abbrev pub bare_tree : Tree → Tree
 bare_tree t = record { kind = t.kind; forest = bare t.forest }
 
--- Without white space and comments the tree is that of the reading of its own text.
+-- Without whitespace and comments the tree is that of the reading of its own text.
 abbrev pub is_faithful : Grammar → Edition → Tree → Bool
 is_faithful grammar edition t = same_tree (bare_tree t) (bare_tree (tree_in grammar edition (chars (tree_text t))))
 
@@ -63,7 +63,7 @@ is_foreign d e = not (e.top.number == d.number) || not (same_tree e.top.place.ro
 abbrev pub is_too_long : Editing → Bool
 is_too_long e = nat_lt MAX_TEXT (length (tree_text (rewritten e))) || not (new_fits (rewriting e))
 
--- What becomes of an editor's changes: the first case that fits.
+-- The verdict on an editor's changes: the first case that fits.
 abbrev pub verdict : State → Editing → Verdict
 verdict d e =
     first_fit

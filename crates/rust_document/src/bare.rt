@@ -1,4 +1,4 @@
-//! Compares trees without their white space and comments.
+//! Compares trees without their whitespace and comments.
 ghost use Rattle.std.specs.Prelude.{◌≡◌, MatchOption};
 ghost use Rattle.rowan_green.specs.Forest.{empty, same_tree};
 ghost use Rattle.rowan_green.specs.Term.{forest_of};
@@ -20,7 +20,7 @@ pub fn is_left_out(element: &GreenElement) -> bool
     kind == SyntaxKind::WHITESPACE.to_raw() || kind == SyntaxKind::COMMENT.to_raw()
 }
 
-/// The next child that is no white space and no comment.
+/// Returns the next child that is neither whitespace nor a comment.
 fn next_bare<'a>(children: &mut Children<'a>) -> Option<&'a GreenElement>
     ensures { MatchOption result (bare (forest_of children.old) ≡ empty)
         (λ e. Steps children.old e.now children.new) }
@@ -33,7 +33,7 @@ fn next_bare<'a>(children: &mut Children<'a>) -> Option<&'a GreenElement>
     None
 }
 
-/// Whether two trees are the same without white space and comments.
+/// Returns `true` if two trees are equal apart from whitespace and comments.
 pub fn same_bare(a: &GreenNode, b: &GreenNode) -> bool
     ensures { result ≡ same_tree (bare_tree a.now) (bare_tree b.now) }
 {

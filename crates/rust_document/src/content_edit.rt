@@ -11,7 +11,7 @@ use parser_input::edition::Edition;
 use rowan_green::TextRange;
 use std::alloc::{AllocError, Global};
 
-/// A text before and after an edit, which puts `put` in the place of `range`.
+/// A text before and after an edit, which replaces `range` with `put`.
 #[derive(Clone, Copy)]
 pub(crate) struct TextEdit<'a, 'b, 'c> {
     pub before: &'a str,

@@ -49,10 +49,10 @@ pub const MAX_TEXT: usize = 16_777_216;
 /// What an accepted commit tells.
 #[derive(Debug, Drop)]
 pub struct Committed {
-    /// The bytes of the new text that were put in, from front to end.
+    /// The inserted ranges of the new text, in source order.
     pub changed: Vec<TextRange>,
-    /// The bytes of the new text of each annotated element that stands in the rewritten tree, with
-    /// its annotation: by order of annotation, then of the tree.
+    /// The range in the new text of each annotated element of the rewritten tree, with its
+    /// annotation: by order of annotation, then of the tree.
     pub annotated: Vec<(TextRange, SyntaxAnnotation)>,
     /// The number of lookaheads that the parser made; 0 if its output was kept.
     pub steps: u64,
@@ -251,7 +251,7 @@ impl Document {
         &self.root
     }
 
-    /// The tokens of the text in order, white space too.
+    /// Returns the tokens of the text in order, including whitespace and comments.
     pub fn tokens(&self) -> Tokens<'_>
         ensures { map span_of result ≡ tokens_of self.now.edition (chars self.now.text) }
     {
@@ -276,8 +276,8 @@ impl Document {
             && text.is_char_boundary(usize::from(range.end()))
     }
 
-    /// Puts a text in the place of a range, reads the new text, and gives its tree the next number
-    /// of `ids`.
+    /// Replaces `range` with `text`, reads the new text, and gives its tree the next number of
+    /// `ids`.
     ///
     /// The new text is read by the edition and the grammar of the old one.
     ///
@@ -285,8 +285,13 @@ impl Document {
     /// it as it is, and if before edition 2024 no token of either text is a guarded prefix. The
     /// parser's output is kept if the parser's input is the same.
     ///
-    /// Refuses a new text of more than 16,777,216 bytes as too long, then for want of a tree
-    /// number. A refusal changes nothing.
+    /// # Errors
+    ///
+    /// - [`EditError::TooLong`] if the new text has more than [`MAX_TEXT`] bytes.
+    /// - [`EditError::NoTreeNumber`] if no tree number is left.
+    /// - [`EditError::NoMemory`] if an allocation fails.
+    ///
+    /// On error, the document and `ids` are unchanged.
     pub fn edit(
         &mut self,
         alloc: Global,
@@ -336,7 +341,7 @@ impl Document {
         Ok(answer_of(counts, leaves, steps))
     }
 
-    /// Lexes the content of `new`, which is the text with `put` in the place of a range.
+    /// Lexes the content of `new`, which is the text with `put` instead of a range.
     fn edited_content(
         &self,
         alloc: Global,
@@ -411,8 +416,7 @@ impl Document {
         Ok(SyntaxEditor::of_root(alloc, self.root.clone()?))
     }
 
-    /// Takes a text with its reading in the place of the present ones, and gives its tree the next
-    /// number of `ids`.
+    /// Replaces the text and its reading, and gives the new tree the next number of `ids`.
     fn renew(
         &mut self,
         alloc: Global,

@@ -1,4 +1,4 @@
-//! A text with other bytes in the place of some of its own.
+//! Replaces some bytes of a text.
 ghost use Rattle.std.specs.Prelude.{◌≡◌, ◌≤◌, true, length, string_bytes, IfOk, IfErr};
 ghost use Rattle.rust_document.specs.Edit.{IsUnedited, can_edit, edited};
 ghost use Rattle.rust_document.specs.Step.{MAX_TEXT};

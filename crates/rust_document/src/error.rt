@@ -5,14 +5,14 @@ use std::fmt;
 use syntax_editor::RewriteError;
 use syntax_tree::TreeError;
 
-/// A refusal of `Document::open`. Nothing was changed.
+/// The error type of `Document::open`. On error, nothing is changed.
 #[derive(Clone, Copy, Debug, PartialEq, Eq)]
 pub enum OpenError {
     /// The text has more than 16,777,216 bytes.
     TooLong = 1,
-    /// Each tree number was given.
+    /// No tree number is left.
     NoTreeNumber = 2,
-    /// Memory was refused.
+    /// Out of memory.
     NoMemory = 3,
 }
 
@@ -58,14 +58,14 @@ impl From<TreeError> for OpenError {
     }
 }
 
-/// A refusal of `Document::edit`. The document is as before.
+/// The error type of `Document::edit`. On error, the document is unchanged.
 #[derive(Clone, Copy, Debug, PartialEq, Eq)]
 pub enum EditError {
     /// The new text has more than 16,777,216 bytes.
     TooLong = 1,
-    /// Each tree number was given.
+    /// No tree number is left.
     NoTreeNumber = 2,
-    /// Memory was refused.
+    /// Out of memory.
     NoMemory = 3,
 }
 
@@ -111,7 +111,7 @@ impl From<TreeError> for EditError {
     }
 }
 
-/// A refusal of `Document::commit`. The document is as before.
+/// The error type of `Document::commit`. On error, the document is unchanged.
 #[derive(Clone, Copy, Debug, PartialEq, Eq)]
 pub enum CommitError {
     /// The editor is one of another tree.
@@ -125,9 +125,9 @@ pub enum CommitError {
     TooLong = 4,
     /// The new text does not read as the rewritten tree.
     Unfaithful = 5,
-    /// Each tree number was given.
+    /// No tree number is left.
     NoTreeNumber = 6,
-    /// Memory was refused.
+    /// Out of memory.
     NoMemory = 7,
 }
 
@@ -249,7 +249,7 @@ impl From<TreeError> for WithoutMessagesError {
     }
 }
 
-/// A refusal of `payload`. No number was taken.
+/// The error type of `payload`. On error, no tree number is used up.
 #[derive(Clone, Copy, Debug, PartialEq, Eq)]
 pub enum PayloadError {
     /// The lexer or the parser has a message about the text.
@@ -258,9 +258,9 @@ pub enum PayloadError {
     NotOneToken = 2,
     /// The text has more than 16,777,216 bytes.
     TooLong = 3,
-    /// Each tree number was given.
+    /// No tree number is left.
     NoTreeNumber = 4,
-    /// Memory was refused.
+    /// Out of memory.
     NoMemory = 5,
 }
 

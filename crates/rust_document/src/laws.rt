@@ -39,7 +39,7 @@ pub fn untouched_is_kept()
 {}
 
 /// Two texts with equal input, of whose floats those at equal places both hold a dot or both do
-/// not, have trees of equal kinds and nesting, white space and comments aside.
+/// not, have trees of equal kinds and nesting, apart from whitespace and comments.
 pub fn kinds_follow_inputs()
     ensures { KindsFollowInputs }
 {}
@@ -52,8 +52,8 @@ pub fn token_trees_are_closed()
 
 /// In a document without messages a right operand that is a binary expression binds more tightly
 /// than the operator before it, unless that is an assignment; a left one binds no less tightly than
-/// the operator after it, and is no assignment. Some trees where that is so are told from some
-/// where it is not.
+/// the operator after it, and is no assignment. This holds for some example trees, and fails for
+/// others.
 pub fn operators_bind_by_power()
     ensures documents { OperatorsBindByPower }
     ensures told { PlacedOperatorsAreTold }
@@ -92,8 +92,8 @@ pub fn edits_are_openings()
 {}
 
 /// After any list of edits and commits, some of them refused, the text is the opened text with the
-/// accepted changes made, and the document has the tokens, the messages and the tree of one that is
-/// opened on that text.
+/// accepted changes applied, and the document has the tokens, the messages and the tree of one that
+/// is opened on that text.
 pub fn histories_end_in_readings()
     ensures { HistoriesEndInReadings }
 {}

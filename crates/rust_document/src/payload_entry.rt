@@ -1,4 +1,4 @@
-//! Texts that are put in the place of an element.
+//! New elements that are parsed from texts.
 ghost use Rattle.std.specs.Prelude.{◌≡◌, ◌+◌, ◌<◌, ◌^◌, ℕ, nat_lt, chars, length, IfOk, IfErr, OnOk};
 ghost use Rattle.syntax_tree.specs.Handle.{element_of};
 ghost use Rattle.ra_parser.specs.Entries.{production_of};
@@ -34,12 +34,19 @@ pub(crate) struct PayloadText<'a> {
     pub text: &'a str,
 }
 
-/// Reads a text to be put in the place of an element, by the profile: the tree of an entry, or a
-/// token in a tree of its own, with the next number of `ids`.
+/// Parses `text` as a new element for an editor, by the profile: the tree of an entry, or a token
+/// as the only child of a new root. The new tree has the next number of `ids`. In a token no
+/// shebang and no frontmatter is read.
 ///
-/// Refuses a text of more than 16,777,216 bytes as too long, then a text about which there is a
-/// message, then as a token a text that is not one, then for want of a tree number. In a token no
-/// shebang and no frontmatter is read. A refusal takes no number.
+/// # Errors
+///
+/// - [`PayloadError::TooLong`] if `text` has more than [`MAX_TEXT`] bytes.
+/// - [`PayloadError::Message`] if the lexer or the parser has a message about `text`.
+/// - [`PayloadError::NotOneToken`] if `entry` is a token and `text` is not one.
+/// - [`PayloadError::NoTreeNumber`] if no tree number is left.
+/// - [`PayloadError::NoMemory`] if an allocation fails.
+///
+/// On error, `ids` is unchanged.
 pub fn payload(
     alloc: Global,
     entry: PayloadEntry,
@@ -60,7 +67,7 @@ pub fn payload(
     payload_by(alloc, entry, text, ids)
 }
 
-/// Reads a text to be put in the place of an element, as [`payload`] does, by its own grammar.
+/// Parses `text` as a new element for an editor, as [`payload`] does, by its own grammar.
 ///
 /// # Errors
 ///

@@ -27,8 +27,8 @@ use syntax_tree::{SyntaxElement, SyntaxNode, TreeIds};
 use tree_rewrite::origins::origins_of;
 use tree_rewrite::piece::Piece;
 
-/// The text of a rewritten tree, with its reading, the bytes of it that were put in, and those of
-/// annotated elements.
+/// The text of a rewritten tree, with its reading, the ranges of it that were inserted, and those
+/// of annotated elements.
 #[derive(Drop)]
 pub struct Rewritten {
     pub text: String,
@@ -44,8 +44,14 @@ struct ReadBack {
     reading: NextReading,
 }
 
-/// The text of a tree, with its reading after another one, where that is the tree, white space and
-/// comments aside.
+/// Returns the text of `tree` with its reading; `before` is the parse of another text.
+///
+/// # Errors
+///
+/// - [`CommitError::TooLong`] if the text has more than [`MAX_TEXT`] bytes.
+/// - [`CommitError::Unfaithful`] if the tree of the reading differs from `tree` in more than
+///   whitespace and comments.
+/// - [`CommitError::NoMemory`] if an allocation fails.
 fn read_back(
     alloc: Global,
     grammar: Grammar,
@@ -109,7 +115,7 @@ fn annotated_ranges(
         return Ok(Vec::new(alloc));
     }
     let came_from = origins_of(alloc, pieces)?;
-    // (the number is of a source of its own: these handles are gone when their ranges are told)
+    // (a separate source of tree numbers: these handles are dropped when their ranges are known)
     let Ok(root) = SyntaxNode::new_root(alloc, tree, &mut TreeIds::new()) else {
         return Err(AllocError);
     };

@@ -6,9 +6,9 @@ use std::fmt;
 /// What is wrong at a place of a text: by the grammar, or with a token.
 #[derive(Clone, Copy, Debug, PartialEq, Eq)]
 pub enum SyntaxMessage {
-    /// What the parser says.
+    /// A message of the parser.
     Parser(Message),
-    /// What the lexer says, in words.
+    /// A message of the lexer, in words.
     Lexer(&'static str),
 }
 

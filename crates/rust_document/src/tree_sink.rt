@@ -62,7 +62,7 @@ fn put_exit(builder: &mut GreenNodeBuilder<'_>) -> Result<(), GreenError>
     builder.finish_node()
 }
 
-/// Lists a message, with the place where it stands.
+/// Appends a message, with the offset that it is about.
 fn put_message(
     errors: &mut Vec<SyntaxError>,
     message: Message,
@@ -116,7 +116,7 @@ pub(crate) struct Built {
     pub errors: Vec<SyntaxError>,
 }
 
-/// Builds the tree of a text from the parser's steps over its tokens. White space and comments go
+/// Builds the tree of a text from the parser's steps over its tokens. Whitespace and comments go
 /// where the steps and the leaves say.
 ///
 /// # Errors

@@ -1,4 +1,4 @@
--- What becomes of files that are shown one after another.
+-- The outcomes of files that are shown one after another.
 use Rattle.std.specs.Prelude.{◌≡◌, ◌⊎◌, ℕ, suc, ◌==◌, Bool, false, true, not, nat_lt, List, [], ◌∷◌, map, length, chars, Option, Some, None, Result, MatchResult, string_bytes, if◌then◌else◌}
 use Rattle.std.specs.List.{flat_map, list_any}
 use Rattle.file_target.specs.Files.{Files, FileState}
@@ -31,7 +31,7 @@ has_messages (Messages format) dialect text = not (length (messages_in dialect.g
 has_messages (Tokens format) dialect text = false
 has_messages (Tree format) dialect text = false
 
--- what becomes of a text
+-- the outcome of a text
 abbrev pub viewed : View → List ℕ → Dialect → List ℕ → Outcome
 viewed view path dialect text =
     if nat_lt MAX_TEXT (length text) then Long
@@ -41,11 +41,11 @@ abbrev pub viewed_if_any : View → List ℕ → Dialect → Option (List ℕ) �
 viewed_if_any view path dialect None = NotText
 viewed_if_any view path dialect (Some text) = viewed view path dialect text
 
--- what becomes of a file with these bytes
+-- the outcome of a file with these bytes
 abbrev pub outcome_of : View → Source → List ℕ → Outcome
 outcome_of view s bytes = viewed_if_any view (string_bytes s.path) s.dialect (decoded bytes)
 
--- what becomes of a file, if there is one
+-- the outcome of a file, if there is one
 abbrev pub outcome_if_any : View → Source → Option FileState → Outcome
 outcome_if_any view s None = Missing
 outcome_if_any view s (Some f) = outcome_of view s f.bytes
@@ -61,7 +61,7 @@ rows_in o = []
 abbrev pub rows_of_all : View → Files → List Source → List ℕ
 rows_of_all view files sources = flat_map (λ s. rows_in (outcome_in view files s)) sources
 
--- ---- the same in code
+-- ---- outcomes in code
 
 abbrev pub failed : FileError → Outcome
 failed NotFound = Missing

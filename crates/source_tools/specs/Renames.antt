@@ -54,8 +54,8 @@ abbrev pub opened : Dialect → List ℕ → State
 opened dialect text =
     record { edition = dialect.edition; grammar = dialect.grammar; text = text; number = 1 }
 
--- Why a text is not renamed in: the name is taken, or what the renamer says. Where both names are
--- plain and the new text is not too long, that is want of memory.
+-- Why a text is not renamed in: the name is taken, or the renamer's error. Where both names are
+-- plain and the new text is not too long, that error is one of `LacksRoom`.
 abbrev pub RefusesText : Renaming → Dialect → List ℕ → RenameFault → Type 0
 RefusesText n dialect text (File errors.TooLong) = MAX_TEXT < length text
 RefusesText n dialect text (File errors.NoMemory) = Unit {0}
@@ -100,20 +100,20 @@ RefusesState n s (Some f) e = RefusesBytes n s.dialect f.bytes e
 abbrev pub RefusesFile : Renaming → Files → Source → RenameFault → Type 0
 RefusesFile n files s e = RefusesState n s (files (string_bytes s.path)) e
 
--- ---- the same in code
+-- ---- renames in code
 
 abbrev pub changes_in : Option FileChange → List Change
 changes_in None = []
 changes_in (Some c) = change_in c ∷ []
 
--- what becomes of bytes that were read
+-- the result of renaming in bytes that were read
 abbrev pub IsRenamedBytes : Renaming → Source → List ℕ → Result (Option FileChange) RenameFault → Type 0
 IsRenamedBytes n s bytes r =
     MatchResult r
     (λ c. IsRenamable n s.dialect bytes × (changes_in c ≡ change_to (string_bytes s.path) bytes (renamed_bytes n s.dialect bytes)))
     (RefusesBytes n s.dialect bytes)
 
--- what becomes of a file
+-- the result of renaming in a file
 abbrev pub IsRenamedFile : Renaming → Files → Source → Result (Option FileChange) RenameFault → Type 0
 IsRenamedFile n files s r =
     MatchResult r (λ c. IsRenamableFile n files s × (changes_in c ≡ changes_of n files s)) (RefusesFile n files s)

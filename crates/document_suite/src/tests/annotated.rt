@@ -41,7 +41,7 @@ fn record(
     Ok(())
 }
 
-/// An editor that puts one annotated expression in the place of both literals.
+/// Returns an editor that replaces both literals with one annotated expression.
 fn recorded(
     alloc: Global,
     document: &Document,
@@ -64,7 +64,7 @@ fn committed(alloc: Global, put: &str, mark: SyntaxAnnotation) -> Result<Committ
     Ok(document.commit(alloc, editor, &mut ids)?)
 }
 
-/// One payload that is put in twice is found twice, in the order of the tree.
+/// One payload that is inserted twice is found twice, in the order of the tree.
 #[test]
 fn payloads_are_found_where_they_stand(rt: HostRuntime) -> Result<(), Fail> {
     let mark = Annotations::new().next()?;

@@ -86,7 +86,7 @@ const INNER: Row = Row {
     errors: &[],
 };
 
-/// The missing name is told where the last leaf before it ends; the comment stands after that.
+/// The error of the missing name is at the end of the last token before it; the comment follows.
 const INSIDE: Row = Row {
     text: "struct /* n */ ;",
     tree: &[

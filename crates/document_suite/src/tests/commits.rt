@@ -145,7 +145,8 @@ fn nothing_recorded(rt: HostRuntime) -> Result<(), Fail> {
     Ok(())
 }
 
-/// What becomes of `struct S; // t` where an element is put for its space in front of the name.
+/// Returns the result of replacing the space in front of the name of `struct S; // t`: the error,
+/// and whether the text is the new one.
 fn commented(alloc: Global, token: &'static str) -> Result<(Option<CommitError>, bool), Fail> {
     let mut ids = TreeIds::starting_at(2);
     let mut document = open(alloc, "struct S; // t")?;
@@ -180,7 +181,8 @@ fn an_older_editor(rt: HostRuntime) -> Result<(), Fail> {
     Ok(())
 }
 
-/// What becomes of `struct S;` where its space is so many spaces: its length.
+/// Returns the result of replacing the space of `struct S;` with `count` spaces: the error, and the
+/// length of the text.
 fn spaced(alloc: Global, count: usize) -> Result<(Option<CommitError>, usize), Fail> {
     let mut ids = TreeIds::starting_at(2);
     let text = spaces(alloc, count)?;
@@ -198,7 +200,8 @@ fn the_limit(rt: HostRuntime) -> Result<(), Fail> {
     Ok(())
 }
 
-/// What becomes of `struct S;` where its root is put for itself: the changed range, and the number of the tree.
+/// Returns the result of replacing the root of `struct S;` with itself: the changed range, and the
+/// number of the tree.
 fn put_again(alloc: Global) -> Result<(Result<Option<TextRange>, CommitError>, u32), Fail> {
     let mut document = open(alloc, "struct S;")?;
     let root = found(alloc, &document, ROOT)?;

@@ -248,7 +248,7 @@ fn ranges(rt: HostRuntime) -> Result<(), Fail> {
     Ok(())
 }
 
-/// Why so many spaces, and then one, are not put after `struct S;`.
+/// Returns the errors of inserting too many spaces, and then one, after `struct S;`.
 fn refusals(
     alloc: Global,
     document: &mut Document,

@@ -1,4 +1,4 @@
-//! Editors of one document, put together.
+//! Merged editors of one document.
 use super::{Place, found, open};
 use parser_input::syntax_kind::SyntaxKind;
 use rust_document::{CommitError, Document, SyntaxEditor};
@@ -19,7 +19,7 @@ fn deleting(alloc: Global, document: &Document, place: Place) -> Result<SyntaxEd
     Ok(editor)
 }
 
-/// An editor that deletes two elements, put together of one for each.
+/// Returns an editor that deletes two elements, merged from one editor for each.
 fn merged(
     alloc: Global,
     document: &Document,
@@ -33,7 +33,8 @@ fn merged(
     Ok(editor)
 }
 
-/// Whether two editors put together, each of which deletes a struct, are refused so, and the text is this then.
+/// Returns `true` if committing two merged editors, each of which deletes a struct, returns
+/// `refusal` and leaves the text `becomes`.
 fn is_answered(
     alloc: Global,
     places: (Place, Place),

@@ -1,4 +1,4 @@
-//! A node of no text: what is put in it, and that it cannot go.
+//! A node without text: insertions into it, and why it cannot be deleted.
 use super::open;
 use super::opening::{Row, is_row};
 use parser_input::edition::Edition;
@@ -71,7 +71,7 @@ fn deleting(alloc: Global, document: &Document) -> Result<SyntaxEditor, Fail> {
     Ok(editor)
 }
 
-/// Two editors put together, each of which deletes the list.
+/// Returns two merged editors, each of which deletes the list.
 fn deleting_twice(alloc: Global, document: &Document) -> Result<SyntaxEditor, Fail> {
     let mut editor = deleting(alloc, document)?;
     let second = deleting(alloc, document)?;
@@ -81,7 +81,7 @@ fn deleting_twice(alloc: Global, document: &Document) -> Result<SyntaxEditor, Fa
     Ok(editor)
 }
 
-/// What becomes of the list.
+/// A change of the list.
 #[derive(Clone, Copy)]
 enum Change {
     Named,

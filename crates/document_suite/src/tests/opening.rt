@@ -452,7 +452,7 @@ fn no_number_is_left(rt: HostRuntime) {
     assert!(rt; refusal(rt.alloc(), "struct S;", &mut ids) == Some(OpenError::NoTreeNumber));
 }
 
-/// Why so many spaces are not opened.
+/// Returns the error of opening a text of `count` spaces.
 fn refusal_of_spaces(alloc: Global, count: usize) -> Result<Option<OpenError>, AllocError> {
     let text = spaces(alloc, count)?;
     Ok(refusal(alloc, text.as_str(), &mut TreeIds::new()))

@@ -1,4 +1,4 @@
-//! Texts that are put in the place of an element.
+//! Texts that replace an element.
 use super::{range, spaces};
 use parser_input::edition::Edition;
 use parser_input::syntax_kind::SyntaxKind;
@@ -138,7 +138,7 @@ fn other_texts(rt: HostRuntime) {
     assert!(rt; ids.next() == Ok(1));
 }
 
-/// Whether so many spaces are too long.
+/// Returns `true` if `count` spaces are too long.
 fn is_too_long(alloc: Global, count: usize) -> Result<bool, AllocError> {
     let text = spaces(alloc, count)?;
     Ok(seen(alloc, text.as_str(), &mut TreeIds::new()) == Err(PayloadError::TooLong))

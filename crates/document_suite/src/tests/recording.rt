@@ -25,7 +25,8 @@ fn answer_to(alloc: Global, target: &SyntaxElement) -> Result<Option<RecordError
     answer(alloc, editor, target)
 }
 
-/// What it answers where the element stands in another text, whose tree has this number.
+/// Returns the error of recording a change whose target is in another text; `number` is the number
+/// of that text's tree.
 fn of_another(
     alloc: Global,
     text: &str,
@@ -82,7 +83,7 @@ fn answer_to_second(alloc: Global, document: &Document) -> Result<Option<RecordE
     answer(alloc, editor, &semicolon)
 }
 
-/// The same of a new document.
+/// Returns the answer to a second element in a new document.
 fn second_answer(alloc: Global) -> Result<Option<RecordError>, Fail> {
     let document = open(alloc, "struct S;")?;
     answer_to_second(alloc, &document)

@@ -1,5 +1,6 @@
-//! Calls that are made again where memory was refused: a refusal leaves the document as it was, and the same call then does what ample
-//! memory has it do. `bench/refused.py` runs these with each request for memory refused in turn.
+//! Calls that are repeated after an allocation failed: on error, the document is unchanged, and the
+//! repeated call then has the result that it has with ample memory. `bench/refused.py` runs these
+//! with each allocation failing in turn.
 use super::opening::{CALL, FLOAT, NO_ATTRIBUTE, Row, is_row};
 use super::{Place, range};
 use parser_input::edition::Edition;
@@ -18,7 +19,7 @@ fn opened(alloc: Global, text: &str, ids: &mut TreeIds) -> Result<Document, Fail
     }
 }
 
-/// Whether an edit gives this text, made again where memory was refused.
+/// Returns `true` if an edit, repeated after an allocation failed, results in `becomes`.
 fn is_edited(
     alloc: Global,
     row: &Row,
@@ -45,7 +46,8 @@ fn is_edited(
     Ok(false)
 }
 
-/// An editor that puts what a text is read as for elements of a document. None where memory was refused.
+/// Returns an editor that replaces elements of a document with a parsed text. None if an allocation
+/// failed.
 fn recorded(
     alloc: Global,
     document: &Document,

@@ -1,4 +1,5 @@
-//! Commits of several changes: all are made at once, or the first refusal that holds is given.
+//! Commits of several changes: all are applied atomically, or the first error that fits is
+//! returned.
 use super::{Place, found, has_text, open, range};
 use parser_input::edition::Edition;
 use parser_input::syntax_kind::SyntaxKind;
@@ -9,7 +10,7 @@ use std::alloc::Global;
 use std::test::Fail;
 use syntax_tree::{Position, SyntaxElement, TreeIds};
 
-/// What is put in.
+/// A new element.
 #[derive(Clone, Copy)]
 enum New {
     Token(&'static str),
@@ -20,16 +21,16 @@ enum New {
     Use(&'static str),
 }
 
-/// What becomes of an element.
+/// A change of an element.
 #[derive(Clone, Copy)]
 enum Change {
-    /// Another one stands in its place.
+    /// A new element replaces it.
     Put(New),
     /// Another one comes before it.
     Before(New),
     /// Another one comes after it.
     After(New),
-    /// Another one comes after it, with the white space that has to be between them.
+    /// A new element comes after it, with the whitespace that has to be between them.
     Spaced(New),
     Delete,
     /// It goes, with all siblings up to this one.
@@ -65,7 +66,7 @@ fn item(
     }
 }
 
-/// The element that is put in.
+/// Returns the new element.
 fn made(alloc: Global, new: New, ids: &mut TreeIds) -> Result<SyntaxElement, Fail> {
     let edition = Edition::Edition2021;
     match new {
@@ -114,7 +115,7 @@ fn insert_after(
     Ok(())
 }
 
-/// Records that an element is put in next to another.
+/// Records the insertion of an element next to another.
 fn insert(
     alloc: Global,
     editor: &mut SyntaxEditor,
@@ -130,7 +131,7 @@ fn insert(
     }
 }
 
-/// Records that an element comes after another, with white space between them.
+/// Records the insertion of an element after another, with whitespace between them.
 fn insert_spaced(
     alloc: Global,
     editor: &mut SyntaxEditor,
@@ -205,7 +206,8 @@ fn recorded(
     Ok(editor)
 }
 
-/// A text, what becomes of its elements, and what the document answers: the ranges that changed, or a refusal; and its text then.
+/// A text, the changes of its elements, and the result of the commit: the changed ranges, or an
+/// error; and the text afterwards.
 #[derive(Clone, Copy)]
 struct Row {
     text: &'static str,
@@ -298,7 +300,7 @@ const UNITS_BEFORE: Row = Row {
     becomes: "fn f() { g(()1, ()2); }",
 };
 
-/// A deletion puts in nothing.
+/// A deletion inserts nothing.
 const NO_RESULT: Row = Row {
     text: "fn it() -> () {\n    ()\n}",
     changes: &[
@@ -413,7 +415,7 @@ const COLLIDING: Row = Row {
     becomes: "struct S; struct T;",
 };
 
-/// A change has no place, and two replace one element: that is told first.
+/// A change has no place, and two replace one element: the second of these errors is returned.
 const COLLIDING_WITHOUT_PLACE: Row = Row {
     text: "fn f() { g(1); }",
     changes: &[

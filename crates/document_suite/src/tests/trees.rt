@@ -15,7 +15,8 @@ fn numbers(rt: HostRuntime) {
     assert!(rt; last.next() == Ok(u32::MAX) && last.next().is_err() && last.next().is_err());
 }
 
-/// Of an element how deep it stands, where it begins, and whether it stands at its own way.
+/// Returns the depth of an element, its start in bytes, and whether `root` has an element at its
+/// up-path.
 fn place_of(
     alloc: Global,
     root: &SyntaxNode,
@@ -26,7 +27,7 @@ fn place_of(
     Ok((way.len(), element.text_range().start().0, again))
 }
 
-/// The same of the name below the root of `struct S;`; none where it is not found.
+/// Returns the place of the name below the root of `struct S;`, or `None` if it is not found.
 fn place_below(alloc: Global, root: &SyntaxNode) -> Result<Option<(usize, u32, bool)>, AllocError> {
     match root.find(alloc, SyntaxKind::IDENT, range(7, 8))? {
         Some(name) => Ok(Some(place_of(alloc, root, &name)?)),
@@ -57,7 +58,8 @@ fn root(alloc: Global, ids: &mut TreeIds) -> Result<(u32, SyntaxKind, u32), Tree
     Ok((root.tree(), root.kind(), root.text_range().len().0))
 }
 
-/// A token in a tree of its own, where the numbers last: the same of it.
+/// Returns the number, the kind and the length of a token that is the only child of a new root, if
+/// a tree number is left.
 fn detached(alloc: Global, ids: &mut TreeIds) -> Result<(u32, SyntaxKind, u32), TreeError> {
     let token = token(alloc, SyntaxKind::IDENT, "Tee")?;
     let token = SyntaxToken::detached(alloc, token, ids)?;

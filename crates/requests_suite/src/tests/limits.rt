@@ -6,7 +6,7 @@ use std::test::Fail;
 
 const TOO_LONG: &str = "{\"err\":\"TooLong\"}\n";
 
-/// A text after so many spaces.
+/// Returns `text` after `count` spaces.
 fn after_spaces(alloc: Global, count: usize, text: &str) -> Result<String, AllocError> {
     let mut whole = String::with_capacity(alloc, count)?;
     for _ in 0..count {

@@ -10,8 +10,9 @@ use std::alloc::Global;
 use syntax_tree::{SyntaxElement, TreeIds};
 
 impl Document {
-    /// Reads a text to be put in the place of an element, by the edition and the grammar of the
-    /// document: the tree of an entry, or a token in a tree of its own, with the next number of `ids`.
+    /// Parses `text` as a new element for an editor, by the edition and the grammar of the
+    /// document: the tree of an entry, or a token as the only child of a new root. The new tree has
+    /// the next number of `ids`.
     ///
     /// # Errors
     ///

@@ -1,4 +1,4 @@
--- Equal prefaces are told by their bytes, those of the shebangs, and whether there are frontmatters.
+-- Equal prefaces are recognized by their bytes, those of the shebangs, and whether there are frontmatters.
 use Rattle.std.proofs.Common.{◌≡◌, ◌≤◌, chars, sym, ◌∙◌, ap, arith}
 use Rattle.rustc_lexer.specs.Characters.{size}
 use Rattle.plain_names.specs.LeafNames.{texts}

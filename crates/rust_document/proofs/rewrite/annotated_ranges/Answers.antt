@@ -1,4 +1,4 @@
--- The elements are found in the rewritten tree, and their ranges are told.
+-- The elements are found in the rewritten tree, and their ranges are returned.
 use Rattle.std.proofs.Common.{map, ap, sym, subst, ◌∙◌}
 use Rattle.std.proofs.lemmas.Result.{IfOk-weaker}
 use Rattle.syntax_tree.specs.Element.{Element}
