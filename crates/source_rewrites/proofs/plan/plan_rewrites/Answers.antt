@@ -2,7 +2,7 @@ use Rattle.std.proofs.Common.{◌≡◌, ◌∙◌, ◌+◌, ◌++◌, ◌∷◌
 use Rattle.std.proofs.lemmas.List.{take_more, take_all}
 use Rattle.std.specs.Option.{option_to_list}
 use Rattle.source_rewrites.specs.declared.rewrite.Rewrite.{Rewrite}
-use Rattle.source_rewrites.proofs.RewriteLemmas.{IfPlanned, planned-more, plan-made, plan-memory}
+use Rattle.source_rewrites.proofs.RewriteLemmas.{IfPlanned, planned-more, plan-made, plan-memory, plan-refused}
 use Rattle.source_rewrites.proofs.plan.plan_rewrites.Goals as goal
 
 pub loop-index-preserved : goal.loop-index-preserved
@@ -16,6 +16,11 @@ loop-index-preserved g c =
     rw c.in-Ok-push_change.ensures.pushed
     (subst (λ (ss : List Rewrite). IfPlanned n files ss (c.loop-index.changes.items ++ option_to_list c.in-Ok.change)) (sym more)
     (planned-more n files done s c.loop-index.changes.items c.rewrite_file.result c.in-Ok.change c.in-Ok.is c.rewrite_file.ensures c.loop-index.invariant))
+
+pub returns-in-Err : goal.returns-in-Err
+returns-in-Err g c =
+    plan-refused c.args.rule c.args.rewrites.now c.loop-index.index c.index-rewrites-index.result c.loop-index-test.true c.index-rewrites-index.is c.in-Err.fault
+    (g.T.Target.files c.args.target.now) c.rewrite_file.result c.in-Err.is c.rewrite_file.ensures
 
 pub returns-in-Err-push_change : goal.returns-in-Err-push_change
 returns-in-Err-push_change g c =

@@ -2,7 +2,7 @@ use Rattle.std.proofs.Common.{◌≡◌, ◌∙◌, ◌+◌, ◌++◌, ◌∷◌
 use Rattle.std.proofs.lemmas.List.{take_more, take_all}
 use Rattle.std.specs.Option.{option_to_list}
 use Rattle.source_tools.specs.declared.source.Source.{Source}
-use Rattle.source_tools.proofs.RenameLemmas.{IfPlanned, planned-more, plan-made, plan-memory}
+use Rattle.source_tools.proofs.RenameLemmas.{IfPlanned, planned-more, plan-made, plan-memory, plan-refused}
 use Rattle.source_tools.proofs.plan.plan_renames.Goals as goal
 
 pub loop-index-preserved : goal.loop-index-preserved
@@ -16,6 +16,11 @@ loop-index-preserved g c =
     rw c.in-Ok-push_change.ensures.pushed
     (subst (λ (ss : List Source). IfPlanned n files ss (c.loop-index.changes.items ++ option_to_list c.in-Ok.change)) (sym more)
     (planned-more n files done s c.loop-index.changes.items c.rename_file.result c.in-Ok.change c.in-Ok.is c.rename_file.ensures c.loop-index.invariant))
+
+pub returns-in-Err : goal.returns-in-Err
+returns-in-Err g c =
+    plan-refused c.args.renaming.now c.args.sources.now c.loop-index.index c.index-sources-index.result c.loop-index-test.true c.index-sources-index.is c.in-Err.fault
+    (g.T.Target.files c.args.target.now) c.rename_file.result c.in-Err.is c.rename_file.ensures
 
 pub returns-in-Err-push_change : goal.returns-in-Err-push_change
 returns-in-Err-push_change g c =
