@@ -10,7 +10,7 @@ use std::alloc::Global;
 /// What became of a call over files.
 #[derive(Drop)]
 pub(crate) enum Outcome {
-    /// So many files were written.
+    /// The number of files that were written.
     Written(usize),
     /// The file with this index was refused.
     Refused(usize),
