@@ -54,8 +54,8 @@ pub record AreParts (s : Held) (number : ℕ) (name : List ℕ) (p : Parts) : Ty
   pub parent_is : parent_of p.statement ≡ Some p.parent
   pub indent_is : IsLineIndent s.document.text p.statement p.indent
   pub binding_is :
-      IsFound only_node s.next (statements_payload s.document.edition (binding_text name p.argument)) p.binding
-  pub path_is : IsFound (first_node PATH_EXPR) (s.next + 1) (expression_payload s.document.edition name) p.path
+      IsFound only_node s.next (statements_payload s.document.grammar s.document.edition (binding_text name p.argument)) p.binding
+  pub path_is : IsFound (first_node PATH_EXPR) (s.next + 1) (expression_payload s.document.grammar s.document.edition name) p.path
 
 -- The name was no identifier of the text, and exactly the two changes are made.
 pub record IsExtracted (s : Held) (number : ℕ) (name : List ℕ) (after : State) : Type 0 where

@@ -8,6 +8,7 @@ use Rattle.rename_tool.specs.declared.Renaming.TheVariants.{Done, NameIsTaken}
 pub record IsRenamed (old new : List ℕ) (before after : State) : Type 0 where
   pub is_free : has_identifier new before ≡ false
   pub edition : after.edition ≡ before.edition
+  pub grammar : after.grammar ≡ before.grammar
   pub text : after.text ≡ renamed_text old new (present before)
 
 -- The new name was one already, and nothing is replaced.

@@ -389,6 +389,7 @@ impl Source {
         ensures text { OnOk result (self.new.document.text
             ≡ renamed_text old.now new.now (present self.old.document)) }
         ensures edition { OnOk result (self.new.document.edition ≡ self.old.document.edition) }
+        ensures grammar { OnOk result (self.new.document.grammar ≡ self.old.document.grammar) }
         ensures tree { OnOk result (self.new.document.number ≡ self.old.next + 1) }
         ensures number { OnOk result (self.new.next ≡ self.old.next + 2) }
         ensures plain { IfErr result (λ error. IsPlain self.old.document old.now new.now

@@ -27,10 +27,11 @@ recorded s h p start one two doc num fresh inserted own replaced last =
     last ∙ (λ j. with_changes (o j) (both j))
 
 changed :
-    (d old after : State) (e f : Editing) → old ≡ d → e ≡ f → verdict old e ≡ Accepted → HaveNoMessages old e → after.edition ≡ old.edition → after.text ≡ tree_text (rewritten e)
+    (d old after : State) (e f : Editing) → old ≡ d → e ≡ f → verdict old e ≡ Accepted → HaveNoMessages old e → after.edition ≡ old.edition → after.grammar ≡ old.grammar
+    → after.text ≡ tree_text (rewritten e)
     → ChangesBy d after f
-changed d old after e f doc same accepted no_messages edition text =
-    let made : ChangesBy old after e = record { accepted = accepted; no_messages = no_messages; edition = edition; text = text } in
+changed d old after e f doc same accepted no_messages edition grammar text =
+    let made : ChangesBy old after e = record { accepted = accepted; no_messages = no_messages; edition = edition; grammar = grammar; text = text } in
     subst (λ (x : State). ChangesBy x after f) doc (subst (λ (x : Editing). ChangesBy old after x) same made)
 
 pub returns-clause-answers : goal.returns-clause-answers
@@ -56,15 +57,16 @@ returns-clause-answers c =
         statement_is = sym c.in_ok-statement.ensures ∙ c.in-Some-2.is;
         parent_is = put.parent_is;
         indent_is = subst (λ (d : State). IsLineIndent d.text c.in-Some-2.statement put.indent) doc2 put.indent_is;
-        binding_is = subst (λ (x : List ℕ). IsFound only_node s.next (statements_payload s.document.edition x) c.in_ok-payload_statement.field-0) text c.in_ok-payload_statement.ensures.found;
+        binding_is = subst (λ (x : List ℕ). IsFound only_node s.next (statements_payload s.document.grammar s.document.edition x) c.in_ok-payload_statement.field-0) text c.in_ok-payload_statement.ensures.found;
         path_is =
-            subst (λ (n : ℕ). IsFound (first_node PATH_EXPR) n (expression_payload s.document.edition name) path) next1
-            (subst (λ (d : State). IsFound (first_node PATH_EXPR) c.payload_statement.new.self.next (expression_payload d.edition name) path) doc1 c.in_ok-path.ensures.found);
+            subst (λ (n : ℕ). IsFound (first_node PATH_EXPR) n (expression_payload s.document.grammar s.document.edition name) path) next1
+            (subst (λ (d : State). IsFound (first_node PATH_EXPR) c.payload_statement.new.self.next (expression_payload d.grammar d.edition name) path) doc1 c.in_ok-path.ensures.found);
       };
       changed =
           changed s.document c.insert_on_line_before.new.self.document c.commit_without_messages.new.self.document c.replace.new.self (extraction s parts) doc3
           (recorded s c.payload_node.new.self parts c.in_ok-editor.editor c.insert_on_line_before.new.editor c.replace.new.self doc2 next2 c.in_ok-editor.ensures put.recorded
           c.in_ok-insert_on_line_before.ensures.rest c.in_ok-replace.ensures.recorded c.in_ok-replace.ensures.rest)
           c.in_ok-commit_without_messages.ensures.accepted c.in_ok-commit_without_messages.ensures.no_messages (ap (λ (h : Held). h.document.edition) c.in_ok-commit_without_messages.ensures.state)
+          (ap (λ (h : Held). h.document.grammar) c.in_ok-commit_without_messages.ensures.state)
           (ap (λ (h : Held). h.document.text) c.in_ok-commit_without_messages.ensures.state);
     }
