@@ -30,8 +30,8 @@ module _ {X C : Type 0} (of : Data → Option X) (seen : C → X) where
   map_last : (old : List C) (c : C) → map seen (old ++ c ∷ []) ≡ map seen old ++ seen c ∷ []
   map_last [] c = refl
   map_last (x ∷ old) c = ap (λ cs. seen x ∷ cs) (map_last old c)
+      -- what was found and what is to be found in the rest, where `o` is the value of the next item
 
-    -- what was found and what is to be found in the rest, where `o` is the value of the next item
   abbrev with_rest : List X → Items → Option X → Option (List X)
   with_rest done ds o = option_map (λ xs. done ++ xs) (option_and_then (λ x. option_map (λ xs. x ∷ xs) (all_in of ds)) o)
 

@@ -18,8 +18,8 @@ abbrev mutual
   pub outside_strings : List ℕ → List ℕ
   outside_strings [] = []
   outside_strings (c ∷ s) = c ∷ (if c == quote then after_string s else outside_strings s)
+      -- the variant that starts inside a string; a backslash precedes a character that does not end the string
 
-    -- the variant that starts inside a string; a backslash precedes a character that does not end the string
   pub after_string : List ℕ → List ℕ
   after_string [] = []
   after_string (c ∷ []) = []

@@ -22,9 +22,9 @@ pub use renamer::RenameError;
 pub use rowan_green::{TextRange, TextSize};
 pub use rust_document::{
     Annotations, CommitError, Committed, Difference, EditError, Edited, IndentLevel, LexedToken,
-    MakeError, MergeError, OpenError, PayloadEntry, PayloadError, RecordError, Space, SyntaxAnnotation,
-    SyntaxEditor, SyntaxError, SyntaxMessage, Tokens, WhitespaceError, WithoutMessagesError,
-    is_plain_name,
+    MakeError, MergeError, OpenError, PayloadEntry, PayloadError, RecordError, Space,
+    SyntaxAnnotation, SyntaxEditor, SyntaxError, SyntaxMessage, Tokens, WhitespaceError,
+    WithoutMessagesError, is_plain_name,
 };
 pub use source::Source;
 pub use syntax_tree::{

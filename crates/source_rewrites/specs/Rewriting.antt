@@ -56,6 +56,6 @@ rewriting rule i (c ∷ cs) s =
     elim (refusal_of (answer_by rule c s).reply) [
       | None ↦ rewriting rule (suc i) cs (answer_by rule c s).after
       | Some refusal ↦
-        let after = (answer_by rule c s).after in
-        Stopped i refusal (line_col Utf32 after.document.text (start_of c)) (difference_of c after)
+          let after = (answer_by rule c s).after in
+          Stopped i refusal (line_col Utf32 after.document.text (start_of c)) (difference_of c after)
     ]

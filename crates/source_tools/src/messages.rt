@@ -85,7 +85,7 @@ pub(crate) fn push_messages(
     ensures { OnOk result (rows.new.items ≡ rows.old.items
         ++ flat_map (rows_of_message path.now document.now.text)
         (messages_in document.now.grammar document.now.edition
-            (chars document.now.text))) }
+        (chars document.now.text))) }
 {
     let index = LineIndex::try_new(alloc, document.text())?;
     push_errors(alloc, path, &index, document.errors(), rows)?;
@@ -150,7 +150,7 @@ pub(crate) fn push_message_list(
     ensures { OnOk result (rows.new.items ≡ rows.old.items ++ file_object path.now (codes "messages")
         (flat_map (item_of_message document.now.text)
         (messages_in document.now.grammar document.now.edition
-            (chars document.now.text)))) }
+        (chars document.now.text)))) }
 {
     let index = LineIndex::try_new(alloc, document.text())?;
     let mut items = Vec::new(alloc);

@@ -1,8 +1,8 @@
 //! Files in memory.
 
 use crate::{
-    Dialect, FileError, Format, RenameFault, Renaming, Source, Stop, Summary, View, plan_renames, show,
-    write_diffs,
+    Dialect, FileError, Format, RenameFault, Renaming, Source, Stop, Summary, View, plan_renames,
+    show, write_diffs,
 };
 use file_target::Memory;
 use parser_input::Edition;

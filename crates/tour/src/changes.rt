@@ -32,7 +32,10 @@ fn unfaithful(rt: &HostRuntime, source: &mut Source) -> anyhow::Result<()> {
     // 9. Where the new text would not read as the rewritten tree.
     if let Some(found) = source.difference(&editor)? {
         let (start, end) = (found.range.start().0, found.range.end().0);
-        println!(rt; "difference at {start}..{end}: {:?}, not {:?}", found.wanted, found.read)?;
+        println!(rt;
+            "difference at {start}..{end}: {:?}, not {:?}",
+            found.wanted, found.read
+        )?;
     }
     // 10. A commit that is refused changes nothing.
     match source.commit(editor) {

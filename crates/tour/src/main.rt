@@ -14,7 +14,11 @@ fn main(rt: HostRuntime) -> anyhow::Result<()> {
     let alloc = rt.alloc();
     // 1. A text is opened. Every text of at most 16 MiB is.
     let mut source = Source::open_by(alloc, Edition::Edition2021, Grammar::Whole, TEXT)?;
-    println!(rt; "opened: {} bytes, tree {}", source.text().len(), source.root().tree())?;
+    println!(rt;
+        "opened: {} bytes, tree {}",
+        source.text().len(),
+        source.root().tree()
+    )?;
     reading::read(&rt, &source)?;
     changes::change(&rt, &mut source)?;
     Ok(())
