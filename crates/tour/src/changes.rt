@@ -100,7 +100,10 @@ pub(crate) fn change(rt: &HostRuntime, source: &mut Source) -> anyhow::Result<()
     source.insert_on_line_before(&mut editor, &call, &SyntaxElement::Node(statement))?;
     source.commit(editor)?;
     // 16. Bytes are replaced, as by a keystroke, whatever the new text reads as; identifiers are renamed.
-    source.edit(range(3, 4), "twice")?;
+    let at = range(3, 4);
+    if source.can_edit(at) {
+        source.edit(at, "twice")?;
+    }
     source.rename("a", "number")?;
     print!(rt; "{}", source.text())?;
     println!(rt; "tree {}", source.root().tree())?;
