@@ -1,6 +1,6 @@
 //! Const arguments, and defaults of const parameters.
 
-ghost use Rattle.std.specs.Prelude.{◌≤◌, Bool};
+ghost use Rattle.std.specs.Prelude.{Bool};
 ghost use Rattle.parser_input.specs.Kinds.{PATH_EXPR};
 ghost use Rattle.rust_grammar.specs.Calls.{ExprPath};
 ghost use Rattle.rust_grammar.specs.Notation.{◌!, ◌⟨◌⟩};

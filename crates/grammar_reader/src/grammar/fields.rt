@@ -17,7 +17,7 @@ ghost use Rattle.rust_productions.specs.Reads.{looks, Anew, Completes, Gives, Re
 use crate::grammar::attributes::attribute;
 use crate::grammar::expressions::{Level, expect_expression, expression};
 use crate::grammar::items::attributes;
-use crate::grammar::or_patterns::expect_pattern;
+use crate::grammar::parts::{Part, expect_part};
 use crate::grammar::paths::{Mode, path_with_args};
 use crate::grammar::patterns::rest_pat;
 use parser_events::parser::{Marker, Parser};
@@ -184,7 +184,7 @@ fn after_attributes(p: &mut Parser<'_>, node: Marker)
     if at_attributed_named_field(p) {
         name_of_field(p);
         take(p, SyntaxKind::COLON);
-        expect_pattern(p);
+        expect_part(p, Part::Pattern);
         complete(p, node, SyntaxKind::RECORD_PAT_FIELD);
         return;
     }
@@ -217,7 +217,7 @@ fn named_pattern(p: &mut Parser<'_>)
     let node = start(p);
     name_of_field(p);
     take(p, SyntaxKind::COLON);
-    expect_pattern(p);
+    expect_part(p, Part::Pattern);
     complete(p, node, SyntaxKind::RECORD_PAT_FIELD);
 }
 

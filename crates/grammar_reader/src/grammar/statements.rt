@@ -15,13 +15,13 @@ ghost use Rattle.rust_productions.specs.Starts.{StartsIn};
 
 use crate::grammar::attributes::attribute;
 use crate::grammar::expressions::closures::opt_type;
-use crate::grammar::expressions::control::{block_like, expect_block};
+use crate::grammar::expressions::control::block_like;
 use crate::grammar::expressions::expression;
 use crate::grammar::expressions::operand::{postfix, postfixes};
 use crate::grammar::items::consts::opt_value;
 use crate::grammar::items::item;
 use crate::grammar::list_end::{ListEnd, at_end_of};
-use crate::grammar::or_patterns::expect_pattern;
+use crate::grammar::parts::{Part, expect_part};
 use parser_events::message::Message;
 use parser_events::parser::{Marker, Parser};
 use parser_input::syntax_kind::SyntaxKind;
@@ -114,7 +114,7 @@ fn defer_stmt(p: &mut Parser<'_>)
 {
     let node = start(p);
     take(p, SyntaxKind::DEFER_KW);
-    expect_block(p);
+    expect_part(p, Part::Block);
     complete(p, node, SyntaxKind::DEFER_STMT);
 }
 
@@ -128,7 +128,7 @@ fn let_stmt(p: &mut Parser<'_>)
 {
     let node = start(p);
     take(p, SyntaxKind::LET_KW);
-    expect_pattern(p);
+    expect_part(p, Part::Pattern);
     opt_type(p, false);
     opt_value(p, false);
     opt_else(p);
@@ -158,7 +158,7 @@ fn let_else(p: &mut Parser<'_>)
 {
     let node = start(p);
     take(p, SyntaxKind::ELSE_KW);
-    expect_block(p);
+    expect_part(p, Part::Block);
     complete(p, node, SyntaxKind::LET_ELSE);
 }
 

@@ -16,19 +16,16 @@ ghost use Rattle.rust_productions.specs.Starts.{Starts, StartsIn};
 use crate::grammar::expressions::closures::{closure_expr, move_closure};
 use crate::grammar::expressions::control::block_like;
 use crate::grammar::expressions::{Level, expect_expression, expression, operation};
-use crate::grammar::lists::{Element, field_values, rest_of_list, tuple_tail};
-use crate::grammar::or_patterns::expect_pattern;
+use crate::grammar::lists::{Element, ListKind, list, rest_of_list, tuple_tail};
+use crate::grammar::parts::{Part, expect_part};
 use crate::grammar::paths::{Mode, path_with_args};
 use crate::grammar::types::word_type;
-use parser_events::message::Message;
 use parser_events::parser::{Marker, Parser};
 use parser_input::syntax_kind::SyntaxKind;
 use rust_productions::grammar::expressions::{at_block_like, at_body, at_expression, at_operation};
 use rust_productions::grammar::names::{at_literal, literal};
 use rust_productions::grammar::token_trees::expect_token_tree;
-use rust_productions::grammar::{
-    abandon, at, at_pair, complete, current, error, expect, start, take, wrap,
-};
+use rust_productions::grammar::{at, at_pair, complete, current, expect, start, take, wrap};
 
 /// Parses an expression without operators, within `frame`, which the caller abandons.
 // (a)
@@ -116,7 +113,7 @@ fn after_path(p: &mut Parser<'_>, frame: Marker, condition: bool) -> Marker
         return wrap(p, frame, SyntaxKind::PATH_EXPR);
     }
     if at(p, SyntaxKind::L_CURLY) {
-        field_values(p);
+        list(p, ListKind::FieldValues);
         return wrap(p, frame, SyntaxKind::RECORD_EXPR);
     }
     wrap(p, frame, SyntaxKind::PATH_EXPR)
@@ -263,7 +260,7 @@ fn let_expr(p: &mut Parser<'_>, condition: bool)
 {
     let node = start(p);
     take(p, SyntaxKind::LET_KW);
-    expect_pattern(p);
+    expect_part(p, Part::Pattern);
     expect(p, SyntaxKind::EQ);
     expect_expression(p, Level::Comparison, condition);
     complete(p, node, SyntaxKind::LET_EXPR);

@@ -11,15 +11,14 @@ ghost use Rattle.rust_grammar.specs.Shared.{type_annotation};
 ghost use Rattle.rust_productions.specs.Looks.{tokens, Takes, Asks};
 ghost use Rattle.rust_productions.specs.Reads.{looks, Reads, Saw};
 
-use crate::grammar::expressions::control::expect_block;
 use crate::grammar::expressions::{Level, expect_expression};
-use crate::grammar::lists::{Element, rest_of_list};
+use crate::grammar::lists::{ListKind, list};
+use crate::grammar::parts::{Part, expect_part};
 use crate::grammar::patterns::single_pattern;
-use crate::grammar::types::{expect_type, ret_type};
-use parser_events::message::Message;
+use crate::grammar::types::ret_type;
 use parser_events::parser::Parser;
 use parser_input::syntax_kind::SyntaxKind;
-use rust_productions::grammar::{at, at_pair, complete, error, start, take};
+use rust_productions::grammar::{at, at_pair, complete, start, take};
 
 /// Parses a closure expression without `move`.
 // |a| a + 1
@@ -31,7 +30,7 @@ pub(crate) fn closure_expr(p: &mut Parser<'_>, condition: bool)
     ensures takes { Takes 3280 p.old p.new }
 {
     let node = start(p);
-    closure_params(p);
+    list(p, ListKind::ClosureParams);
     closure_body(p, condition);
     complete(p, node, SyntaxKind::CLOSURE_EXPR);
 }
@@ -47,42 +46,9 @@ pub(crate) fn move_closure(p: &mut Parser<'_>, condition: bool)
 {
     let node = start(p);
     take(p, SyntaxKind::MOVE_KW);
-    expect_closure_params(p);
+    expect_part(p, Part::ClosureParams);
     closure_body(p, condition);
     complete(p, node, SyntaxKind::CLOSURE_EXPR);
-}
-
-/// Parses closure parameters; emits an error if there are none.
-// |a, b: u8|
-#[cycle(grammar)]
-fn expect_closure_params(p: &mut Parser<'_>)
-    ensures reads { (c : Bool) → Reads c (rows.closure_params !) p.old p.new }
-    ensures asks { Asks 1 p.old p.new }
-{
-    if at(p, SyntaxKind::PIPE) {
-        closure_params(p);
-        return;
-    }
-    error(p, Message::Expected(SyntaxKind::PARAM_LIST));
-}
-
-/// Parses closure parameters.
-// |a, b: u8|
-#[cycle(grammar)]
-fn closure_params(p: &mut Parser<'_>)
-    requires some { 1 ≤ tokens p.old }
-    ensures reads { (c : Bool) → Reads c rows.closure_params p.old p.new }
-    ensures takes { Takes 4075 p.old p.new }
-{
-    let list = start(p);
-    take(p, SyntaxKind::PIPE);
-    rest_of_list(
-        p,
-        SyntaxKind::PARAM_LIST,
-        Element::ClosureParam,
-        SyntaxKind::PIPE,
-    );
-    complete(p, list, SyntaxKind::PARAM_LIST);
 }
 
 /// Parses a closure parameter.
@@ -109,7 +75,7 @@ pub(crate) fn opt_type(p: &mut Parser<'_>, condition: bool)
 {
     if at(p, SyntaxKind::COLON) {
         take(p, SyntaxKind::COLON);
-        expect_type(p);
+        expect_part(p, Part::Type);
     }
 }
 
@@ -122,7 +88,7 @@ fn closure_body(p: &mut Parser<'_>, condition: bool)
 {
     if at_pair(p, SyntaxKind::MINUS, SyntaxKind::R_ANGLE) {
         ret_type(p);
-        expect_block(p);
+        expect_part(p, Part::Block);
         return;
     }
     expect_expression(p, Level::Operation, condition);

@@ -11,10 +11,10 @@ ghost use Rattle.rust_productions.specs.Turns.{TakesTurn};
 ghost use Rattle.rust_productions.specs.Starts.{Starts};
 ghost use Rattle.rust_productions.specs.Moves.{Keeps};
 
-use crate::grammar::expressions::blocks::{block, statement_list};
+use crate::grammar::expressions::blocks::block;
 use crate::grammar::expressions::expect_condition;
 use crate::grammar::expressions::match_arm::match_arm;
-use crate::grammar::or_patterns::expect_pattern;
+use crate::grammar::parts::{Part, expect_part};
 use parser_events::message::Message;
 use parser_events::parser::Parser;
 use parser_input::syntax_kind::SyntaxKind;
@@ -44,34 +44,6 @@ pub(crate) fn block_like(p: &mut Parser<'_>)
     }
 }
 
-/// Parses statements in braces; emits an error if there are none.
-// { f(); a }
-#[cycle(grammar)]
-fn expect_statement_list(p: &mut Parser<'_>)
-    ensures reads { (c : Bool) → Reads c (StatementList !) p.old p.new }
-    ensures asks { Asks 1 p.old p.new }
-{
-    if at(p, SyntaxKind::L_CURLY) {
-        statement_list(p);
-        return;
-    }
-    error(p, Message::Expected(SyntaxKind::STMT_LIST));
-}
-
-/// Parses a block expression; emits an error if there is none.
-// { f(); a }
-#[cycle(grammar)]
-pub(crate) fn expect_block(p: &mut Parser<'_>)
-    ensures reads { (c : Bool) → Reads c (Block !) p.old p.new }
-    ensures asks { Asks 1 p.old p.new }
-{
-    if at(p, SyntaxKind::L_CURLY) {
-        block(p);
-        return;
-    }
-    error(p, Message::Expected(SyntaxKind::BLOCK_EXPR));
-}
-
 /// Parses an `unsafe` block.
 // unsafe { f() }
 #[cycle(grammar)]
@@ -82,7 +54,7 @@ fn unsafe_block(p: &mut Parser<'_>)
 {
     let node = start(p);
     take(p, SyntaxKind::UNSAFE_KW);
-    expect_statement_list(p);
+    expect_part(p, Part::StatementList);
     complete(p, node, SyntaxKind::BLOCK_EXPR);
 }
 
@@ -97,7 +69,7 @@ pub(crate) fn if_expr(p: &mut Parser<'_>)
     let node = start(p);
     take(p, SyntaxKind::IF_KW);
     expect_condition(p);
-    expect_block(p);
+    expect_part(p, Part::Block);
     opt_else(p);
     complete(p, node, SyntaxKind::IF_EXPR);
 }
@@ -126,7 +98,7 @@ fn after_else(p: &mut Parser<'_>)
         if_expr(p);
         return;
     }
-    expect_block(p);
+    expect_part(p, Part::Block);
 }
 
 /// Parses a `while` loop.
@@ -140,7 +112,7 @@ fn while_expr(p: &mut Parser<'_>)
     let node = start(p);
     take(p, SyntaxKind::WHILE_KW);
     expect_condition(p);
-    expect_block(p);
+    expect_part(p, Part::Block);
     complete(p, node, SyntaxKind::WHILE_EXPR);
 }
 
@@ -154,7 +126,7 @@ fn loop_expr(p: &mut Parser<'_>)
 {
     let node = start(p);
     take(p, SyntaxKind::LOOP_KW);
-    expect_block(p);
+    expect_part(p, Part::Block);
     complete(p, node, SyntaxKind::LOOP_EXPR);
 }
 
@@ -168,10 +140,10 @@ fn for_expr(p: &mut Parser<'_>)
 {
     let node = start(p);
     take(p, SyntaxKind::FOR_KW);
-    expect_pattern(p);
+    expect_part(p, Part::Pattern);
     expect(p, SyntaxKind::IN_KW);
     expect_condition(p);
-    expect_block(p);
+    expect_part(p, Part::Block);
     complete(p, node, SyntaxKind::FOR_EXPR);
 }
 
@@ -186,22 +158,8 @@ fn match_expr(p: &mut Parser<'_>)
     let node = start(p);
     take(p, SyntaxKind::MATCH_KW);
     expect_condition(p);
-    expect_match_arms(p);
+    expect_part(p, Part::MatchArms);
     complete(p, node, SyntaxKind::MATCH_EXPR);
-}
-
-/// Parses match arms in braces; emits an error if there are none.
-// { a => b, _ => c }
-#[cycle(grammar)]
-fn expect_match_arms(p: &mut Parser<'_>)
-    ensures reads { (c : Bool) → Reads c (MatchArms !) p.old p.new }
-    ensures asks { Asks 1 p.old p.new }
-{
-    if at(p, SyntaxKind::L_CURLY) {
-        match_arms(p);
-        return;
-    }
-    error(p, Message::Expected(SyntaxKind::MATCH_ARM_LIST));
 }
 
 /// Parses match arms in braces.

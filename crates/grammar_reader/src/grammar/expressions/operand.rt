@@ -10,15 +10,15 @@ ghost use Rattle.rust_grammar.specs.Rule as rules;
 ghost use Rattle.rust_grammar.specs.Rule.{Kind, One, Split};
 ghost use Rattle.rust_grammar.specs.Words.{one};
 ghost use Rattle.rust_grammar.specs.Expressions as rows;
-ghost use Rattle.rust_productions.specs.Looks.{tokens, Takes, Asks, Peeks, TakesIn, TakesOneIn, AsksIn};
+ghost use Rattle.rust_productions.specs.Looks.{tokens, Takes, Peeks, TakesIn, TakesOneIn, AsksIn};
 ghost use Rattle.rust_productions.specs.Reads.{looks, Anew, Gives, Reads, Saw};
 ghost use Rattle.rust_productions.specs.Starts.{Starts};
 ghost use Rattle.grammar_reader.specs.Next.{IsFloat};
 
 use crate::grammar::expressions::atom::inside;
 use crate::grammar::expressions::{Level, expect_expression};
-use crate::grammar::lists::arguments;
-use crate::grammar::paths::opt_generic_args;
+use crate::grammar::lists::{ListKind, list};
+use crate::grammar::parts::{Part, expect_part, opt_part};
 use crate::grammar::types::word_type;
 use parser_events::message::Message;
 use parser_events::parser::{Marker, Parser};
@@ -138,7 +138,7 @@ pub(crate) fn postfix(p: &mut Parser<'_>, frame: Marker) -> Marker
 {
     match current(p) {
         SyntaxKind::L_PAREN => {
-            arguments(p);
+            list(p, ListKind::Arguments);
             wrap(p, frame, SyntaxKind::CALL_EXPR)
         }
         SyntaxKind::L_BRACK => {
@@ -225,22 +225,8 @@ fn method_call(p: &mut Parser<'_>)
     ensures takes { Takes 4080 p.old p.new }
 {
     word_type(p, SyntaxKind::IDENT, SyntaxKind::NAME_REF);
-    opt_generic_args(p);
-    expect_arguments(p);
-}
-
-/// Parses call arguments; emits an error if there are none.
-// (a, b)
-#[cycle(grammar)]
-fn expect_arguments(p: &mut Parser<'_>)
-    ensures reads { (c : Bool) → Reads c (Arguments !) p.old p.new }
-    ensures asks { Asks 1 p.old p.new }
-{
-    if at(p, SyntaxKind::L_PAREN) {
-        arguments(p);
-        return;
-    }
-    error(p, Message::Expected(SyntaxKind::ARG_LIST));
+    opt_part(p, Part::GenericArgs);
+    expect_part(p, Part::Arguments);
 }
 
 /// Parses a float after a dot: one or two field numbers. After a float that ends in a dot, parses

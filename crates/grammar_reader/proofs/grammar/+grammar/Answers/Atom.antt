@@ -17,7 +17,7 @@ use Rattle.grammar_reader.proofs.PathArgs.{any-mode, paths-begin}
 use Rattle.grammar_reader.proofs.Seeing.{saw-mode}
 use Rattle.rust_productions.specs.Reads.{Saw}
 use Rattle.rust_productions.proofs.ByHand.{after-look, does-nothing, does-then, reads-call, reads-else, reads-mode, reads-node, reads-nothing, reads-or, reads-then, reads-wrap}
-use Rattle.rust_productions.proofs.Choices.{reads-here}
+use Rattle.rust_productions.proofs.Choices.{reads-here, gives-anew, anew-after}
 use Rattle.rust_productions.proofs.Facts.{begun, nothing, saw-so, ◌and◌}
 use Rattle.rust_productions.proofs.Looking.{saw-arm, saw-not}
 use Rattle.rust_productions.proofs.Seen.{begins-else, saw-after, saw-always, saw-before, saw-condition, saw-inside, saw-left}
@@ -172,7 +172,7 @@ pub expressions::atom::after_path-wrap-requires-then-condition : goal.expression
 expressions::atom::after_path-wrap-requires-then-condition t c = c.at.ensures.peeks.same.innermost _ (c.at_pair.ensures.peeks.same.innermost _ c.requires.innermost)
 
 pub expressions::atom::after_path-wrap-requires-then-at-2 : goal.expressions::atom::after_path-wrap-requires-then-at-2
-expressions::atom::after_path-wrap-requires-then-at-2 t c = (c.field_values.ensures.gives true).does.innermost _ (c.at-2.ensures.peeks.same.innermost _ (c.at.ensures.peeks.same.innermost _ (c.at_pair.ensures.peeks.same.innermost _ c.requires.innermost)))
+expressions::atom::after_path-wrap-requires-then-at-2 t c = (c.list.ensures.reads true).does.innermost _ (c.at-2.ensures.peeks.same.innermost _ (c.at.ensures.peeks.same.innermost _ (c.at_pair.ensures.peeks.same.innermost _ c.requires.innermost)))
 
 pub expressions::atom::after_path-wrap-requires-2 : goal.expressions::atom::after_path-wrap-requires-2
 expressions::atom::after_path-wrap-requires-2 t c = c.at-2.ensures.peeks.same.innermost _ (c.at.ensures.peeks.same.innermost _ (c.at_pair.ensures.peeks.same.innermost _ c.requires.innermost))
@@ -191,7 +191,7 @@ expressions::atom::after_path-returns-then-condition-clause-reads t c = reads-he
 
 pub expressions::atom::after_path-returns-then-at-2-clause-reads : goal.expressions::atom::after_path-returns-then-at-2-clause-reads
 unfolding look_of begins_below whole rule items statements expressions patterns types paths there_at shift passes is_silent begins in_mode anew row one_of any_of no_longer longest is_longer
-expressions::atom::after_path-returns-then-at-2-clause-reads t c = reads-here (saw-always (saw-so (c.at_pair.ensures.sees c.args.condition) c.if-at_pair.false) and saw-before c.at_pair.ensures.peeks.same (saw-so (c.at.ensures.sees c.args.condition) c.if-at.false) and saw-condition c.if-condition.false and saw-before c.at_pair.ensures.peeks.same (saw-before c.at.ensures.peeks.same (saw-so (c.at-2.ensures.sees c.args.condition) c.if-at-2.true)) and nothing) (after-look _ c.at_pair.ensures.peeks.same (after-look _ c.at.ensures.peeks.same (after-look _ c.at-2.ensures.peeks.same (reads-wrap _ (reads-call _ (c.field_values.ensures.gives c.args.condition)) c.wrap-then-at-2.ensures.wraps))))
+expressions::atom::after_path-returns-then-at-2-clause-reads t c = reads-here (saw-always (saw-so (c.at_pair.ensures.sees c.args.condition) c.if-at_pair.false) and saw-before c.at_pair.ensures.peeks.same (saw-so (c.at.ensures.sees c.args.condition) c.if-at.false) and saw-condition c.if-condition.false and saw-before c.at_pair.ensures.peeks.same (saw-before c.at.ensures.peeks.same (saw-so (c.at-2.ensures.sees c.args.condition) c.if-at-2.true)) and nothing) (after-look _ c.at_pair.ensures.peeks.same (after-look _ c.at.ensures.peeks.same (after-look _ c.at-2.ensures.peeks.same (reads-wrap _ (reads-call _ (gives-anew (anew-after refl (c.list.ensures.reads c.args.condition)))) c.wrap-then-at-2.ensures.wraps))))
 
 pub expressions::atom::after_path-returns-clause-reads : goal.expressions::atom::after_path-returns-clause-reads
 unfolding look_of begins_below whole rule items statements expressions patterns types paths there_at shift passes is_silent begins in_mode anew row one_of any_of no_longer longest is_longer
@@ -268,30 +268,16 @@ unfolding look_of begins_below whole rule items statements expressions patterns 
 expressions::atom::opt_value-returns-else-at_operation-clause-reads t c = reads-here (saw-so c.at_body.ensures.sees c.if-at_body.false and begun rules.operation (saw-before c.at_body.ensures.peeks.same (saw-so c.at_operation.ensures.sees c.if-at_operation.false)) nothing) (reads-nothing _ (does-then c.at_body.ensures.peeks.same c.at_operation.ensures.peeks.same))
 
 pub expressions::closures::closure_expr-complete-requires : goal.expressions::closures::closure_expr-complete-requires
-expressions::closures::closure_expr-complete-requires t c = c.closure_body.ensures.reads.does.innermost _ ((c.closure_params.ensures.reads true).does.innermost _ c.start-node.ensures.marker)
+expressions::closures::closure_expr-complete-requires t c = c.closure_body.ensures.reads.does.innermost _ ((c.list.ensures.reads true).does.innermost _ c.start-node.ensures.marker)
 
 pub expressions::closures::closure_expr-returns-clause-reads : goal.expressions::closures::closure_expr-returns-clause-reads
-expressions::closures::closure_expr-returns-clause-reads t c = reads-node _ c.start-node.ensures.opens (reads-then _ (c.closure_params.ensures.reads c.args.condition) c.closure_body.ensures.reads) c.complete.ensures.closes
+expressions::closures::closure_expr-returns-clause-reads t c = reads-node _ c.start-node.ensures.opens (reads-then _ (c.list.ensures.reads c.args.condition) c.closure_body.ensures.reads) c.complete.ensures.closes
 
 pub expressions::closures::move_closure-complete-requires : goal.expressions::closures::move_closure-complete-requires
-expressions::closures::move_closure-complete-requires t c = c.closure_body.ensures.reads.does.innermost _ ((c.expect_closure_params.ensures.reads true).does.innermost _ ((c.take.ensures.reads true).does.innermost _ c.start-node.ensures.marker))
+expressions::closures::move_closure-complete-requires t c = c.closure_body.ensures.reads.does.innermost _ ((c.expect_part.ensures.reads true).does.innermost _ ((c.take.ensures.reads true).does.innermost _ c.start-node.ensures.marker))
 
 pub expressions::closures::move_closure-returns-clause-reads : goal.expressions::closures::move_closure-returns-clause-reads
-expressions::closures::move_closure-returns-clause-reads t c = reads-node _ c.start-node.ensures.opens (reads-then _ (c.take.ensures.reads c.args.condition) (reads-then _ (c.expect_closure_params.ensures.reads c.args.condition) c.closure_body.ensures.reads)) c.complete.ensures.closes
-
-pub expressions::closures::expect_closure_params-returns-then-at-clause-reads : goal.expressions::closures::expect_closure_params-returns-then-at-clause-reads
-unfolding look_of begins_below whole rule items statements expressions patterns types paths there_at shift passes is_silent begins in_mode anew row one_of any_of no_longer longest is_longer
-expressions::closures::expect_closure_params-returns-then-at-clause-reads t c = λ cond. reads-here (saw-so (c.at.ensures.sees cond) c.if-at.true and nothing) (after-look cond c.at.ensures.peeks.same (c.closure_params.ensures.reads cond))
-
-pub expressions::closures::expect_closure_params-returns-clause-reads : goal.expressions::closures::expect_closure_params-returns-clause-reads
-unfolding look_of begins_below whole rule items statements expressions patterns types paths there_at shift passes is_silent begins in_mode anew row one_of any_of no_longer longest is_longer
-expressions::closures::expect_closure_params-returns-clause-reads t c = λ cond. reads-here (saw-so (c.at.ensures.sees cond) c.if-at.false and nothing) (after-look cond c.at.ensures.peeks.same (c.error.ensures.reads cond))
-
-pub expressions::closures::closure_params-complete-requires : goal.expressions::closures::closure_params-complete-requires
-expressions::closures::closure_params-complete-requires t c = (c.rest_of_list.ensures.reads true).does.innermost _ ((c.take.ensures.reads true).does.innermost _ c.start-list.ensures.marker)
-
-pub expressions::closures::closure_params-returns-clause-reads : goal.expressions::closures::closure_params-returns-clause-reads
-expressions::closures::closure_params-returns-clause-reads t c = λ cond. reads-node cond c.start-list.ensures.opens (reads-then cond (c.take.ensures.reads cond) (c.rest_of_list.ensures.reads cond)) c.complete.ensures.closes
+expressions::closures::move_closure-returns-clause-reads t c = reads-node _ c.start-node.ensures.opens (reads-then _ (c.take.ensures.reads c.args.condition) (reads-then _ (c.expect_part.ensures.reads c.args.condition) c.closure_body.ensures.reads)) c.complete.ensures.closes
 
 pub expressions::closures::closure_param-single_pattern-requires : goal.expressions::closures::closure_param-single_pattern-requires
 expressions::closures::closure_param-single_pattern-requires t c = (omega arith, ((λ d. saw-inside c.start-node.ensures.opens (c.requires.begins d)), omega arith))
@@ -304,7 +290,7 @@ expressions::closures::closure_param-returns-clause-reads t c = reads-node _ c.s
 
 pub expressions::closures::opt_type-returns-then-at-clause-reads : goal.expressions::closures::opt_type-returns-then-at-clause-reads
 unfolding look_of begins_below whole rule items statements expressions patterns types paths there_at shift passes is_silent begins in_mode anew row one_of any_of no_longer longest is_longer
-expressions::closures::opt_type-returns-then-at-clause-reads t c = reads-here (saw-so (c.at.ensures.sees c.args.condition) c.if-at.true and nothing) (after-look _ c.at.ensures.peeks.same (reads-then _ (c.take.ensures.reads c.args.condition) (c.expect_type.ensures.reads _)))
+expressions::closures::opt_type-returns-then-at-clause-reads t c = reads-here (saw-so (c.at.ensures.sees c.args.condition) c.if-at.true and nothing) (after-look _ c.at.ensures.peeks.same (reads-then _ (c.take.ensures.reads c.args.condition) (c.expect_part.ensures.reads _)))
 
 pub expressions::closures::opt_type-returns-else-at-clause-reads : goal.expressions::closures::opt_type-returns-else-at-clause-reads
 unfolding look_of begins_below whole rule items statements expressions patterns types paths there_at shift passes is_silent begins in_mode anew row one_of any_of no_longer longest is_longer
@@ -312,14 +298,14 @@ expressions::closures::opt_type-returns-else-at-clause-reads t c = reads-here (s
 
 pub expressions::closures::closure_body-returns-then-at_pair-clause-reads : goal.expressions::closures::closure_body-returns-then-at_pair-clause-reads
 unfolding look_of begins_below whole rule items statements expressions patterns types paths there_at shift passes is_silent begins in_mode anew row one_of any_of no_longer longest is_longer
-expressions::closures::closure_body-returns-then-at_pair-clause-reads t c = reads-here (saw-so (c.at_pair.ensures.sees c.args.condition) c.if-at_pair.true and nothing) (after-look _ c.at_pair.ensures.peeks.same (reads-then _ (reads-call _ (c.ret_type.ensures.gives _)) (c.expect_block.ensures.reads c.args.condition)))
+expressions::closures::closure_body-returns-then-at_pair-clause-reads t c = reads-here (saw-so (c.at_pair.ensures.sees c.args.condition) c.if-at_pair.true and nothing) (after-look _ c.at_pair.ensures.peeks.same (reads-then _ (reads-call _ (c.ret_type.ensures.gives _)) (c.expect_part.ensures.reads c.args.condition)))
 
 pub expressions::closures::closure_body-returns-clause-reads : goal.expressions::closures::closure_body-returns-clause-reads
 unfolding look_of begins_below whole rule items statements expressions patterns types paths there_at shift passes is_silent begins in_mode anew row one_of any_of no_longer longest is_longer
 expressions::closures::closure_body-returns-clause-reads t c = reads-here (saw-so (c.at_pair.ensures.sees c.args.condition) c.if-at_pair.false and nothing) (after-look _ c.at_pair.ensures.peeks.same c.expect_expression.ensures.reads)
 
 pub expressions::atom::let_expr-complete-requires : goal.expressions::atom::let_expr-complete-requires
-expressions::atom::let_expr-complete-requires t c = c.expect_expression.ensures.reads.does.innermost _ ((c.expect.ensures.reads true).does.innermost _ ((c.expect_pattern.ensures.reads true).does.innermost _ ((c.take.ensures.reads true).does.innermost _ c.start-node.ensures.marker)))
+expressions::atom::let_expr-complete-requires t c = c.expect_expression.ensures.reads.does.innermost _ ((c.expect.ensures.reads true).does.innermost _ ((c.expect_part.ensures.reads true).does.innermost _ ((c.take.ensures.reads true).does.innermost _ c.start-node.ensures.marker)))
 
 pub expressions::atom::let_expr-returns-clause-reads : goal.expressions::atom::let_expr-returns-clause-reads
-expressions::atom::let_expr-returns-clause-reads t c = reads-node _ c.start-node.ensures.opens (reads-then _ (c.take.ensures.reads c.args.condition) (reads-then _ (c.expect_pattern.ensures.reads c.args.condition) (reads-then _ (c.expect.ensures.reads c.args.condition) c.expect_expression.ensures.reads))) c.complete.ensures.closes
+expressions::atom::let_expr-returns-clause-reads t c = reads-node _ c.start-node.ensures.opens (reads-then _ (c.take.ensures.reads c.args.condition) (reads-then _ (c.expect_part.ensures.reads c.args.condition) (reads-then _ (c.expect.ensures.reads c.args.condition) c.expect_expression.ensures.reads))) c.complete.ensures.closes

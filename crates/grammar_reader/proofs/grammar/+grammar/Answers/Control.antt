@@ -63,66 +63,42 @@ pub expressions::control::block_like-returns-in_default-clause-gives : goal.expr
 unfolding look_of begins_below whole rule items statements expressions patterns types paths there_at shift passes is_silent begins in_mode anew row one_of any_of no_longer longest is_longer
 expressions::control::block_like-returns-in_default-clause-gives t c = λ cond. gives-anew (anew-after refl (reads-here (saw-not c.in_default.not-L_CURLY (c.current.ensures.sees cond) and saw-not c.in_default.not-UNSAFE_KW (c.current.ensures.sees cond) and saw-not c.in_default.not-IF_KW (c.current.ensures.sees cond) and saw-not c.in_default.not-WHILE_KW (c.current.ensures.sees cond) and saw-not c.in_default.not-LOOP_KW (c.current.ensures.sees cond) and saw-not c.in_default.not-FOR_KW (c.current.ensures.sees cond) and saw-not c.in_default.not-MATCH_KW (c.current.ensures.sees cond) and nothing) (after-look cond c.current.ensures.peeks.same (c.macro_block.ensures.reads cond))))
 
-pub expressions::control::expect_statement_list-returns-then-at-clause-reads : goal.expressions::control::expect_statement_list-returns-then-at-clause-reads
-unfolding look_of begins_below whole rule items statements expressions patterns types paths there_at shift passes is_silent begins in_mode anew row one_of any_of no_longer longest is_longer
-expressions::control::expect_statement_list-returns-then-at-clause-reads t c = λ cond. reads-here (saw-so (c.at.ensures.sees cond) c.if-at.true and nothing) (after-look cond c.at.ensures.peeks.same (reads-call cond (c.statement_list.ensures.gives cond)))
-
-pub expressions::control::expect_statement_list-returns-clause-reads : goal.expressions::control::expect_statement_list-returns-clause-reads
-unfolding look_of begins_below whole rule items statements expressions patterns types paths there_at shift passes is_silent begins in_mode anew row one_of any_of no_longer longest is_longer
-expressions::control::expect_statement_list-returns-clause-reads t c = λ cond. reads-here (saw-so (c.at.ensures.sees cond) c.if-at.false and nothing) (after-look cond c.at.ensures.peeks.same (c.error.ensures.reads cond))
-
-pub expressions::control::expect_block-returns-then-at-clause-reads : goal.expressions::control::expect_block-returns-then-at-clause-reads
-unfolding look_of begins_below whole rule items statements expressions patterns types paths there_at shift passes is_silent begins in_mode anew row one_of any_of no_longer longest is_longer
-expressions::control::expect_block-returns-then-at-clause-reads t c = λ cond. reads-here (saw-so (c.at.ensures.sees cond) c.if-at.true and nothing) (after-look cond c.at.ensures.peeks.same (reads-call cond (c.block.ensures.gives cond)))
-
-pub expressions::control::expect_block-returns-clause-reads : goal.expressions::control::expect_block-returns-clause-reads
-unfolding look_of begins_below whole rule items statements expressions patterns types paths there_at shift passes is_silent begins in_mode anew row one_of any_of no_longer longest is_longer
-expressions::control::expect_block-returns-clause-reads t c = λ cond. reads-here (saw-so (c.at.ensures.sees cond) c.if-at.false and nothing) (after-look cond c.at.ensures.peeks.same (c.error.ensures.reads cond))
-
-pub expressions::control::expect_match_arms-returns-then-at-clause-reads : goal.expressions::control::expect_match_arms-returns-then-at-clause-reads
-unfolding look_of begins_below whole rule items statements expressions patterns types paths there_at shift passes is_silent begins in_mode anew row one_of any_of no_longer longest is_longer
-expressions::control::expect_match_arms-returns-then-at-clause-reads t c = λ cond. reads-here (saw-so (c.at.ensures.sees cond) c.if-at.true and nothing) (after-look cond c.at.ensures.peeks.same (reads-call cond (c.match_arms.ensures.gives cond)))
-
-pub expressions::control::expect_match_arms-returns-clause-reads : goal.expressions::control::expect_match_arms-returns-clause-reads
-unfolding look_of begins_below whole rule items statements expressions patterns types paths there_at shift passes is_silent begins in_mode anew row one_of any_of no_longer longest is_longer
-expressions::control::expect_match_arms-returns-clause-reads t c = λ cond. reads-here (saw-so (c.at.ensures.sees cond) c.if-at.false and nothing) (after-look cond c.at.ensures.peeks.same (c.error.ensures.reads cond))
-
 pub expressions::control::unsafe_block-complete-requires : goal.expressions::control::unsafe_block-complete-requires
-expressions::control::unsafe_block-complete-requires t c = (c.expect_statement_list.ensures.reads true).does.innermost _ ((c.take.ensures.reads true).does.innermost _ c.start-node.ensures.marker)
+expressions::control::unsafe_block-complete-requires t c = (c.expect_part.ensures.reads true).does.innermost _ ((c.take.ensures.reads true).does.innermost _ c.start-node.ensures.marker)
 
 pub expressions::control::unsafe_block-returns-clause-reads : goal.expressions::control::unsafe_block-returns-clause-reads
-expressions::control::unsafe_block-returns-clause-reads t c = λ cond. reads-node cond c.start-node.ensures.opens (reads-then cond (c.take.ensures.reads cond) (c.expect_statement_list.ensures.reads cond)) c.complete.ensures.closes
+expressions::control::unsafe_block-returns-clause-reads t c = λ cond. reads-node cond c.start-node.ensures.opens (reads-then cond (c.take.ensures.reads cond) (c.expect_part.ensures.reads cond)) c.complete.ensures.closes
 
 pub expressions::control::while_expr-complete-requires : goal.expressions::control::while_expr-complete-requires
-expressions::control::while_expr-complete-requires t c = (c.expect_block.ensures.reads true).does.innermost _ ((c.expect_condition.ensures.reads true).does.innermost _ ((c.take.ensures.reads true).does.innermost _ c.start-node.ensures.marker))
+expressions::control::while_expr-complete-requires t c = (c.expect_part.ensures.reads true).does.innermost _ ((c.expect_condition.ensures.reads true).does.innermost _ ((c.take.ensures.reads true).does.innermost _ c.start-node.ensures.marker))
 
 pub expressions::control::while_expr-returns-clause-reads : goal.expressions::control::while_expr-returns-clause-reads
-expressions::control::while_expr-returns-clause-reads t c = λ cond. reads-node cond c.start-node.ensures.opens (reads-then cond (c.take.ensures.reads cond) (reads-then cond (c.expect_condition.ensures.reads cond) (c.expect_block.ensures.reads cond))) c.complete.ensures.closes
+expressions::control::while_expr-returns-clause-reads t c = λ cond. reads-node cond c.start-node.ensures.opens (reads-then cond (c.take.ensures.reads cond) (reads-then cond (c.expect_condition.ensures.reads cond) (c.expect_part.ensures.reads cond))) c.complete.ensures.closes
 
 pub expressions::control::loop_expr-complete-requires : goal.expressions::control::loop_expr-complete-requires
-expressions::control::loop_expr-complete-requires t c = (c.expect_block.ensures.reads true).does.innermost _ ((c.take.ensures.reads true).does.innermost _ c.start-node.ensures.marker)
+expressions::control::loop_expr-complete-requires t c = (c.expect_part.ensures.reads true).does.innermost _ ((c.take.ensures.reads true).does.innermost _ c.start-node.ensures.marker)
 
 pub expressions::control::loop_expr-returns-clause-reads : goal.expressions::control::loop_expr-returns-clause-reads
-expressions::control::loop_expr-returns-clause-reads t c = λ cond. reads-node cond c.start-node.ensures.opens (reads-then cond (c.take.ensures.reads cond) (c.expect_block.ensures.reads cond)) c.complete.ensures.closes
+expressions::control::loop_expr-returns-clause-reads t c = λ cond. reads-node cond c.start-node.ensures.opens (reads-then cond (c.take.ensures.reads cond) (c.expect_part.ensures.reads cond)) c.complete.ensures.closes
 
 pub expressions::control::match_expr-complete-requires : goal.expressions::control::match_expr-complete-requires
-expressions::control::match_expr-complete-requires t c = (c.expect_match_arms.ensures.reads true).does.innermost _ ((c.expect_condition.ensures.reads true).does.innermost _ ((c.take.ensures.reads true).does.innermost _ c.start-node.ensures.marker))
+expressions::control::match_expr-complete-requires t c = (c.expect_part.ensures.reads true).does.innermost _ ((c.expect_condition.ensures.reads true).does.innermost _ ((c.take.ensures.reads true).does.innermost _ c.start-node.ensures.marker))
 
 pub expressions::control::match_expr-returns-clause-reads : goal.expressions::control::match_expr-returns-clause-reads
-expressions::control::match_expr-returns-clause-reads t c = λ cond. reads-node cond c.start-node.ensures.opens (reads-then cond (c.take.ensures.reads cond) (reads-then cond (c.expect_condition.ensures.reads cond) (c.expect_match_arms.ensures.reads cond))) c.complete.ensures.closes
+expressions::control::match_expr-returns-clause-reads t c = λ cond. reads-node cond c.start-node.ensures.opens (reads-then cond (c.take.ensures.reads cond) (reads-then cond (c.expect_condition.ensures.reads cond) (c.expect_part.ensures.reads cond))) c.complete.ensures.closes
 
 pub expressions::control::for_expr-complete-requires : goal.expressions::control::for_expr-complete-requires
-expressions::control::for_expr-complete-requires t c = (c.expect_block.ensures.reads true).does.innermost _ ((c.expect_condition.ensures.reads true).does.innermost _ ((c.expect.ensures.reads true).does.innermost _ ((c.expect_pattern.ensures.reads true).does.innermost _ ((c.take.ensures.reads true).does.innermost _ c.start-node.ensures.marker))))
+expressions::control::for_expr-complete-requires t c = (c.expect_part-2.ensures.reads true).does.innermost _ ((c.expect_condition.ensures.reads true).does.innermost _ ((c.expect.ensures.reads true).does.innermost _ ((c.expect_part.ensures.reads true).does.innermost _ ((c.take.ensures.reads true).does.innermost _ c.start-node.ensures.marker))))
 
 pub expressions::control::for_expr-returns-clause-reads : goal.expressions::control::for_expr-returns-clause-reads
-expressions::control::for_expr-returns-clause-reads t c = λ cond. reads-node cond c.start-node.ensures.opens (reads-then cond (c.take.ensures.reads cond) (reads-then cond (c.expect_pattern.ensures.reads cond) (reads-then cond (c.expect.ensures.reads cond) (reads-then cond (c.expect_condition.ensures.reads cond) (c.expect_block.ensures.reads cond))))) c.complete.ensures.closes
+expressions::control::for_expr-returns-clause-reads t c = λ cond. reads-node cond c.start-node.ensures.opens (reads-then cond (c.take.ensures.reads cond) (reads-then cond (c.expect_part.ensures.reads cond) (reads-then cond (c.expect.ensures.reads cond) (reads-then cond (c.expect_condition.ensures.reads cond) (c.expect_part-2.ensures.reads cond))))) c.complete.ensures.closes
 
 pub expressions::control::if_expr-complete-requires : goal.expressions::control::if_expr-complete-requires
-expressions::control::if_expr-complete-requires t c = (c.opt_else.ensures.reads true).does.innermost _ ((c.expect_block.ensures.reads true).does.innermost _ ((c.expect_condition.ensures.reads true).does.innermost _ ((c.take.ensures.reads true).does.innermost _ c.start-node.ensures.marker)))
+expressions::control::if_expr-complete-requires t c = (c.opt_else.ensures.reads true).does.innermost _ ((c.expect_part.ensures.reads true).does.innermost _ ((c.expect_condition.ensures.reads true).does.innermost _ ((c.take.ensures.reads true).does.innermost _ c.start-node.ensures.marker)))
 
 pub expressions::control::if_expr-returns-clause-gives : goal.expressions::control::if_expr-returns-clause-gives
 unfolding look_of begins_below whole rule items statements expressions patterns types paths there_at shift passes is_silent begins in_mode anew row one_of any_of no_longer longest is_longer
-expressions::control::if_expr-returns-clause-gives t c = λ cond. gives-anew (anew-after refl (reads-node cond c.start-node.ensures.opens (reads-then cond (c.take.ensures.reads cond) (reads-then cond (c.expect_condition.ensures.reads cond) (reads-then cond (c.expect_block.ensures.reads cond) (c.opt_else.ensures.reads cond)))) c.complete.ensures.closes))
+expressions::control::if_expr-returns-clause-gives t c = λ cond. gives-anew (anew-after refl (reads-node cond c.start-node.ensures.opens (reads-then cond (c.take.ensures.reads cond) (reads-then cond (c.expect_condition.ensures.reads cond) (reads-then cond (c.expect_part.ensures.reads cond) (c.opt_else.ensures.reads cond)))) c.complete.ensures.closes))
 
 pub expressions::control::opt_else-returns-then-at-clause-reads : goal.expressions::control::opt_else-returns-then-at-clause-reads
 unfolding look_of begins_below whole rule items statements expressions patterns types paths there_at shift passes is_silent begins in_mode anew row one_of any_of no_longer longest is_longer
@@ -138,7 +114,7 @@ expressions::control::after_else-returns-then-at-clause-reads t c = λ cond. rea
 
 pub expressions::control::after_else-returns-clause-reads : goal.expressions::control::after_else-returns-clause-reads
 unfolding look_of begins_below whole rule items statements expressions patterns types paths there_at shift passes is_silent begins in_mode anew row one_of any_of no_longer longest is_longer
-expressions::control::after_else-returns-clause-reads t c = λ cond. reads-here (saw-so (c.at.ensures.sees cond) c.if-at.false and nothing) (after-look cond c.at.ensures.peeks.same (c.expect_block.ensures.reads cond))
+expressions::control::after_else-returns-clause-reads t c = λ cond. reads-here (saw-so (c.at.ensures.sees cond) c.if-at.false and nothing) (after-look cond c.at.ensures.peeks.same (c.expect_part.ensures.reads cond))
 
 pub expressions::control::match_arms-complete-requires : goal.expressions::control::match_arms-complete-requires
 expressions::control::match_arms-complete-requires t c = (c.expect.ensures.reads true).does.innermost _ (c.arms.ensures.reads.does.innermost _ ((c.take.ensures.reads true).does.innermost _ c.start-list.ensures.marker))

@@ -13,7 +13,7 @@ use Rattle.rust_productions.specs.Operators.{IsMark}
 use Rattle.rust_productions.specs.Reads.{Reads}
 use Rattle.rust_productions.specs.declared.grammar.operators.RangeMark.{RangeMark}
 use Rattle.rust_productions.proofs.ByHand.{after-look, does-nothing, goes, reads-call, reads-missing, reads-more, reads-node, reads-then, reads-unless, reads-want, reads-wrap}
-use Rattle.rust_productions.proofs.Choices.{anew-inside, gives-anew}
+use Rattle.rust_productions.proofs.Choices.{anew-inside, gives-anew, anew-after}
 use Rattle.rust_productions.proofs.Facts.{saw-so}
 use Rattle.rust_productions.proofs.Operators.{next-after}
 use Rattle.rust_productions.proofs.Ranges.{begins-call, gives-expression, gives-look, gives-operands, mark-after, mark-inside, operand-begun, range-near, reads-assignment, reads-no-assignment, reads-no-pipe, reads-pipe, reads-range, reads-range-alone, reads-range-end, reads-range-on, reads-before-look, saw-operation, saw-outside, unranged}

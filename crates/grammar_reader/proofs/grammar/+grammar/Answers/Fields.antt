@@ -79,10 +79,10 @@ pub fields::path_value-returns-clause-reads : goal.fields::path_value-returns-cl
 fields::path_value-returns-clause-reads t c = λ cond. reads-node cond c.start-node.ensures.opens (reads-node cond c.start-value.ensures.opens (reads-call cond (c.path_with_args.ensures.gives cond)) c.complete.ensures.closes) c.complete-2.ensures.closes
 
 pub fields::named_pattern-complete-requires : goal.fields::named_pattern-complete-requires
-fields::named_pattern-complete-requires t c = (c.expect_pattern.ensures.reads true).does.innermost _ ((c.take.ensures.reads true).does.innermost _ ((c.name_of_field.ensures.reads true).does.innermost _ c.start-node.ensures.marker))
+fields::named_pattern-complete-requires t c = (c.expect_part.ensures.reads true).does.innermost _ ((c.take.ensures.reads true).does.innermost _ ((c.name_of_field.ensures.reads true).does.innermost _ c.start-node.ensures.marker))
 
 pub fields::named_pattern-returns-clause-reads : goal.fields::named_pattern-returns-clause-reads
-fields::named_pattern-returns-clause-reads t c = λ cond. reads-node cond c.start-node.ensures.opens (reads-then cond (c.name_of_field.ensures.reads cond) (reads-then cond (c.take.ensures.reads cond) (c.expect_pattern.ensures.reads cond))) c.complete.ensures.closes
+fields::named_pattern-returns-clause-reads t c = λ cond. reads-node cond c.start-node.ensures.opens (reads-then cond (c.name_of_field.ensures.reads cond) (reads-then cond (c.take.ensures.reads cond) (c.expect_part.ensures.reads cond))) c.complete.ensures.closes
 
 pub fields::pattern_field-returns-then-at_pair-clause-gives : goal.fields::pattern_field-returns-then-at_pair-clause-gives
 unfolding look_of begins_below whole rule items statements expressions patterns types paths there_at shift passes is_silent begins in_mode anew row one_of any_of no_longer longest is_longer
@@ -119,7 +119,7 @@ fields::after_attributes-returns-then-at_pair-clause-completes t c = λ cond. co
 
 pub fields::after_attributes-returns-then-at_attributed_named_field-clause-completes : goal.fields::after_attributes-returns-then-at_attributed_named_field-clause-completes
 unfolding look_of begins_below whole rule items statements expressions patterns types paths there_at shift passes is_silent begins in_mode anew row one_of any_of no_longer longest is_longer
-fields::after_attributes-returns-then-at_attributed_named_field-clause-completes t c = λ cond. completes-here (saw-so (c.at_pair.ensures.sees cond) c.if-at_pair.false and saw-before c.at_pair.ensures.peeks.same (saw-so (c.at_attributed_named_field.ensures.sees cond) c.if-at_attributed_named_field.true) and nothing) (completes-look c.at_pair.ensures.peeks.same (completes-look c.at_attributed_named_field.ensures.peeks.same (completes-wrap (reads-then cond (c.name_of_field.ensures.reads cond) (reads-then cond (c.take.ensures.reads cond) (c.expect_pattern.ensures.reads cond))) c.complete-then-at_attributed_named_field.ensures.closes)))
+fields::after_attributes-returns-then-at_attributed_named_field-clause-completes t c = λ cond. completes-here (saw-so (c.at_pair.ensures.sees cond) c.if-at_pair.false and saw-before c.at_pair.ensures.peeks.same (saw-so (c.at_attributed_named_field.ensures.sees cond) c.if-at_attributed_named_field.true) and nothing) (completes-look c.at_pair.ensures.peeks.same (completes-look c.at_attributed_named_field.ensures.peeks.same (completes-wrap (reads-then cond (c.name_of_field.ensures.reads cond) (reads-then cond (c.take.ensures.reads cond) (c.expect_part.ensures.reads cond))) c.complete-then-at_attributed_named_field.ensures.closes)))
 
 pub fields::after_attributes-returns-clause-completes : goal.fields::after_attributes-returns-clause-completes
 unfolding look_of begins_below whole rule items statements expressions patterns types paths there_at shift passes is_silent begins in_mode anew row one_of any_of no_longer longest is_longer
@@ -129,7 +129,7 @@ pub fields::after_attributes-complete-requires : goal.fields::after_attributes-c
 fields::after_attributes-complete-requires t c = (c.take_pair.ensures.reads true 0 0).does.innermost _ (c.at_pair.ensures.peeks.same.innermost _ (c.requires.innermost))
 
 pub fields::after_attributes-complete-requires-then-at_attributed_named_field : goal.fields::after_attributes-complete-requires-then-at_attributed_named_field
-fields::after_attributes-complete-requires-then-at_attributed_named_field t c = (c.expect_pattern.ensures.reads true).does.innermost _ ((c.take.ensures.reads true).does.innermost _ ((c.name_of_field.ensures.reads true).does.innermost _ (c.at_attributed_named_field.ensures.peeks.same.innermost _ (c.at_pair.ensures.peeks.same.innermost _ (c.requires.innermost)))))
+fields::after_attributes-complete-requires-then-at_attributed_named_field t c = (c.expect_part.ensures.reads true).does.innermost _ ((c.take.ensures.reads true).does.innermost _ ((c.name_of_field.ensures.reads true).does.innermost _ (c.at_attributed_named_field.ensures.peeks.same.innermost _ (c.at_pair.ensures.peeks.same.innermost _ (c.requires.innermost)))))
 
 pub fields::after_attributes-complete-requires-2 : goal.fields::after_attributes-complete-requires-2
 fields::after_attributes-complete-requires-2 t c = (c.any_binding.ensures.reads true).does.innermost _ (c.at_attributed_named_field.ensures.peeks.same.innermost _ (c.at_pair.ensures.peeks.same.innermost _ (c.requires.innermost)))

@@ -85,11 +85,11 @@ unfolding look_of begins_below whole rule items statements expressions patterns 
 expressions::operand::postfixes-returns-clause-reads t c = λ cond. last-turn cond (more rules.postfix) (ends-at-end cond (more rules.postfix) refl) _ _ _ (c.turns.invariant.goes cond) (saw-so (c.at_postfix.ensures.sees cond) c.turns-test.false) c.at_postfix.ensures.peeks.same
 
 pub expressions::operand::postfix-wrap-requires : goal.expressions::operand::postfix-wrap-requires
-expressions::operand::postfix-wrap-requires t c = (c.arguments.ensures.gives true).does.innermost _ (c.current.ensures.peeks.same.innermost _ c.requires.innermost)
+expressions::operand::postfix-wrap-requires t c = (c.list.ensures.reads true).does.innermost _ (c.current.ensures.peeks.same.innermost _ c.requires.innermost)
 
 pub expressions::operand::postfix-returns-in-L_PAREN-clause-reads : goal.expressions::operand::postfix-returns-in-L_PAREN-clause-reads
 unfolding look_of begins_below whole rule items statements expressions patterns types paths there_at shift passes is_silent begins in_mode anew row one_of any_of no_longer longest is_longer
-expressions::operand::postfix-returns-in-L_PAREN-clause-reads t c = λ cond. reads-more cond (goes rules.postfix cond (reads-here (saw-arm c.in-L_PAREN.is (c.current.ensures.sees cond) and nothing) (after-look cond c.current.ensures.peeks.same (reads-wrap cond (reads-call cond (c.arguments.ensures.gives cond)) c.wrap.ensures.wraps))))
+expressions::operand::postfix-returns-in-L_PAREN-clause-reads t c = λ cond. reads-more cond (goes rules.postfix cond (reads-here (saw-arm c.in-L_PAREN.is (c.current.ensures.sees cond) and nothing) (after-look cond c.current.ensures.peeks.same (reads-wrap cond (reads-call cond (gives-anew (anew-after refl (c.list.ensures.reads cond)))) c.wrap.ensures.wraps))))
 
 pub expressions::operand::postfix-wrap-requires-in-L_BRACK : goal.expressions::operand::postfix-wrap-requires-in-L_BRACK
 expressions::operand::postfix-wrap-requires-in-L_BRACK t c = (c.index.ensures.reads true).does.innermost _ (c.current.ensures.peeks.same.innermost _ c.requires.innermost)
@@ -151,15 +151,7 @@ unfolding look_of begins_below whole rule items statements expressions patterns 
 expressions::operand::after_dot-returns-in_default-clause-reads t c = λ cond. reads-more cond (goes rules.after_dot cond (reads-here (saw-so (c.at_method.ensures.sees cond) c.if-at_method.false and saw-before c.at_method.ensures.peeks.same (saw-not c.in_default.not-IDENT (c.current.ensures.sees cond)) and saw-before c.at_method.ensures.peeks.same (saw-not c.in_default.not-INT_NUMBER (c.current.ensures.sees cond)) and saw-before c.at_method.ensures.peeks.same (saw-not c.in_default.not-FLOAT_NUMBER (c.current.ensures.sees cond)) and nothing) (after-look cond c.at_method.ensures.peeks.same (after-look cond c.current.ensures.peeks.same (reads-wrap cond (c.error.ensures.reads cond) c.wrap-in_default.ensures.wraps)))))
 
 pub expressions::operand::method_call-returns-clause-reads : goal.expressions::operand::method_call-returns-clause-reads
-expressions::operand::method_call-returns-clause-reads t c = λ cond. (reads-then cond (c.word_type.ensures.reads cond) (reads-then cond (c.opt_generic_args.ensures.reads cond) (c.expect_arguments.ensures.reads cond)))
-
-pub expressions::operand::expect_arguments-returns-then-at-clause-reads : goal.expressions::operand::expect_arguments-returns-then-at-clause-reads
-unfolding look_of begins_below whole rule items statements expressions patterns types paths there_at shift passes is_silent begins in_mode anew row one_of any_of no_longer longest is_longer
-expressions::operand::expect_arguments-returns-then-at-clause-reads t c = λ cond. reads-here (saw-so (c.at.ensures.sees cond) c.if-at.true and nothing) (after-look cond c.at.ensures.peeks.same (reads-call cond (c.arguments.ensures.gives cond)))
-
-pub expressions::operand::expect_arguments-returns-clause-reads : goal.expressions::operand::expect_arguments-returns-clause-reads
-unfolding look_of begins_below whole rule items statements expressions patterns types paths there_at shift passes is_silent begins in_mode anew row one_of any_of no_longer longest is_longer
-expressions::operand::expect_arguments-returns-clause-reads t c = λ cond. reads-here (saw-so (c.at.ensures.sees cond) c.if-at.false and nothing) (after-look cond c.at.ensures.peeks.same (c.error.ensures.reads cond))
+expressions::operand::method_call-returns-clause-reads t c = λ cond. (reads-then cond (c.word_type.ensures.reads cond) (reads-then cond (c.opt_part.ensures.reads cond) (c.expect_part.ensures.reads cond)))
 
 pub expressions::operand::float-split-frame-requires : goal.expressions::operand::float-split-frame-requires
 expressions::operand::float-split-frame-requires t c = record { float = record { float = λ d. saw-after c.at_joint-joint.ensures.same (c.requires.begins.sees d); joint = λ d. saw-after c.at_joint-joint.ensures.same (c.at_joint-joint.ensures.sees d); some = omega (arith, c.requires.begins.some, c.at_joint-joint.ensures.stays.left) }; innermost = c.at_joint-joint.ensures.same.innermost _ c.requires.innermost }
