@@ -4,7 +4,8 @@ ghost use Rattle.std.specs.Prelude.{◌≤◌, Bool, Some, None, true};
 ghost use Rattle.parser_events.specs.Forest.{ExpectedExpression};
 ghost use Rattle.parser_events.specs.Stack.{IsInnermost};
 ghost use Rattle.rust_grammar.specs.Calls.{Expression, Operation};
-ghost use Rattle.rust_grammar.specs.Notation.{◌!, more};
+ghost use Rattle.parser_input.specs.Kinds.{RANGE_EXPR};
+ghost use Rattle.rust_grammar.specs.Notation.{◌!, ◌⟨◌⟩, more};
 ghost use Rattle.rust_grammar.specs.Rule as rules;
 ghost use Rattle.rust_grammar.specs.Rule.{Call, Want, begins};
 ghost use Rattle.rust_grammar.specs.Expressions as rows;
@@ -12,7 +13,7 @@ ghost use Rattle.grammar_reader.specs.Told.{level_of};
 ghost use Rattle.rust_productions.specs.Looks.{tokens, Takes, Asks, AsksIn};
 ghost use Rattle.rust_productions.specs.Operators.{IsMark, IsNext, spelling_of};
 ghost use Rattle.rust_productions.specs.Reads.{looks, Gives, Reads, Saw};
-ghost use Rattle.rust_productions.specs.Starts.{StartsIn};
+ghost use Rattle.rust_productions.specs.Starts.{Starts, StartsIn};
 ghost use Rattle.rust_productions.specs.Moves.{Keeps};
 ghost use Rattle.grammar_reader.specs.Next.{EndsRange};
 
@@ -162,6 +163,21 @@ fn range(p: &mut Parser<'_>, mark: RangeMark, condition: bool)
     abandon(p, frame);
 }
 
+/// Parses a range without a start, as an operand.
+// ..a
+#[cycle(grammar)]
+pub(crate) fn open_range(p: &mut Parser<'_>, condition: bool)
+    requires begins { Starts rows.mark_begins p.old }
+    ensures reads { Reads condition (RANGE_EXPR ⟨ rows.open_range ⟩) p.old p.new }
+    ensures takes { Takes 4060 p.old p.new }
+{
+    let range = start(p);
+    if let Some(mark) = range_mark(p) {
+        range_end(p, mark, condition);
+    }
+    complete(p, range, SyntaxKind::RANGE_EXPR);
+}
+
 /// Parses a range operator and its optional end. Returns `true` if there is an end.
 // ..=a
 #[cycle(grammar)]
@@ -182,7 +198,7 @@ fn range_end(p: &mut Parser<'_>, mark: RangeMark, condition: bool) -> bool
 /// Parses what follows an operand and its operators: ranges, operands after `|>`, an assignment.
 // ..b = c
 #[cycle(grammar)]
-fn operation_tail(p: &mut Parser<'_>, frame: Marker, condition: bool) -> Marker
+pub(crate) fn operation_tail(p: &mut Parser<'_>, frame: Marker, condition: bool) -> Marker
     requires innermost { IsInnermost frame p.old.nodes }
     ensures reads { Reads condition (more rules.operation_tail) p.old p.new }
     ensures asks { AsksIn result 7 p.old p.new }

@@ -35,8 +35,8 @@ use rust_productions::grammar::fields::at_field_value;
 use rust_productions::grammar::generic_args::at_generic_arg;
 use rust_productions::grammar::generic_params::{at_captured, at_generic_param, captured};
 use rust_productions::grammar::lists::{at_list_end, at_unexpected, comma};
-use rust_productions::grammar::params::at_param;
-use rust_productions::grammar::patterns::{at_pattern, at_pattern_field, at_single_pattern};
+use rust_productions::grammar::params::{at_closure_param, at_param};
+use rust_productions::grammar::patterns::{at_pattern, at_pattern_field};
 use rust_productions::grammar::types::{at_fn_ptr_param, at_type};
 use rust_productions::grammar::{at, complete, expect, skip, start, take, tokens_left, wrap};
 
@@ -169,7 +169,7 @@ fn at_element(p: &mut Parser<'_>, element: Element) -> bool
 {
     match element {
         Element::Captured => at_captured(p),
-        Element::ClosureParam => at_single_pattern(p),
+        Element::ClosureParam => at_closure_param(p),
         Element::Expression => at_expression(p, false),
         Element::FieldValue => at_field_value(p),
         Element::FnPtrParam => at_fn_ptr_param(p),

@@ -11,9 +11,10 @@ ghost use Rattle.rust_productions.specs.Reads.{looks, Gives, Reads, Saw};
 ghost use Rattle.rust_productions.specs.Starts.{Starts};
 
 use crate::grammar::parts::{Part, expect_part};
-use crate::grammar::patterns::single_pattern;
+use crate::grammar::patterns::{single_or_missing, single_pattern};
 use parser_events::parser::{Marker, Parser};
 use parser_input::syntax_kind::SyntaxKind;
+use rust_productions::grammar::patterns::at_pattern;
 use rust_productions::grammar::{abandon, at, start, take, wrap};
 
 /// Parses a pattern.
@@ -87,4 +88,21 @@ fn opt_further(p: &mut Parser<'_>, frame: Marker) -> Marker
         return wrap(p, frame, SyntaxKind::OR_PAT);
     }
     frame
+}
+
+/// Parses a pattern, or an error within the nodes of its path if none starts here.
+// A | B
+#[cycle(grammar)]
+pub(crate) fn pattern_or_missing(p: &mut Parser<'_>)
+    ensures gives { (c : Bool) → Gives rules.pattern c p.old p.new }
+    ensures asks { Asks 30 p.old p.new }
+{
+    if at_pattern(p) {
+        pattern(p);
+        return;
+    }
+    let frame = start(p);
+    single_or_missing(p);
+    let frame = opt_further(p, frame);
+    abandon(p, frame);
 }

@@ -17,11 +17,13 @@ ghost use Rattle.rust_productions.specs.Starts.{Starts};
 use crate::grammar::lists::{Element, ListKind, list, rest_of_list, tuple_tail};
 use crate::grammar::parts::{Part, expect_part};
 use crate::grammar::paths::{Mode, path_with_args, qualified_path};
-use crate::grammar::pattern_ranges::range_or_atom;
+use crate::grammar::pattern_ranges::{opt_range, range_or_atom};
 use crate::grammar::types::word_type;
 use parser_events::parser::{Marker, Parser};
 use parser_input::syntax_kind::SyntaxKind;
+use rust_productions::grammar::const_args::missing_expr_path;
 use rust_productions::grammar::names::{at_literal, expect_literal, expect_name, literal, name};
+use rust_productions::grammar::patterns::at_single_pattern;
 use rust_productions::grammar::token_trees::expect_token_tree;
 use rust_productions::grammar::{
     abandon, at, at_new, at_pair, at_pair_after, complete, current, eat, nth, start, take,
@@ -337,4 +339,33 @@ fn after_path(p: &mut Parser<'_>, frame: Marker) -> Marker
         return wrap(p, frame, SyntaxKind::MACRO_CALL);
     }
     wrap(p, frame, SyntaxKind::PATH_PAT)
+}
+
+/// Parses a pattern without alternatives, or an error within the nodes of its path if none starts
+/// here.
+// Some(a)
+#[cycle(grammar)]
+pub(crate) fn single_or_missing(p: &mut Parser<'_>)
+    ensures gives { (c : Bool) → Gives rules.single_pattern c p.old p.new }
+    ensures asks { Asks 20 p.old p.new }
+{
+    if at_single_pattern(p) {
+        single_pattern(p);
+        return;
+    }
+    missing_single(p);
+}
+
+/// Parses a pattern where none starts: emits an error within the nodes of its path.
+#[cycle(grammar)]
+fn missing_single(p: &mut Parser<'_>)
+    requires none { (c : Bool) → Saw c (looks rules.single_pattern) p.old false }
+    ensures gives { (c : Bool) → Gives rules.single_pattern c p.old p.new }
+    ensures asks { Asks 12 p.old p.new }
+{
+    let frame = start(p);
+    missing_expr_path(p);
+    let frame = after_path(p, frame);
+    let frame = opt_range(p, frame);
+    abandon(p, frame);
 }

@@ -200,7 +200,7 @@ fn block_statement(p: &mut Parser<'_>, end: ListEnd)
 
 /// Returns `true` if an expression that ends in a block continues: with a `?`, or with a dot that
 /// starts no range.
-fn at_more(p: &mut Parser<'_>) -> bool
+pub(crate) fn at_more(p: &mut Parser<'_>) -> bool
     ensures sees { (c : Bool) → Saw c goes_on p.old result }
     ensures some { IsTrue result → 1 ≤ tokens p.old }
     ensures peeks { Peeks 3 p.old p.new }

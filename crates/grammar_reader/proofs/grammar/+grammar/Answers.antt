@@ -104,20 +104,11 @@ expressions::atom::inside-returns-in-L_BRACK-clause-reads = atom.expressions::at
 pub expressions::atom::inside-returns-in-L_BRACK-clause-takes : goal.expressions::atom::inside-returns-in-L_BRACK-clause-takes
 expressions::atom::inside-returns-in-L_BRACK-clause-takes = atom.expressions::atom::inside-returns-in-L_BRACK-clause-takes
 
-pub expressions::atom::inside-returns-in-RETURN_KW-clause-reads : goal.expressions::atom::inside-returns-in-RETURN_KW-clause-reads
-expressions::atom::inside-returns-in-RETURN_KW-clause-reads = atom.expressions::atom::inside-returns-in-RETURN_KW-clause-reads
-
 pub expressions::atom::inside-returns-in-RETURN_KW-clause-takes : goal.expressions::atom::inside-returns-in-RETURN_KW-clause-takes
 expressions::atom::inside-returns-in-RETURN_KW-clause-takes = atom.expressions::atom::inside-returns-in-RETURN_KW-clause-takes
 
-pub expressions::atom::inside-returns-in-BREAK_KW-clause-reads : goal.expressions::atom::inside-returns-in-BREAK_KW-clause-reads
-expressions::atom::inside-returns-in-BREAK_KW-clause-reads = atom.expressions::atom::inside-returns-in-BREAK_KW-clause-reads
-
 pub expressions::atom::inside-returns-in-BREAK_KW-clause-takes : goal.expressions::atom::inside-returns-in-BREAK_KW-clause-takes
 expressions::atom::inside-returns-in-BREAK_KW-clause-takes = atom.expressions::atom::inside-returns-in-BREAK_KW-clause-takes
-
-pub expressions::atom::inside-returns-in-CONTINUE_KW-clause-reads : goal.expressions::atom::inside-returns-in-CONTINUE_KW-clause-reads
-expressions::atom::inside-returns-in-CONTINUE_KW-clause-reads = atom.expressions::atom::inside-returns-in-CONTINUE_KW-clause-reads
 
 pub expressions::atom::inside-returns-in-CONTINUE_KW-clause-takes : goal.expressions::atom::inside-returns-in-CONTINUE_KW-clause-takes
 expressions::atom::inside-returns-in-CONTINUE_KW-clause-takes = atom.expressions::atom::inside-returns-in-CONTINUE_KW-clause-takes
@@ -133,9 +124,6 @@ expressions::atom::inside-returns-in-MOVE_KW-clause-reads = atom.expressions::at
 
 pub expressions::atom::inside-returns-in-MOVE_KW-clause-takes : goal.expressions::atom::inside-returns-in-MOVE_KW-clause-takes
 expressions::atom::inside-returns-in-MOVE_KW-clause-takes = atom.expressions::atom::inside-returns-in-MOVE_KW-clause-takes
-
-pub expressions::atom::inside-returns-in-LET_KW-clause-reads : goal.expressions::atom::inside-returns-in-LET_KW-clause-reads
-expressions::atom::inside-returns-in-LET_KW-clause-reads = atom.expressions::atom::inside-returns-in-LET_KW-clause-reads
 
 pub expressions::atom::inside-returns-in-LET_KW-clause-takes : goal.expressions::atom::inside-returns-in-LET_KW-clause-takes
 expressions::atom::inside-returns-in-LET_KW-clause-takes = atom.expressions::atom::inside-returns-in-LET_KW-clause-takes
@@ -236,12 +224,6 @@ expressions::atom::after_element-returns-then-at-2-clause-reads = atom.expressio
 pub expressions::atom::after_element-returns-clause-reads : goal.expressions::atom::after_element-returns-clause-reads
 expressions::atom::after_element-returns-clause-reads = atom.expressions::atom::after_element-returns-clause-reads
 
-pub expressions::atom::value_expr-complete-requires : goal.expressions::atom::value_expr-complete-requires
-expressions::atom::value_expr-complete-requires = atom.expressions::atom::value_expr-complete-requires
-
-pub expressions::atom::value_expr-returns-clause-reads : goal.expressions::atom::value_expr-returns-clause-reads
-expressions::atom::value_expr-returns-clause-reads = atom.expressions::atom::value_expr-returns-clause-reads
-
 pub expressions::atom::opt_value-operation-requires : goal.expressions::atom::opt_value-operation-requires
 expressions::atom::opt_value-operation-requires = atom.expressions::atom::opt_value-operation-requires
 
@@ -269,12 +251,6 @@ expressions::closures::move_closure-returns-clause-reads = atom.expressions::clo
 pub expressions::closures::closure_param-single_pattern-requires : goal.expressions::closures::closure_param-single_pattern-requires
 expressions::closures::closure_param-single_pattern-requires = atom.expressions::closures::closure_param-single_pattern-requires
 
-pub expressions::closures::closure_param-complete-requires : goal.expressions::closures::closure_param-complete-requires
-expressions::closures::closure_param-complete-requires = atom.expressions::closures::closure_param-complete-requires
-
-pub expressions::closures::closure_param-returns-clause-reads : goal.expressions::closures::closure_param-returns-clause-reads
-expressions::closures::closure_param-returns-clause-reads = atom.expressions::closures::closure_param-returns-clause-reads
-
 pub expressions::closures::opt_type-returns-then-at-clause-reads : goal.expressions::closures::opt_type-returns-then-at-clause-reads
 expressions::closures::opt_type-returns-then-at-clause-reads = atom.expressions::closures::opt_type-returns-then-at-clause-reads
 
@@ -286,12 +262,6 @@ expressions::closures::closure_body-returns-then-at_pair-clause-reads = atom.exp
 
 pub expressions::closures::closure_body-returns-clause-reads : goal.expressions::closures::closure_body-returns-clause-reads
 expressions::closures::closure_body-returns-clause-reads = atom.expressions::closures::closure_body-returns-clause-reads
-
-pub expressions::atom::let_expr-complete-requires : goal.expressions::atom::let_expr-complete-requires
-expressions::atom::let_expr-complete-requires = atom.expressions::atom::let_expr-complete-requires
-
-pub expressions::atom::let_expr-returns-clause-reads : goal.expressions::atom::let_expr-returns-clause-reads
-expressions::atom::let_expr-returns-clause-reads = atom.expressions::atom::let_expr-returns-clause-reads
 
 pub attributes::attribute-complete-requires : goal.attributes::attribute-complete-requires
 attributes::attribute-complete-requires = attributes.attributes::attribute-complete-requires
@@ -353,62 +323,17 @@ items::consts::opt_value-returns-then-at-clause-reads = consts.items::consts::op
 pub items::consts::opt_value-returns-else-at-clause-reads : goal.items::consts::opt_value-returns-else-at-clause-reads
 items::consts::opt_value-returns-else-at-clause-reads = consts.items::consts::opt_value-returns-else-at-clause-reads
 
-pub expressions::control::block_like-returns-in-L_CURLY-clause-gives : goal.expressions::control::block_like-returns-in-L_CURLY-clause-gives
-expressions::control::block_like-returns-in-L_CURLY-clause-gives = control.expressions::control::block_like-returns-in-L_CURLY-clause-gives
-
-pub expressions::control::block_like-returns-in-UNSAFE_KW-clause-gives : goal.expressions::control::block_like-returns-in-UNSAFE_KW-clause-gives
-expressions::control::block_like-returns-in-UNSAFE_KW-clause-gives = control.expressions::control::block_like-returns-in-UNSAFE_KW-clause-gives
-
-pub expressions::control::block_like-returns-in-IF_KW-clause-gives : goal.expressions::control::block_like-returns-in-IF_KW-clause-gives
-expressions::control::block_like-returns-in-IF_KW-clause-gives = control.expressions::control::block_like-returns-in-IF_KW-clause-gives
-
-pub expressions::control::block_like-returns-in-WHILE_KW-clause-gives : goal.expressions::control::block_like-returns-in-WHILE_KW-clause-gives
-expressions::control::block_like-returns-in-WHILE_KW-clause-gives = control.expressions::control::block_like-returns-in-WHILE_KW-clause-gives
-
-pub expressions::control::block_like-returns-in-LOOP_KW-clause-gives : goal.expressions::control::block_like-returns-in-LOOP_KW-clause-gives
-expressions::control::block_like-returns-in-LOOP_KW-clause-gives = control.expressions::control::block_like-returns-in-LOOP_KW-clause-gives
-
-pub expressions::control::block_like-returns-in-FOR_KW-clause-gives : goal.expressions::control::block_like-returns-in-FOR_KW-clause-gives
-expressions::control::block_like-returns-in-FOR_KW-clause-gives = control.expressions::control::block_like-returns-in-FOR_KW-clause-gives
-
-pub expressions::control::block_like-returns-in-MATCH_KW-clause-gives : goal.expressions::control::block_like-returns-in-MATCH_KW-clause-gives
-expressions::control::block_like-returns-in-MATCH_KW-clause-gives = control.expressions::control::block_like-returns-in-MATCH_KW-clause-gives
-
-pub expressions::control::block_like-macro_block-requires : goal.expressions::control::block_like-macro_block-requires
-expressions::control::block_like-macro_block-requires = control.expressions::control::block_like-macro_block-requires
-
-pub expressions::control::block_like-returns-in_default-clause-gives : goal.expressions::control::block_like-returns-in_default-clause-gives
-expressions::control::block_like-returns-in_default-clause-gives = control.expressions::control::block_like-returns-in_default-clause-gives
-
 pub expressions::control::unsafe_block-complete-requires : goal.expressions::control::unsafe_block-complete-requires
 expressions::control::unsafe_block-complete-requires = control.expressions::control::unsafe_block-complete-requires
 
 pub expressions::control::unsafe_block-returns-clause-reads : goal.expressions::control::unsafe_block-returns-clause-reads
 expressions::control::unsafe_block-returns-clause-reads = control.expressions::control::unsafe_block-returns-clause-reads
 
-pub expressions::control::while_expr-complete-requires : goal.expressions::control::while_expr-complete-requires
-expressions::control::while_expr-complete-requires = control.expressions::control::while_expr-complete-requires
-
-pub expressions::control::while_expr-returns-clause-reads : goal.expressions::control::while_expr-returns-clause-reads
-expressions::control::while_expr-returns-clause-reads = control.expressions::control::while_expr-returns-clause-reads
-
-pub expressions::control::loop_expr-complete-requires : goal.expressions::control::loop_expr-complete-requires
-expressions::control::loop_expr-complete-requires = control.expressions::control::loop_expr-complete-requires
-
-pub expressions::control::loop_expr-returns-clause-reads : goal.expressions::control::loop_expr-returns-clause-reads
-expressions::control::loop_expr-returns-clause-reads = control.expressions::control::loop_expr-returns-clause-reads
-
 pub expressions::control::match_expr-complete-requires : goal.expressions::control::match_expr-complete-requires
 expressions::control::match_expr-complete-requires = control.expressions::control::match_expr-complete-requires
 
 pub expressions::control::match_expr-returns-clause-reads : goal.expressions::control::match_expr-returns-clause-reads
 expressions::control::match_expr-returns-clause-reads = control.expressions::control::match_expr-returns-clause-reads
-
-pub expressions::control::for_expr-complete-requires : goal.expressions::control::for_expr-complete-requires
-expressions::control::for_expr-complete-requires = control.expressions::control::for_expr-complete-requires
-
-pub expressions::control::for_expr-returns-clause-reads : goal.expressions::control::for_expr-returns-clause-reads
-expressions::control::for_expr-returns-clause-reads = control.expressions::control::for_expr-returns-clause-reads
 
 pub expressions::control::if_expr-complete-requires : goal.expressions::control::if_expr-complete-requires
 expressions::control::if_expr-complete-requires = control.expressions::control::if_expr-complete-requires
@@ -590,20 +515,8 @@ expressions::operation_tail-returns-clause-asks = expressions.expressions::opera
 pub fields::field_value-named_value-requires : goal.fields::field_value-named_value-requires
 fields::field_value-named_value-requires = fields.fields::field_value-named_value-requires
 
-pub fields::field_value-returns-then-at_named_field-clause-gives : goal.fields::field_value-returns-then-at_named_field-clause-gives
-fields::field_value-returns-then-at_named_field-clause-gives = fields.fields::field_value-returns-then-at_named_field-clause-gives
-
 pub fields::field_value-other_fields-requires : goal.fields::field_value-other_fields-requires
 fields::field_value-other_fields-requires = fields.fields::field_value-other_fields-requires
-
-pub fields::field_value-returns-then-at_pair-clause-gives : goal.fields::field_value-returns-then-at_pair-clause-gives
-fields::field_value-returns-then-at_pair-clause-gives = fields.fields::field_value-returns-then-at_pair-clause-gives
-
-pub fields::field_value-path_value-requires : goal.fields::field_value-path_value-requires
-fields::field_value-path_value-requires = fields.fields::field_value-path_value-requires
-
-pub fields::field_value-returns-clause-gives : goal.fields::field_value-returns-clause-gives
-fields::field_value-returns-clause-gives = fields.fields::field_value-returns-clause-gives
 
 pub fields::named_value-complete-requires : goal.fields::named_value-complete-requires
 fields::named_value-complete-requires = fields.fields::named_value-complete-requires
@@ -1295,29 +1208,11 @@ lists::read_element-returns-in-Variant-clause-reads = lists.lists::read_element-
 pub expressions::match_arm::match_arm-pattern-requires : goal.expressions::match_arm::match_arm-pattern-requires
 expressions::match_arm::match_arm-pattern-requires = match_arm.expressions::match_arm::match_arm-pattern-requires
 
-pub expressions::match_arm::match_arm-complete-requires : goal.expressions::match_arm::match_arm-complete-requires
-expressions::match_arm::match_arm-complete-requires = match_arm.expressions::match_arm::match_arm-complete-requires
-
-pub expressions::match_arm::match_arm-returns-clause-gives : goal.expressions::match_arm::match_arm-returns-clause-gives
-expressions::match_arm::match_arm-returns-clause-gives = match_arm.expressions::match_arm::match_arm-returns-clause-gives
-
-pub expressions::match_arm::opt_guard-complete-requires : goal.expressions::match_arm::opt_guard-complete-requires
-expressions::match_arm::opt_guard-complete-requires = match_arm.expressions::match_arm::opt_guard-complete-requires
-
-pub expressions::match_arm::opt_guard-returns-then-at-clause-reads : goal.expressions::match_arm::opt_guard-returns-then-at-clause-reads
-expressions::match_arm::opt_guard-returns-then-at-clause-reads = match_arm.expressions::match_arm::opt_guard-returns-then-at-clause-reads
-
-pub expressions::match_arm::opt_guard-returns-else-at-clause-reads : goal.expressions::match_arm::opt_guard-returns-else-at-clause-reads
-expressions::match_arm::opt_guard-returns-else-at-clause-reads = match_arm.expressions::match_arm::opt_guard-returns-else-at-clause-reads
-
 pub expressions::match_arm::arm_value-block_like-requires : goal.expressions::match_arm::arm_value-block_like-requires
 expressions::match_arm::arm_value-block_like-requires = match_arm.expressions::match_arm::arm_value-block_like-requires
 
 pub expressions::match_arm::arm_value-returns-then-at_block_like-clause-reads : goal.expressions::match_arm::arm_value-returns-then-at_block_like-clause-reads
 expressions::match_arm::arm_value-returns-then-at_block_like-clause-reads = match_arm.expressions::match_arm::arm_value-returns-then-at_block_like-clause-reads
-
-pub expressions::match_arm::arm_value-returns-clause-reads : goal.expressions::match_arm::arm_value-returns-clause-reads
-expressions::match_arm::arm_value-returns-clause-reads = match_arm.expressions::match_arm::arm_value-returns-clause-reads
 
 pub items::members::tuple_field-typed-requires : goal.items::members::tuple_field-typed-requires
 items::members::tuple_field-typed-requires = members.items::members::tuple_field-typed-requires
@@ -1369,18 +1264,6 @@ items::members::opt_fields-returns-in-L_PAREN-clause-reads = members.items::memb
 
 pub items::members::opt_fields-returns-in_default-clause-reads : goal.items::members::opt_fields-returns-in_default-clause-reads
 items::members::opt_fields-returns-in_default-clause-reads = members.items::members::opt_fields-returns-in_default-clause-reads
-
-pub expressions::operand::prefixed-returns-in-MINUS-clause-gives : goal.expressions::operand::prefixed-returns-in-MINUS-clause-gives
-expressions::operand::prefixed-returns-in-MINUS-clause-gives = operand.expressions::operand::prefixed-returns-in-MINUS-clause-gives
-
-pub expressions::operand::prefixed-returns-in-BANG-clause-gives : goal.expressions::operand::prefixed-returns-in-BANG-clause-gives
-expressions::operand::prefixed-returns-in-BANG-clause-gives = operand.expressions::operand::prefixed-returns-in-BANG-clause-gives
-
-pub expressions::operand::prefixed-returns-in-STAR-clause-gives : goal.expressions::operand::prefixed-returns-in-STAR-clause-gives
-expressions::operand::prefixed-returns-in-STAR-clause-gives = operand.expressions::operand::prefixed-returns-in-STAR-clause-gives
-
-pub expressions::operand::prefixed-returns-in-AMP-clause-gives : goal.expressions::operand::prefixed-returns-in-AMP-clause-gives
-expressions::operand::prefixed-returns-in-AMP-clause-gives = operand.expressions::operand::prefixed-returns-in-AMP-clause-gives
 
 pub expressions::operand::prefixed-operand-requires : goal.expressions::operand::prefixed-operand-requires
 expressions::operand::prefixed-operand-requires = operand.expressions::operand::prefixed-operand-requires
@@ -1442,35 +1325,8 @@ expressions::operand::postfix-returns-in_default-clause-reads = operand.expressi
 pub expressions::operand::index-returns-clause-reads : goal.expressions::operand::index-returns-clause-reads
 expressions::operand::index-returns-clause-reads = operand.expressions::operand::index-returns-clause-reads
 
-pub expressions::operand::after_dot-wrap-requires : goal.expressions::operand::after_dot-wrap-requires
-expressions::operand::after_dot-wrap-requires = operand.expressions::operand::after_dot-wrap-requires
-
-pub expressions::operand::after_dot-returns-then-at_method-clause-reads : goal.expressions::operand::after_dot-returns-then-at_method-clause-reads
-expressions::operand::after_dot-returns-then-at_method-clause-reads = operand.expressions::operand::after_dot-returns-then-at_method-clause-reads
-
-pub expressions::operand::after_dot-wrap-requires-in-IDENT : goal.expressions::operand::after_dot-wrap-requires-in-IDENT
-expressions::operand::after_dot-wrap-requires-in-IDENT = operand.expressions::operand::after_dot-wrap-requires-in-IDENT
-
-pub expressions::operand::after_dot-returns-in-IDENT-clause-reads : goal.expressions::operand::after_dot-returns-in-IDENT-clause-reads
-expressions::operand::after_dot-returns-in-IDENT-clause-reads = operand.expressions::operand::after_dot-returns-in-IDENT-clause-reads
-
-pub expressions::operand::after_dot-wrap-requires-in-INT_NUMBER : goal.expressions::operand::after_dot-wrap-requires-in-INT_NUMBER
-expressions::operand::after_dot-wrap-requires-in-INT_NUMBER = operand.expressions::operand::after_dot-wrap-requires-in-INT_NUMBER
-
-pub expressions::operand::after_dot-returns-in-INT_NUMBER-clause-reads : goal.expressions::operand::after_dot-returns-in-INT_NUMBER-clause-reads
-expressions::operand::after_dot-returns-in-INT_NUMBER-clause-reads = operand.expressions::operand::after_dot-returns-in-INT_NUMBER-clause-reads
-
 pub expressions::operand::after_dot-float-requires : goal.expressions::operand::after_dot-float-requires
 expressions::operand::after_dot-float-requires = operand.expressions::operand::after_dot-float-requires
-
-pub expressions::operand::after_dot-returns-in-FLOAT_NUMBER-clause-reads : goal.expressions::operand::after_dot-returns-in-FLOAT_NUMBER-clause-reads
-expressions::operand::after_dot-returns-in-FLOAT_NUMBER-clause-reads = operand.expressions::operand::after_dot-returns-in-FLOAT_NUMBER-clause-reads
-
-pub expressions::operand::after_dot-wrap-requires-in_default : goal.expressions::operand::after_dot-wrap-requires-in_default
-expressions::operand::after_dot-wrap-requires-in_default = operand.expressions::operand::after_dot-wrap-requires-in_default
-
-pub expressions::operand::after_dot-returns-in_default-clause-reads : goal.expressions::operand::after_dot-returns-in_default-clause-reads
-expressions::operand::after_dot-returns-in_default-clause-reads = operand.expressions::operand::after_dot-returns-in_default-clause-reads
 
 pub expressions::operand::method_call-returns-clause-reads : goal.expressions::operand::method_call-returns-clause-reads
 expressions::operand::method_call-returns-clause-reads = operand.expressions::operand::method_call-returns-clause-reads
@@ -3136,3 +2992,432 @@ lists::list-returns-clause-reads = lists.lists::list-returns-clause-reads
 
 pub lists::list-returns-clause-takes : goal.lists::list-returns-clause-takes
 lists::list-returns-clause-takes = lists.lists::list-returns-clause-takes
+
+pub expressions::control::while_expr-returns-clause-reads : goal.expressions::control::while_expr-returns-clause-reads
+expressions::control::while_expr-returns-clause-reads = control.expressions::control::while_expr-returns-clause-reads
+
+pub expressions::control::while_expr-complete-requires : goal.expressions::control::while_expr-complete-requires
+expressions::control::while_expr-complete-requires = control.expressions::control::while_expr-complete-requires
+
+pub expressions::control::loop_expr-returns-clause-reads : goal.expressions::control::loop_expr-returns-clause-reads
+expressions::control::loop_expr-returns-clause-reads = control.expressions::control::loop_expr-returns-clause-reads
+
+pub expressions::control::loop_expr-complete-requires : goal.expressions::control::loop_expr-complete-requires
+expressions::control::loop_expr-complete-requires = control.expressions::control::loop_expr-complete-requires
+
+pub expressions::control::for_expr-returns-clause-reads : goal.expressions::control::for_expr-returns-clause-reads
+expressions::control::for_expr-returns-clause-reads = control.expressions::control::for_expr-returns-clause-reads
+
+pub expressions::control::for_expr-complete-requires : goal.expressions::control::for_expr-complete-requires
+expressions::control::for_expr-complete-requires = control.expressions::control::for_expr-complete-requires
+
+pub expressions::control::while_rest-returns-clause-reads : goal.expressions::control::while_rest-returns-clause-reads
+expressions::control::while_rest-returns-clause-reads = control.expressions::control::while_rest-returns-clause-reads
+
+pub expressions::control::loop_rest-returns-clause-reads : goal.expressions::control::loop_rest-returns-clause-reads
+expressions::control::loop_rest-returns-clause-reads = control.expressions::control::loop_rest-returns-clause-reads
+
+pub expressions::control::for_rest-returns-clause-reads : goal.expressions::control::for_rest-returns-clause-reads
+expressions::control::for_rest-returns-clause-reads = control.expressions::control::for_rest-returns-clause-reads
+
+pub expressions::control::after_label-returns-in-WHILE_KW-clause-completes : goal.expressions::control::after_label-returns-in-WHILE_KW-clause-completes
+expressions::control::after_label-returns-in-WHILE_KW-clause-completes = control.expressions::control::after_label-returns-in-WHILE_KW-clause-completes
+
+pub expressions::control::after_label-returns-in-LOOP_KW-clause-completes : goal.expressions::control::after_label-returns-in-LOOP_KW-clause-completes
+expressions::control::after_label-returns-in-LOOP_KW-clause-completes = control.expressions::control::after_label-returns-in-LOOP_KW-clause-completes
+
+pub expressions::control::after_label-returns-in-FOR_KW-clause-completes : goal.expressions::control::after_label-returns-in-FOR_KW-clause-completes
+expressions::control::after_label-returns-in-FOR_KW-clause-completes = control.expressions::control::after_label-returns-in-FOR_KW-clause-completes
+
+pub expressions::control::after_label-returns-in_default-clause-completes : goal.expressions::control::after_label-returns-in_default-clause-completes
+expressions::control::after_label-returns-in_default-clause-completes = control.expressions::control::after_label-returns-in_default-clause-completes
+
+pub expressions::control::after_label-complete-requires : goal.expressions::control::after_label-complete-requires
+expressions::control::after_label-complete-requires = control.expressions::control::after_label-complete-requires
+
+pub expressions::control::after_label-complete-requires-in-LOOP_KW : goal.expressions::control::after_label-complete-requires-in-LOOP_KW
+expressions::control::after_label-complete-requires-in-LOOP_KW = control.expressions::control::after_label-complete-requires-in-LOOP_KW
+
+pub expressions::control::after_label-complete-requires-in-FOR_KW : goal.expressions::control::after_label-complete-requires-in-FOR_KW
+expressions::control::after_label-complete-requires-in-FOR_KW = control.expressions::control::after_label-complete-requires-in-FOR_KW
+
+pub expressions::control::after_label-complete-requires-in_default : goal.expressions::control::after_label-complete-requires-in_default
+expressions::control::after_label-complete-requires-in_default = control.expressions::control::after_label-complete-requires-in_default
+
+pub expressions::control::block_with_words-returns-clause-reads : goal.expressions::control::block_with_words-returns-clause-reads
+expressions::control::block_with_words-returns-clause-reads = control.expressions::control::block_with_words-returns-clause-reads
+
+pub expressions::control::block_with_words-complete-requires : goal.expressions::control::block_with_words-complete-requires
+expressions::control::block_with_words-complete-requires = control.expressions::control::block_with_words-complete-requires
+
+pub expressions::control::new_block-returns-then-at-clause-anew : goal.expressions::control::new_block-returns-then-at-clause-anew
+expressions::control::new_block-returns-then-at-clause-anew = control.expressions::control::new_block-returns-then-at-clause-anew
+
+pub expressions::control::new_block-returns-clause-anew : goal.expressions::control::new_block-returns-clause-anew
+expressions::control::new_block-returns-clause-anew = control.expressions::control::new_block-returns-clause-anew
+
+pub expressions::control::labelled-after_label-requires : goal.expressions::control::labelled-after_label-requires
+expressions::control::labelled-after_label-requires = control.expressions::control::labelled-after_label-requires
+
+pub expressions::control::labelled-returns-clause-anew : goal.expressions::control::labelled-returns-clause-anew
+expressions::control::labelled-returns-clause-anew = control.expressions::control::labelled-returns-clause-anew
+
+pub expressions::control::block_like-returns-in-L_CURLY-clause-gives : goal.expressions::control::block_like-returns-in-L_CURLY-clause-gives
+expressions::control::block_like-returns-in-L_CURLY-clause-gives = control.expressions::control::block_like-returns-in-L_CURLY-clause-gives
+
+pub expressions::control::block_like-returns-in-UNSAFE_KW-clause-gives : goal.expressions::control::block_like-returns-in-UNSAFE_KW-clause-gives
+expressions::control::block_like-returns-in-UNSAFE_KW-clause-gives = control.expressions::control::block_like-returns-in-UNSAFE_KW-clause-gives
+
+pub expressions::control::block_like-returns-in-IF_KW-clause-gives : goal.expressions::control::block_like-returns-in-IF_KW-clause-gives
+expressions::control::block_like-returns-in-IF_KW-clause-gives = control.expressions::control::block_like-returns-in-IF_KW-clause-gives
+
+pub expressions::control::block_like-returns-in-WHILE_KW-clause-gives : goal.expressions::control::block_like-returns-in-WHILE_KW-clause-gives
+expressions::control::block_like-returns-in-WHILE_KW-clause-gives = control.expressions::control::block_like-returns-in-WHILE_KW-clause-gives
+
+pub expressions::control::block_like-returns-in-LOOP_KW-clause-gives : goal.expressions::control::block_like-returns-in-LOOP_KW-clause-gives
+expressions::control::block_like-returns-in-LOOP_KW-clause-gives = control.expressions::control::block_like-returns-in-LOOP_KW-clause-gives
+
+pub expressions::control::block_like-returns-in-FOR_KW-clause-gives : goal.expressions::control::block_like-returns-in-FOR_KW-clause-gives
+expressions::control::block_like-returns-in-FOR_KW-clause-gives = control.expressions::control::block_like-returns-in-FOR_KW-clause-gives
+
+pub expressions::control::block_like-returns-in-MATCH_KW-clause-gives : goal.expressions::control::block_like-returns-in-MATCH_KW-clause-gives
+expressions::control::block_like-returns-in-MATCH_KW-clause-gives = control.expressions::control::block_like-returns-in-MATCH_KW-clause-gives
+
+pub expressions::control::block_like-returns-then-at_new_block-clause-gives : goal.expressions::control::block_like-returns-then-at_new_block-clause-gives
+expressions::control::block_like-returns-then-at_new_block-clause-gives = control.expressions::control::block_like-returns-then-at_new_block-clause-gives
+
+pub expressions::control::block_like-returns-in_default-clause-gives : goal.expressions::control::block_like-returns-in_default-clause-gives
+expressions::control::block_like-returns-in_default-clause-gives = control.expressions::control::block_like-returns-in_default-clause-gives
+
+pub expressions::control::block_like-new_block-requires : goal.expressions::control::block_like-new_block-requires
+expressions::control::block_like-new_block-requires = control.expressions::control::block_like-new_block-requires
+
+pub expressions::control::block_like-macro_block-requires : goal.expressions::control::block_like-macro_block-requires
+expressions::control::block_like-macro_block-requires = control.expressions::control::block_like-macro_block-requires
+
+pub expressions::atom::return_expr-returns-clause-reads : goal.expressions::atom::return_expr-returns-clause-reads
+expressions::atom::return_expr-returns-clause-reads = atom.expressions::atom::return_expr-returns-clause-reads
+
+pub expressions::atom::return_expr-complete-requires : goal.expressions::atom::return_expr-complete-requires
+expressions::atom::return_expr-complete-requires = atom.expressions::atom::return_expr-complete-requires
+
+pub expressions::atom::break_expr-returns-clause-reads : goal.expressions::atom::break_expr-returns-clause-reads
+expressions::atom::break_expr-returns-clause-reads = atom.expressions::atom::break_expr-returns-clause-reads
+
+pub expressions::atom::break_expr-complete-requires : goal.expressions::atom::break_expr-complete-requires
+expressions::atom::break_expr-complete-requires = atom.expressions::atom::break_expr-complete-requires
+
+pub expressions::atom::let_expr-returns-clause-reads : goal.expressions::atom::let_expr-returns-clause-reads
+expressions::atom::let_expr-returns-clause-reads = atom.expressions::atom::let_expr-returns-clause-reads
+
+pub expressions::atom::let_expr-complete-requires : goal.expressions::atom::let_expr-complete-requires
+expressions::atom::let_expr-complete-requires = atom.expressions::atom::let_expr-complete-requires
+
+pub expressions::atom::new_atom-returns-in-L_ANGLE-clause-reads : goal.expressions::atom::new_atom-returns-in-L_ANGLE-clause-reads
+expressions::atom::new_atom-returns-in-L_ANGLE-clause-reads = atom.expressions::atom::new_atom-returns-in-L_ANGLE-clause-reads
+
+pub expressions::atom::new_atom-returns-in-UNDERSCORE-clause-reads : goal.expressions::atom::new_atom-returns-in-UNDERSCORE-clause-reads
+expressions::atom::new_atom-returns-in-UNDERSCORE-clause-reads = atom.expressions::atom::new_atom-returns-in-UNDERSCORE-clause-reads
+
+pub expressions::atom::new_atom-returns-in_default-clause-reads : goal.expressions::atom::new_atom-returns-in_default-clause-reads
+expressions::atom::new_atom-returns-in_default-clause-reads = atom.expressions::atom::new_atom-returns-in_default-clause-reads
+
+pub expressions::atom::new_atom-qualified_path-frame-requires : goal.expressions::atom::new_atom-qualified_path-frame-requires
+expressions::atom::new_atom-qualified_path-frame-requires = atom.expressions::atom::new_atom-qualified_path-frame-requires
+
+pub expressions::atom::new_atom-after_path-requires : goal.expressions::atom::new_atom-after_path-requires
+expressions::atom::new_atom-after_path-requires = atom.expressions::atom::new_atom-after_path-requires
+
+pub expressions::closures::closure_with_words-returns-clause-reads : goal.expressions::closures::closure_with_words-returns-clause-reads
+expressions::closures::closure_with_words-returns-clause-reads = atom.expressions::closures::closure_with_words-returns-clause-reads
+
+pub expressions::closures::closure_with_words-complete-requires : goal.expressions::closures::closure_with_words-complete-requires
+expressions::closures::closure_with_words-complete-requires = atom.expressions::closures::closure_with_words-complete-requires
+
+pub expressions::closures::closure_words-returns-in-FOR_KW-clause-reads : goal.expressions::closures::closure_words-returns-in-FOR_KW-clause-reads
+expressions::closures::closure_words-returns-in-FOR_KW-clause-reads = atom.expressions::closures::closure_words-returns-in-FOR_KW-clause-reads
+
+pub expressions::closures::closure_words-returns-in-CONST_KW-clause-reads : goal.expressions::closures::closure_words-returns-in-CONST_KW-clause-reads
+expressions::closures::closure_words-returns-in-CONST_KW-clause-reads = atom.expressions::closures::closure_words-returns-in-CONST_KW-clause-reads
+
+pub expressions::closures::closure_words-returns-in-STATIC_KW-clause-reads : goal.expressions::closures::closure_words-returns-in-STATIC_KW-clause-reads
+expressions::closures::closure_words-returns-in-STATIC_KW-clause-reads = atom.expressions::closures::closure_words-returns-in-STATIC_KW-clause-reads
+
+pub expressions::closures::closure_words-returns-in_default-clause-reads : goal.expressions::closures::closure_words-returns-in_default-clause-reads
+expressions::closures::closure_words-returns-in_default-clause-reads = atom.expressions::closures::closure_words-returns-in_default-clause-reads
+
+pub patterns::single_or_missing-returns-then-at_single_pattern-clause-gives : goal.patterns::single_or_missing-returns-then-at_single_pattern-clause-gives
+patterns::single_or_missing-returns-then-at_single_pattern-clause-gives = patterns.patterns::single_or_missing-returns-then-at_single_pattern-clause-gives
+
+pub patterns::single_or_missing-returns-clause-gives : goal.patterns::single_or_missing-returns-clause-gives
+patterns::single_or_missing-returns-clause-gives = patterns.patterns::single_or_missing-returns-clause-gives
+
+pub patterns::single_or_missing-single_pattern-requires : goal.patterns::single_or_missing-single_pattern-requires
+patterns::single_or_missing-single_pattern-requires = patterns.patterns::single_or_missing-single_pattern-requires
+
+pub patterns::single_or_missing-missing_single-requires : goal.patterns::single_or_missing-missing_single-requires
+patterns::single_or_missing-missing_single-requires = patterns.patterns::single_or_missing-missing_single-requires
+
+pub expressions::operand::raw_ref_expr-returns-clause-reads : goal.expressions::operand::raw_ref_expr-returns-clause-reads
+expressions::operand::raw_ref_expr-returns-clause-reads = operand.expressions::operand::raw_ref_expr-returns-clause-reads
+
+pub expressions::operand::raw_ref_expr-complete-requires : goal.expressions::operand::raw_ref_expr-complete-requires
+expressions::operand::raw_ref_expr-complete-requires = operand.expressions::operand::raw_ref_expr-complete-requires
+
+pub expressions::operand::new_operand-returns-then-at_raw-clause-reads : goal.expressions::operand::new_operand-returns-then-at_raw-clause-reads
+expressions::operand::new_operand-returns-then-at_raw-clause-reads = operand.expressions::operand::new_operand-returns-then-at_raw-clause-reads
+
+pub expressions::operand::new_operand-returns-clause-reads : goal.expressions::operand::new_operand-returns-clause-reads
+expressions::operand::new_operand-returns-clause-reads = operand.expressions::operand::new_operand-returns-clause-reads
+
+pub expressions::operand::new_operand-open_range-requires : goal.expressions::operand::new_operand-open_range-requires
+expressions::operand::new_operand-open_range-requires = operand.expressions::operand::new_operand-open_range-requires
+
+pub fields::attributed_value-value_after_attributes-requires : goal.fields::attributed_value-value_after_attributes-requires
+fields::attributed_value-value_after_attributes-requires = fields.fields::attributed_value-value_after_attributes-requires
+
+pub fields::attributed_value-returns-clause-anew : goal.fields::attributed_value-returns-clause-anew
+fields::attributed_value-returns-clause-anew = fields.fields::attributed_value-returns-clause-anew
+
+pub fields::value_after_attributes-returns-then-at_attributed_named_field-clause-completes : goal.fields::value_after_attributes-returns-then-at_attributed_named_field-clause-completes
+fields::value_after_attributes-returns-then-at_attributed_named_field-clause-completes = fields.fields::value_after_attributes-returns-then-at_attributed_named_field-clause-completes
+
+pub fields::value_after_attributes-returns-clause-completes : goal.fields::value_after_attributes-returns-clause-completes
+fields::value_after_attributes-returns-clause-completes = fields.fields::value_after_attributes-returns-clause-completes
+
+pub fields::value_after_attributes-complete-requires : goal.fields::value_after_attributes-complete-requires
+fields::value_after_attributes-complete-requires = fields.fields::value_after_attributes-complete-requires
+
+pub fields::value_after_attributes-complete-requires-2 : goal.fields::value_after_attributes-complete-requires-2
+fields::value_after_attributes-complete-requires-2 = fields.fields::value_after_attributes-complete-requires-2
+
+pub fields::field_value-returns-then-at_new-clause-gives : goal.fields::field_value-returns-then-at_new-clause-gives
+fields::field_value-returns-then-at_new-clause-gives = fields.fields::field_value-returns-then-at_new-clause-gives
+
+pub fields::field_value-returns-then-at_named_field-clause-gives : goal.fields::field_value-returns-then-at_named_field-clause-gives
+fields::field_value-returns-then-at_named_field-clause-gives = fields.fields::field_value-returns-then-at_named_field-clause-gives
+
+pub fields::field_value-returns-then-at_pair-clause-gives : goal.fields::field_value-returns-then-at_pair-clause-gives
+fields::field_value-returns-then-at_pair-clause-gives = fields.fields::field_value-returns-then-at_pair-clause-gives
+
+pub fields::field_value-returns-clause-gives : goal.fields::field_value-returns-clause-gives
+fields::field_value-returns-clause-gives = fields.fields::field_value-returns-clause-gives
+
+pub fields::field_value-path_value-requires : goal.fields::field_value-path_value-requires
+fields::field_value-path_value-requires = fields.fields::field_value-path_value-requires
+
+pub expressions::match_arm::opt_guard-returns-then-at-clause-reads : goal.expressions::match_arm::opt_guard-returns-then-at-clause-reads
+expressions::match_arm::opt_guard-returns-then-at-clause-reads = match_arm.expressions::match_arm::opt_guard-returns-then-at-clause-reads
+
+pub expressions::match_arm::opt_guard-returns-else-at-clause-reads : goal.expressions::match_arm::opt_guard-returns-else-at-clause-reads
+expressions::match_arm::opt_guard-returns-else-at-clause-reads = match_arm.expressions::match_arm::opt_guard-returns-else-at-clause-reads
+
+pub expressions::match_arm::opt_guard-complete-requires : goal.expressions::match_arm::opt_guard-complete-requires
+expressions::match_arm::opt_guard-complete-requires = match_arm.expressions::match_arm::opt_guard-complete-requires
+
+pub expressions::match_arm::arm_value-returns-then-at_whole-clause-reads : goal.expressions::match_arm::arm_value-returns-then-at_whole-clause-reads
+expressions::match_arm::arm_value-returns-then-at_whole-clause-reads = match_arm.expressions::match_arm::arm_value-returns-then-at_whole-clause-reads
+
+pub expressions::match_arm::arm_value-returns-clause-reads : goal.expressions::match_arm::arm_value-returns-clause-reads
+expressions::match_arm::arm_value-returns-clause-reads = match_arm.expressions::match_arm::arm_value-returns-clause-reads
+
+pub expressions::match_arm::profile_value-returns-then-at_block_like-clause-reads : goal.expressions::match_arm::profile_value-returns-then-at_block_like-clause-reads
+expressions::match_arm::profile_value-returns-then-at_block_like-clause-reads = match_arm.expressions::match_arm::profile_value-returns-then-at_block_like-clause-reads
+
+pub expressions::match_arm::profile_value-returns-clause-reads : goal.expressions::match_arm::profile_value-returns-clause-reads
+expressions::match_arm::profile_value-returns-clause-reads = match_arm.expressions::match_arm::profile_value-returns-clause-reads
+
+pub expressions::match_arm::profile_value-block_like-requires : goal.expressions::match_arm::profile_value-block_like-requires
+expressions::match_arm::profile_value-block_like-requires = match_arm.expressions::match_arm::profile_value-block_like-requires
+
+pub expressions::match_arm::inside_arm-returns-then-at_block_like-clause-reads : goal.expressions::match_arm::inside_arm-returns-then-at_block_like-clause-reads
+expressions::match_arm::inside_arm-returns-then-at_block_like-clause-reads = match_arm.expressions::match_arm::inside_arm-returns-then-at_block_like-clause-reads
+
+pub expressions::match_arm::inside_arm-returns-then-at_long_path-clause-reads : goal.expressions::match_arm::inside_arm-returns-then-at_long_path-clause-reads
+expressions::match_arm::inside_arm-returns-then-at_long_path-clause-reads = match_arm.expressions::match_arm::inside_arm-returns-then-at_long_path-clause-reads
+
+pub expressions::match_arm::inside_arm-returns-clause-reads : goal.expressions::match_arm::inside_arm-returns-clause-reads
+expressions::match_arm::inside_arm-returns-clause-reads = match_arm.expressions::match_arm::inside_arm-returns-clause-reads
+
+pub expressions::match_arm::inside_arm-block_like-requires : goal.expressions::match_arm::inside_arm-block_like-requires
+expressions::match_arm::inside_arm-block_like-requires = match_arm.expressions::match_arm::inside_arm-block_like-requires
+
+pub expressions::match_arm::inside_arm-arm_tail-requires : goal.expressions::match_arm::inside_arm-arm_tail-requires
+expressions::match_arm::inside_arm-arm_tail-requires = match_arm.expressions::match_arm::inside_arm-arm_tail-requires
+
+pub expressions::match_arm::inside_arm-path_with_args-requires : goal.expressions::match_arm::inside_arm-path_with_args-requires
+expressions::match_arm::inside_arm-path_with_args-requires = match_arm.expressions::match_arm::inside_arm-path_with_args-requires
+
+pub expressions::match_arm::inside_arm-after_long_path-requires : goal.expressions::match_arm::inside_arm-after_long_path-requires
+expressions::match_arm::inside_arm-after_long_path-requires = match_arm.expressions::match_arm::inside_arm-after_long_path-requires
+
+pub expressions::match_arm::arm_tail-returns-then-at_more-clause-reads : goal.expressions::match_arm::arm_tail-returns-then-at_more-clause-reads
+expressions::match_arm::arm_tail-returns-then-at_more-clause-reads = match_arm.expressions::match_arm::arm_tail-returns-then-at_more-clause-reads
+
+pub expressions::match_arm::arm_tail-returns-clause-reads : goal.expressions::match_arm::arm_tail-returns-clause-reads
+expressions::match_arm::arm_tail-returns-clause-reads = match_arm.expressions::match_arm::arm_tail-returns-clause-reads
+
+pub expressions::match_arm::arm_tail-further_operators-requires : goal.expressions::match_arm::arm_tail-further_operators-requires
+expressions::match_arm::arm_tail-further_operators-requires = match_arm.expressions::match_arm::arm_tail-further_operators-requires
+
+pub expressions::match_arm::further_operators-returns-clause-reads : goal.expressions::match_arm::further_operators-returns-clause-reads
+expressions::match_arm::further_operators-returns-clause-reads = match_arm.expressions::match_arm::further_operators-returns-clause-reads
+
+pub expressions::match_arm::further_operators-postfixes-frame-requires : goal.expressions::match_arm::further_operators-postfixes-frame-requires
+expressions::match_arm::further_operators-postfixes-frame-requires = match_arm.expressions::match_arm::further_operators-postfixes-frame-requires
+
+pub expressions::match_arm::further_operators-climb-frame-requires : goal.expressions::match_arm::further_operators-climb-frame-requires
+expressions::match_arm::further_operators-climb-frame-requires = match_arm.expressions::match_arm::further_operators-climb-frame-requires
+
+pub expressions::match_arm::further_operators-operation_tail-frame-requires : goal.expressions::match_arm::further_operators-operation_tail-frame-requires
+expressions::match_arm::further_operators-operation_tail-frame-requires = match_arm.expressions::match_arm::further_operators-operation_tail-frame-requires
+
+pub expressions::match_arm::after_long_path-returns-then-at_braced_macro-clause-reads : goal.expressions::match_arm::after_long_path-returns-then-at_braced_macro-clause-reads
+expressions::match_arm::after_long_path-returns-then-at_braced_macro-clause-reads = match_arm.expressions::match_arm::after_long_path-returns-then-at_braced_macro-clause-reads
+
+pub expressions::match_arm::after_long_path-wrap-frame-requires : goal.expressions::match_arm::after_long_path-wrap-frame-requires
+expressions::match_arm::after_long_path-wrap-frame-requires = match_arm.expressions::match_arm::after_long_path-wrap-frame-requires
+
+pub expressions::match_arm::after_long_path-wrap-frame-requires-then-at_braced_macro : goal.expressions::match_arm::after_long_path-wrap-frame-requires-then-at_braced_macro
+expressions::match_arm::after_long_path-wrap-frame-requires-then-at_braced_macro = match_arm.expressions::match_arm::after_long_path-wrap-frame-requires-then-at_braced_macro
+
+pub expressions::match_arm::after_long_path-arm_tail-requires : goal.expressions::match_arm::after_long_path-arm_tail-requires
+expressions::match_arm::after_long_path-arm_tail-requires = match_arm.expressions::match_arm::after_long_path-arm_tail-requires
+
+pub expressions::match_arm::after_long_path-further_operators-requires : goal.expressions::match_arm::after_long_path-further_operators-requires
+expressions::match_arm::after_long_path-further_operators-requires = match_arm.expressions::match_arm::after_long_path-further_operators-requires
+
+pub expressions::match_arm::guard_value-returns-then-at_whole-clause-reads : goal.expressions::match_arm::guard_value-returns-then-at_whole-clause-reads
+expressions::match_arm::guard_value-returns-then-at_whole-clause-reads = match_arm.expressions::match_arm::guard_value-returns-then-at_whole-clause-reads
+
+pub expressions::match_arm::guard_value-returns-clause-reads : goal.expressions::match_arm::guard_value-returns-clause-reads
+expressions::match_arm::guard_value-returns-clause-reads = match_arm.expressions::match_arm::guard_value-returns-clause-reads
+
+pub expressions::match_arm::arm_body-inside_arm-frame-requires : goal.expressions::match_arm::arm_body-inside_arm-frame-requires
+expressions::match_arm::arm_body-inside_arm-frame-requires = match_arm.expressions::match_arm::arm_body-inside_arm-frame-requires
+
+pub expressions::match_arm::arm_body-returns-clause-gives : goal.expressions::match_arm::arm_body-returns-clause-gives
+expressions::match_arm::arm_body-returns-clause-gives = match_arm.expressions::match_arm::arm_body-returns-clause-gives
+
+pub expressions::match_arm::match_arm-returns-clause-gives : goal.expressions::match_arm::match_arm-returns-clause-gives
+expressions::match_arm::match_arm-returns-clause-gives = match_arm.expressions::match_arm::match_arm-returns-clause-gives
+
+pub expressions::match_arm::match_arm-complete-requires : goal.expressions::match_arm::match_arm-complete-requires
+expressions::match_arm::match_arm-complete-requires = match_arm.expressions::match_arm::match_arm-complete-requires
+
+pub expressions::match_arm::match_arm-attributed_pattern-requires : goal.expressions::match_arm::match_arm-attributed_pattern-requires
+expressions::match_arm::match_arm-attributed_pattern-requires = match_arm.expressions::match_arm::match_arm-attributed_pattern-requires
+
+pub expressions::closures::closure_param-returns-clause-reads : goal.expressions::closures::closure_param-returns-clause-reads
+expressions::closures::closure_param-returns-clause-reads = atom.expressions::closures::closure_param-returns-clause-reads
+
+pub expressions::closures::closure_param-complete-requires : goal.expressions::closures::closure_param-complete-requires
+expressions::closures::closure_param-complete-requires = atom.expressions::closures::closure_param-complete-requires
+
+pub expressions::closures::closure_param-attributed_single-requires : goal.expressions::closures::closure_param-attributed_single-requires
+expressions::closures::closure_param-attributed_single-requires = atom.expressions::closures::closure_param-attributed_single-requires
+
+pub expressions::match_arm::attributed_pattern-returns-then-at_new-clause-reads : goal.expressions::match_arm::attributed_pattern-returns-then-at_new-clause-reads
+expressions::match_arm::attributed_pattern-returns-then-at_new-clause-reads = match_arm.expressions::match_arm::attributed_pattern-returns-then-at_new-clause-reads
+
+pub expressions::match_arm::attributed_pattern-returns-clause-reads : goal.expressions::match_arm::attributed_pattern-returns-clause-reads
+expressions::match_arm::attributed_pattern-returns-clause-reads = match_arm.expressions::match_arm::attributed_pattern-returns-clause-reads
+
+pub expressions::match_arm::attributed_pattern-pattern-requires : goal.expressions::match_arm::attributed_pattern-pattern-requires
+expressions::match_arm::attributed_pattern-pattern-requires = match_arm.expressions::match_arm::attributed_pattern-pattern-requires
+
+pub expressions::closures::attributed_single-returns-then-at_new-clause-reads : goal.expressions::closures::attributed_single-returns-then-at_new-clause-reads
+expressions::closures::attributed_single-returns-then-at_new-clause-reads = atom.expressions::closures::attributed_single-returns-then-at_new-clause-reads
+
+pub expressions::closures::attributed_single-returns-clause-reads : goal.expressions::closures::attributed_single-returns-clause-reads
+expressions::closures::attributed_single-returns-clause-reads = atom.expressions::closures::attributed_single-returns-clause-reads
+
+pub expressions::closures::attributed_single-single_pattern-requires : goal.expressions::closures::attributed_single-single_pattern-requires
+expressions::closures::attributed_single-single_pattern-requires = atom.expressions::closures::attributed_single-single_pattern-requires
+
+pub patterns::missing_single-missing_expr_path-requires : goal.patterns::missing_single-missing_expr_path-requires
+patterns::missing_single-missing_expr_path-requires = patterns.patterns::missing_single-missing_expr_path-requires
+
+pub patterns::missing_single-after_path-frame-requires : goal.patterns::missing_single-after_path-frame-requires
+patterns::missing_single-after_path-frame-requires = patterns.patterns::missing_single-after_path-frame-requires
+
+pub patterns::missing_single-opt_range-frame-requires : goal.patterns::missing_single-opt_range-frame-requires
+patterns::missing_single-opt_range-frame-requires = patterns.patterns::missing_single-opt_range-frame-requires
+
+pub or_patterns::pattern_or_missing-returns-then-at_pattern-clause-gives : goal.or_patterns::pattern_or_missing-returns-then-at_pattern-clause-gives
+or_patterns::pattern_or_missing-returns-then-at_pattern-clause-gives = patterns.or_patterns::pattern_or_missing-returns-then-at_pattern-clause-gives
+
+pub or_patterns::pattern_or_missing-pattern-requires : goal.or_patterns::pattern_or_missing-pattern-requires
+or_patterns::pattern_or_missing-pattern-requires = patterns.or_patterns::pattern_or_missing-pattern-requires
+
+pub or_patterns::pattern_or_missing-opt_further-frame-requires : goal.or_patterns::pattern_or_missing-opt_further-frame-requires
+or_patterns::pattern_or_missing-opt_further-frame-requires = patterns.or_patterns::pattern_or_missing-opt_further-frame-requires
+
+pub expressions::operand::after_dot-returns-then-at_method-clause-reads : goal.expressions::operand::after_dot-returns-then-at_method-clause-reads
+expressions::operand::after_dot-returns-then-at_method-clause-reads = operand.expressions::operand::after_dot-returns-then-at_method-clause-reads
+
+pub expressions::operand::after_dot-returns-then-at_new-clause-reads : goal.expressions::operand::after_dot-returns-then-at_new-clause-reads
+expressions::operand::after_dot-returns-then-at_new-clause-reads = operand.expressions::operand::after_dot-returns-then-at_new-clause-reads
+
+pub expressions::operand::after_dot-returns-in-IDENT-clause-reads : goal.expressions::operand::after_dot-returns-in-IDENT-clause-reads
+expressions::operand::after_dot-returns-in-IDENT-clause-reads = operand.expressions::operand::after_dot-returns-in-IDENT-clause-reads
+
+pub expressions::operand::after_dot-returns-in-INT_NUMBER-clause-reads : goal.expressions::operand::after_dot-returns-in-INT_NUMBER-clause-reads
+expressions::operand::after_dot-returns-in-INT_NUMBER-clause-reads = operand.expressions::operand::after_dot-returns-in-INT_NUMBER-clause-reads
+
+pub expressions::operand::after_dot-returns-in-FLOAT_NUMBER-clause-reads : goal.expressions::operand::after_dot-returns-in-FLOAT_NUMBER-clause-reads
+expressions::operand::after_dot-returns-in-FLOAT_NUMBER-clause-reads = operand.expressions::operand::after_dot-returns-in-FLOAT_NUMBER-clause-reads
+
+pub expressions::operand::after_dot-returns-in_default-clause-reads : goal.expressions::operand::after_dot-returns-in_default-clause-reads
+expressions::operand::after_dot-returns-in_default-clause-reads = operand.expressions::operand::after_dot-returns-in_default-clause-reads
+
+pub expressions::operand::after_dot-wrap-requires : goal.expressions::operand::after_dot-wrap-requires
+expressions::operand::after_dot-wrap-requires = operand.expressions::operand::after_dot-wrap-requires
+
+pub expressions::operand::after_dot-wrap-requires-then-at_new : goal.expressions::operand::after_dot-wrap-requires-then-at_new
+expressions::operand::after_dot-wrap-requires-then-at_new = operand.expressions::operand::after_dot-wrap-requires-then-at_new
+
+pub expressions::operand::after_dot-wrap-requires-in-IDENT : goal.expressions::operand::after_dot-wrap-requires-in-IDENT
+expressions::operand::after_dot-wrap-requires-in-IDENT = operand.expressions::operand::after_dot-wrap-requires-in-IDENT
+
+pub expressions::operand::after_dot-wrap-requires-in-INT_NUMBER : goal.expressions::operand::after_dot-wrap-requires-in-INT_NUMBER
+expressions::operand::after_dot-wrap-requires-in-INT_NUMBER = operand.expressions::operand::after_dot-wrap-requires-in-INT_NUMBER
+
+pub expressions::operand::after_dot-wrap-requires-in_default : goal.expressions::operand::after_dot-wrap-requires-in_default
+expressions::operand::after_dot-wrap-requires-in_default = operand.expressions::operand::after_dot-wrap-requires-in_default
+
+pub expressions::operand::prefixed-returns-in-MINUS-clause-gives : goal.expressions::operand::prefixed-returns-in-MINUS-clause-gives
+expressions::operand::prefixed-returns-in-MINUS-clause-gives = operand.expressions::operand::prefixed-returns-in-MINUS-clause-gives
+
+pub expressions::operand::prefixed-returns-in-BANG-clause-gives : goal.expressions::operand::prefixed-returns-in-BANG-clause-gives
+expressions::operand::prefixed-returns-in-BANG-clause-gives = operand.expressions::operand::prefixed-returns-in-BANG-clause-gives
+
+pub expressions::operand::prefixed-returns-in-STAR-clause-gives : goal.expressions::operand::prefixed-returns-in-STAR-clause-gives
+expressions::operand::prefixed-returns-in-STAR-clause-gives = operand.expressions::operand::prefixed-returns-in-STAR-clause-gives
+
+pub expressions::operand::prefixed-returns-then-at_new_operand-clause-gives : goal.expressions::operand::prefixed-returns-then-at_new_operand-clause-gives
+expressions::operand::prefixed-returns-then-at_new_operand-clause-gives = operand.expressions::operand::prefixed-returns-then-at_new_operand-clause-gives
+
+pub expressions::operand::prefixed-returns-then-at-clause-gives : goal.expressions::operand::prefixed-returns-then-at-clause-gives
+expressions::operand::prefixed-returns-then-at-clause-gives = operand.expressions::operand::prefixed-returns-then-at-clause-gives
+
+pub expressions::operand::prefixed-new_operand-requires : goal.expressions::operand::prefixed-new_operand-requires
+expressions::operand::prefixed-new_operand-requires = operand.expressions::operand::prefixed-new_operand-requires
+
+pub expressions::atom::inside-returns-in-RETURN_KW-clause-reads : goal.expressions::atom::inside-returns-in-RETURN_KW-clause-reads
+expressions::atom::inside-returns-in-RETURN_KW-clause-reads = atom.expressions::atom::inside-returns-in-RETURN_KW-clause-reads
+
+pub expressions::atom::inside-returns-in-BREAK_KW-clause-reads : goal.expressions::atom::inside-returns-in-BREAK_KW-clause-reads
+expressions::atom::inside-returns-in-BREAK_KW-clause-reads = atom.expressions::atom::inside-returns-in-BREAK_KW-clause-reads
+
+pub expressions::atom::inside-returns-in-CONTINUE_KW-clause-reads : goal.expressions::atom::inside-returns-in-CONTINUE_KW-clause-reads
+expressions::atom::inside-returns-in-CONTINUE_KW-clause-reads = atom.expressions::atom::inside-returns-in-CONTINUE_KW-clause-reads
+
+pub expressions::atom::inside-returns-in-LET_KW-clause-reads : goal.expressions::atom::inside-returns-in-LET_KW-clause-reads
+expressions::atom::inside-returns-in-LET_KW-clause-reads = atom.expressions::atom::inside-returns-in-LET_KW-clause-reads
+
+pub expressions::atom::inside-returns-then-at_new_atom-clause-reads : goal.expressions::atom::inside-returns-then-at_new_atom-clause-reads
+expressions::atom::inside-returns-then-at_new_atom-clause-reads = atom.expressions::atom::inside-returns-then-at_new_atom-clause-reads
+
+pub expressions::atom::inside-new_atom-requires : goal.expressions::atom::inside-new_atom-requires
+expressions::atom::inside-new_atom-requires = atom.expressions::atom::inside-new_atom-requires

@@ -273,13 +273,13 @@ abbrev pub decreases-expressions::control::if_expr : goal.decreases-expressions:
 decreases-expressions::control::if_expr l = 512 * tokens l.p.now
 
 abbrev pub decreases-expressions::control::while_expr : goal.decreases-expressions::control::while_expr
-decreases-expressions::control::while_expr l = 512 * tokens l.p.now
+decreases-expressions::control::while_expr l = 512 * tokens l.p.now + 1
 
 abbrev pub decreases-expressions::control::loop_expr : goal.decreases-expressions::control::loop_expr
-decreases-expressions::control::loop_expr l = 512 * tokens l.p.now
+decreases-expressions::control::loop_expr l = 512 * tokens l.p.now + 1
 
 abbrev pub decreases-expressions::control::for_expr : goal.decreases-expressions::control::for_expr
-decreases-expressions::control::for_expr l = 512 * tokens l.p.now
+decreases-expressions::control::for_expr l = 512 * tokens l.p.now + 1
 
 abbrev pub decreases-expressions::control::match_expr : goal.decreases-expressions::control::match_expr
 decreases-expressions::control::match_expr l = 512 * tokens l.p.now
@@ -292,9 +292,6 @@ decreases-expressions::atom::paren_expr l = 512 * tokens l.p.now
 
 abbrev pub decreases-expressions::atom::array_expr : goal.decreases-expressions::atom::array_expr
 decreases-expressions::atom::array_expr l = 512 * tokens l.p.now
-
-abbrev pub decreases-expressions::atom::value_expr : goal.decreases-expressions::atom::value_expr
-decreases-expressions::atom::value_expr l = 512 * tokens l.p.now
 
 abbrev pub decreases-expressions::atom::let_expr : goal.decreases-expressions::atom::let_expr
 decreases-expressions::atom::let_expr l = 512 * tokens l.p.now
@@ -706,7 +703,7 @@ abbrev pub decreases-fields::named_pattern : goal.decreases-fields::named_patter
 decreases-fields::named_pattern l = 512 * tokens l.p.now
 
 abbrev pub decreases-expressions::match_arm::match_arm : goal.decreases-expressions::match_arm::match_arm
-decreases-expressions::match_arm::match_arm l = 512 * tokens l.p.now + 25
+decreases-expressions::match_arm::match_arm l = 512 * tokens l.p.now + 103
 
 abbrev pub decreases-expressions::match_arm::opt_guard : goal.decreases-expressions::match_arm::opt_guard
 decreases-expressions::match_arm::opt_guard l = 512 * tokens l.p.now
@@ -1042,3 +1039,90 @@ decreases-parts::expect_part l = 512 * tokens l.p.now + 34
 
 abbrev pub decreases-parts::opt_part : goal.decreases-parts::opt_part
 decreases-parts::opt_part l = 512 * tokens l.p.now + 34
+
+abbrev pub decreases-fields::attributed_value : goal.decreases-fields::attributed_value
+decreases-fields::attributed_value l = 512 * tokens l.p.now + 1
+
+abbrev pub decreases-fields::value_after_attributes : goal.decreases-fields::value_after_attributes
+decreases-fields::value_after_attributes l = 512 * tokens l.p.now + 12
+
+abbrev pub decreases-or_patterns::pattern_or_missing : goal.decreases-or_patterns::pattern_or_missing
+decreases-or_patterns::pattern_or_missing l = 512 * tokens l.p.now + 25
+
+abbrev pub decreases-expressions::open_range : goal.decreases-expressions::open_range
+decreases-expressions::open_range l = 512 * tokens l.p.now + 1
+
+abbrev pub decreases-patterns::single_or_missing : goal.decreases-patterns::single_or_missing
+decreases-patterns::single_or_missing l = 512 * tokens l.p.now + 23
+
+abbrev pub decreases-patterns::missing_single : goal.decreases-patterns::missing_single
+decreases-patterns::missing_single l = 512 * tokens l.p.now + 10
+
+abbrev pub decreases-expressions::atom::return_expr : goal.decreases-expressions::atom::return_expr
+decreases-expressions::atom::return_expr l = 512 * tokens l.p.now
+
+abbrev pub decreases-expressions::atom::break_expr : goal.decreases-expressions::atom::break_expr
+decreases-expressions::atom::break_expr l = 512 * tokens l.p.now
+
+abbrev pub decreases-expressions::atom::new_atom : goal.decreases-expressions::atom::new_atom
+decreases-expressions::atom::new_atom l = 512 * tokens l.p.now + 3
+
+abbrev pub decreases-expressions::control::while_rest : goal.decreases-expressions::control::while_rest
+decreases-expressions::control::while_rest l = 512 * tokens l.p.now
+
+abbrev pub decreases-expressions::control::loop_rest : goal.decreases-expressions::control::loop_rest
+decreases-expressions::control::loop_rest l = 512 * tokens l.p.now
+
+abbrev pub decreases-expressions::control::for_rest : goal.decreases-expressions::control::for_rest
+decreases-expressions::control::for_rest l = 512 * tokens l.p.now
+
+abbrev pub decreases-expressions::control::new_block : goal.decreases-expressions::control::new_block
+decreases-expressions::control::new_block l = 512 * tokens l.p.now + 1
+
+abbrev pub decreases-expressions::control::labelled : goal.decreases-expressions::control::labelled
+decreases-expressions::control::labelled l = 512 * tokens l.p.now
+
+abbrev pub decreases-expressions::control::after_label : goal.decreases-expressions::control::after_label
+decreases-expressions::control::after_label l = 512 * tokens l.p.now + 35
+
+abbrev pub decreases-expressions::control::block_with_words : goal.decreases-expressions::control::block_with_words
+decreases-expressions::control::block_with_words l = 512 * tokens l.p.now
+
+abbrev pub decreases-expressions::match_arm::guard_value : goal.decreases-expressions::match_arm::guard_value
+decreases-expressions::match_arm::guard_value l = 512 * tokens l.p.now + 105
+
+abbrev pub decreases-expressions::match_arm::profile_value : goal.decreases-expressions::match_arm::profile_value
+decreases-expressions::match_arm::profile_value l = 512 * tokens l.p.now + 41
+
+abbrev pub decreases-expressions::match_arm::arm_body : goal.decreases-expressions::match_arm::arm_body
+decreases-expressions::match_arm::arm_body l = 512 * tokens l.p.now + 42
+
+abbrev pub decreases-expressions::match_arm::inside_arm : goal.decreases-expressions::match_arm::inside_arm
+decreases-expressions::match_arm::inside_arm l = 512 * tokens l.p.now + 41
+
+abbrev pub decreases-expressions::match_arm::after_long_path : goal.decreases-expressions::match_arm::after_long_path
+decreases-expressions::match_arm::after_long_path l = 512 * tokens l.p.now + 4
+
+abbrev pub decreases-expressions::match_arm::arm_tail : goal.decreases-expressions::match_arm::arm_tail
+decreases-expressions::match_arm::arm_tail l = 512 * tokens l.p.now + 4
+
+abbrev pub decreases-expressions::match_arm::further_operators : goal.decreases-expressions::match_arm::further_operators
+decreases-expressions::match_arm::further_operators l = 512 * tokens l.p.now + 3
+
+abbrev pub decreases-expressions::operand::new_operand : goal.decreases-expressions::operand::new_operand
+decreases-expressions::operand::new_operand l = 512 * tokens l.p.now + 2
+
+abbrev pub decreases-expressions::operand::raw_ref_expr : goal.decreases-expressions::operand::raw_ref_expr
+decreases-expressions::operand::raw_ref_expr l = 512 * tokens l.p.now
+
+abbrev pub decreases-expressions::closures::closure_with_words : goal.decreases-expressions::closures::closure_with_words
+decreases-expressions::closures::closure_with_words l = 512 * tokens l.p.now + 2
+
+abbrev pub decreases-expressions::closures::closure_words : goal.decreases-expressions::closures::closure_words
+decreases-expressions::closures::closure_words l = 512 * tokens l.p.now + 1
+
+abbrev pub decreases-expressions::match_arm::attributed_pattern : goal.decreases-expressions::match_arm::attributed_pattern
+decreases-expressions::match_arm::attributed_pattern l = 512 * tokens l.p.now + 25
+
+abbrev pub decreases-expressions::closures::attributed_single : goal.decreases-expressions::closures::attributed_single
+decreases-expressions::closures::attributed_single l = 512 * tokens l.p.now + 23

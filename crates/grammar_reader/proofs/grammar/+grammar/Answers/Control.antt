@@ -27,71 +27,17 @@ use Rattle.rust_productions.proofs.Seen.{ends-at-end, saw-after, saw-before, saw
 use Rattle.rust_productions.proofs.Turns.{first-turn, last-turn, next-turn}
 use Rattle.grammar_reader.proofs.grammar.+grammar.Goals as goal
 
-pub expressions::control::block_like-returns-in-L_CURLY-clause-gives : goal.expressions::control::block_like-returns-in-L_CURLY-clause-gives
-unfolding look_of begins_below whole rule items statements expressions patterns types paths there_at shift passes is_silent begins in_mode anew row one_of any_of no_longer longest is_longer
-expressions::control::block_like-returns-in-L_CURLY-clause-gives t c = λ cond. gives-anew (anew-after refl (reads-here (saw-arm c.in-L_CURLY.is (c.current.ensures.sees cond) and nothing) (after-look cond c.current.ensures.peeks.same (reads-call cond (c.block.ensures.gives cond)))))
-
-pub expressions::control::block_like-returns-in-UNSAFE_KW-clause-gives : goal.expressions::control::block_like-returns-in-UNSAFE_KW-clause-gives
-unfolding look_of begins_below whole rule items statements expressions patterns types paths there_at shift passes is_silent begins in_mode anew row one_of any_of no_longer longest is_longer
-expressions::control::block_like-returns-in-UNSAFE_KW-clause-gives t c = λ cond. gives-anew (anew-after refl (reads-here (saw-arm c.in-UNSAFE_KW.is (c.current.ensures.sees cond) and nothing) (after-look cond c.current.ensures.peeks.same (c.unsafe_block.ensures.reads cond))))
-
-pub expressions::control::block_like-returns-in-IF_KW-clause-gives : goal.expressions::control::block_like-returns-in-IF_KW-clause-gives
-unfolding look_of begins_below whole rule items statements expressions patterns types paths there_at shift passes is_silent begins in_mode anew row one_of any_of no_longer longest is_longer
-expressions::control::block_like-returns-in-IF_KW-clause-gives t c = λ cond. gives-anew (anew-after refl (reads-here (saw-arm c.in-IF_KW.is (c.current.ensures.sees cond) and nothing) (after-look cond c.current.ensures.peeks.same (reads-call cond (c.if_expr.ensures.gives cond)))))
-
-pub expressions::control::block_like-returns-in-WHILE_KW-clause-gives : goal.expressions::control::block_like-returns-in-WHILE_KW-clause-gives
-unfolding look_of begins_below whole rule items statements expressions patterns types paths there_at shift passes is_silent begins in_mode anew row one_of any_of no_longer longest is_longer
-expressions::control::block_like-returns-in-WHILE_KW-clause-gives t c = λ cond. gives-anew (anew-after refl (reads-here (saw-arm c.in-WHILE_KW.is (c.current.ensures.sees cond) and nothing) (after-look cond c.current.ensures.peeks.same (c.while_expr.ensures.reads cond))))
-
-pub expressions::control::block_like-returns-in-LOOP_KW-clause-gives : goal.expressions::control::block_like-returns-in-LOOP_KW-clause-gives
-unfolding look_of begins_below whole rule items statements expressions patterns types paths there_at shift passes is_silent begins in_mode anew row one_of any_of no_longer longest is_longer
-expressions::control::block_like-returns-in-LOOP_KW-clause-gives t c = λ cond. gives-anew (anew-after refl (reads-here (saw-arm c.in-LOOP_KW.is (c.current.ensures.sees cond) and nothing) (after-look cond c.current.ensures.peeks.same (c.loop_expr.ensures.reads cond))))
-
-pub expressions::control::block_like-returns-in-FOR_KW-clause-gives : goal.expressions::control::block_like-returns-in-FOR_KW-clause-gives
-unfolding look_of begins_below whole rule items statements expressions patterns types paths there_at shift passes is_silent begins in_mode anew row one_of any_of no_longer longest is_longer
-expressions::control::block_like-returns-in-FOR_KW-clause-gives t c = λ cond. gives-anew (anew-after refl (reads-here (saw-arm c.in-FOR_KW.is (c.current.ensures.sees cond) and nothing) (after-look cond c.current.ensures.peeks.same (c.for_expr.ensures.reads cond))))
-
-pub expressions::control::block_like-returns-in-MATCH_KW-clause-gives : goal.expressions::control::block_like-returns-in-MATCH_KW-clause-gives
-unfolding look_of begins_below whole rule items statements expressions patterns types paths there_at shift passes is_silent begins in_mode anew row one_of any_of no_longer longest is_longer
-expressions::control::block_like-returns-in-MATCH_KW-clause-gives t c = λ cond. gives-anew (anew-after refl (reads-here (saw-arm c.in-MATCH_KW.is (c.current.ensures.sees cond) and nothing) (after-look cond c.current.ensures.peeks.same (c.match_expr.ensures.reads cond))))
-
-pub expressions::control::block_like-macro_block-requires : goal.expressions::control::block_like-macro_block-requires
-unfolding look_of begins_below whole rule items statements expressions patterns types paths there_at shift passes is_silent begins in_mode anew row one_of any_of no_longer longest is_longer
-expressions::control::block_like-macro_block-requires t c = record { begins = λ cond. saw-after c.current.ensures.peeks.same (saw-else (row 0 ('ident' ∷ '!' ∷ 'l_curly' ∷ [])) (looks rules.block_like) (saw-not c.in_default.not-L_CURLY (c.current.ensures.sees cond) and saw-not c.in_default.not-UNSAFE_KW (c.current.ensures.sees cond) and saw-not c.in_default.not-IF_KW (c.current.ensures.sees cond) and saw-not c.in_default.not-WHILE_KW (c.current.ensures.sees cond) and saw-not c.in_default.not-LOOP_KW (c.current.ensures.sees cond) and saw-not c.in_default.not-FOR_KW (c.current.ensures.sees cond) and saw-not c.in_default.not-MATCH_KW (c.current.ensures.sees cond) and nothing) (c.requires.begins cond) refl); some = three-left (saw-after c.current.ensures.peeks.same (saw-else (row 0 ('ident' ∷ '!' ∷ 'l_curly' ∷ [])) (looks rules.block_like) (saw-not c.in_default.not-L_CURLY (c.current.ensures.sees true) and saw-not c.in_default.not-UNSAFE_KW (c.current.ensures.sees true) and saw-not c.in_default.not-IF_KW (c.current.ensures.sees true) and saw-not c.in_default.not-WHILE_KW (c.current.ensures.sees true) and saw-not c.in_default.not-LOOP_KW (c.current.ensures.sees true) and saw-not c.in_default.not-FOR_KW (c.current.ensures.sees true) and saw-not c.in_default.not-MATCH_KW (c.current.ensures.sees true) and nothing) (c.requires.begins true) refl)) }
-
-pub expressions::control::block_like-returns-in_default-clause-gives : goal.expressions::control::block_like-returns-in_default-clause-gives
-unfolding look_of begins_below whole rule items statements expressions patterns types paths there_at shift passes is_silent begins in_mode anew row one_of any_of no_longer longest is_longer
-expressions::control::block_like-returns-in_default-clause-gives t c = λ cond. gives-anew (anew-after refl (reads-here (saw-not c.in_default.not-L_CURLY (c.current.ensures.sees cond) and saw-not c.in_default.not-UNSAFE_KW (c.current.ensures.sees cond) and saw-not c.in_default.not-IF_KW (c.current.ensures.sees cond) and saw-not c.in_default.not-WHILE_KW (c.current.ensures.sees cond) and saw-not c.in_default.not-LOOP_KW (c.current.ensures.sees cond) and saw-not c.in_default.not-FOR_KW (c.current.ensures.sees cond) and saw-not c.in_default.not-MATCH_KW (c.current.ensures.sees cond) and nothing) (after-look cond c.current.ensures.peeks.same (c.macro_block.ensures.reads cond))))
-
 pub expressions::control::unsafe_block-complete-requires : goal.expressions::control::unsafe_block-complete-requires
 expressions::control::unsafe_block-complete-requires t c = (c.expect_part.ensures.reads true).does.innermost _ ((c.take.ensures.reads true).does.innermost _ c.start-node.ensures.marker)
 
 pub expressions::control::unsafe_block-returns-clause-reads : goal.expressions::control::unsafe_block-returns-clause-reads
 expressions::control::unsafe_block-returns-clause-reads t c = λ cond. reads-node cond c.start-node.ensures.opens (reads-then cond (c.take.ensures.reads cond) (c.expect_part.ensures.reads cond)) c.complete.ensures.closes
 
-pub expressions::control::while_expr-complete-requires : goal.expressions::control::while_expr-complete-requires
-expressions::control::while_expr-complete-requires t c = (c.expect_part.ensures.reads true).does.innermost _ ((c.expect_condition.ensures.reads true).does.innermost _ ((c.take.ensures.reads true).does.innermost _ c.start-node.ensures.marker))
-
-pub expressions::control::while_expr-returns-clause-reads : goal.expressions::control::while_expr-returns-clause-reads
-expressions::control::while_expr-returns-clause-reads t c = λ cond. reads-node cond c.start-node.ensures.opens (reads-then cond (c.take.ensures.reads cond) (reads-then cond (c.expect_condition.ensures.reads cond) (c.expect_part.ensures.reads cond))) c.complete.ensures.closes
-
-pub expressions::control::loop_expr-complete-requires : goal.expressions::control::loop_expr-complete-requires
-expressions::control::loop_expr-complete-requires t c = (c.expect_part.ensures.reads true).does.innermost _ ((c.take.ensures.reads true).does.innermost _ c.start-node.ensures.marker)
-
-pub expressions::control::loop_expr-returns-clause-reads : goal.expressions::control::loop_expr-returns-clause-reads
-expressions::control::loop_expr-returns-clause-reads t c = λ cond. reads-node cond c.start-node.ensures.opens (reads-then cond (c.take.ensures.reads cond) (c.expect_part.ensures.reads cond)) c.complete.ensures.closes
-
 pub expressions::control::match_expr-complete-requires : goal.expressions::control::match_expr-complete-requires
 expressions::control::match_expr-complete-requires t c = (c.expect_part.ensures.reads true).does.innermost _ ((c.expect_condition.ensures.reads true).does.innermost _ ((c.take.ensures.reads true).does.innermost _ c.start-node.ensures.marker))
 
 pub expressions::control::match_expr-returns-clause-reads : goal.expressions::control::match_expr-returns-clause-reads
 expressions::control::match_expr-returns-clause-reads t c = λ cond. reads-node cond c.start-node.ensures.opens (reads-then cond (c.take.ensures.reads cond) (reads-then cond (c.expect_condition.ensures.reads cond) (c.expect_part.ensures.reads cond))) c.complete.ensures.closes
-
-pub expressions::control::for_expr-complete-requires : goal.expressions::control::for_expr-complete-requires
-expressions::control::for_expr-complete-requires t c = (c.expect_part-2.ensures.reads true).does.innermost _ ((c.expect_condition.ensures.reads true).does.innermost _ ((c.expect.ensures.reads true).does.innermost _ ((c.expect_part.ensures.reads true).does.innermost _ ((c.take.ensures.reads true).does.innermost _ c.start-node.ensures.marker))))
-
-pub expressions::control::for_expr-returns-clause-reads : goal.expressions::control::for_expr-returns-clause-reads
-expressions::control::for_expr-returns-clause-reads t c = λ cond. reads-node cond c.start-node.ensures.opens (reads-then cond (c.take.ensures.reads cond) (reads-then cond (c.expect_part.ensures.reads cond) (reads-then cond (c.expect.ensures.reads cond) (reads-then cond (c.expect_condition.ensures.reads cond) (c.expect_part-2.ensures.reads cond))))) c.complete.ensures.closes
 
 pub expressions::control::if_expr-complete-requires : goal.expressions::control::if_expr-complete-requires
 expressions::control::if_expr-complete-requires t c = (c.opt_else.ensures.reads true).does.innermost _ ((c.expect_part.ensures.reads true).does.innermost _ ((c.expect_condition.ensures.reads true).does.innermost _ ((c.take.ensures.reads true).does.innermost _ c.start-node.ensures.marker)))
@@ -189,3 +135,120 @@ expressions::control::arm_turn-returns-clause-asks t c = record {
   left = omega arith;
   looks = omega (arith, c.at_pattern.ensures.peeks.looks, c.at_list_end.ensures.peeks.looks, c.skip.ensures.looks);
 }
+
+pub expressions::control::while_expr-returns-clause-reads : goal.expressions::control::while_expr-returns-clause-reads
+expressions::control::while_expr-returns-clause-reads t c = λ cond. reads-node cond c.start-node.ensures.opens (c.while_rest.ensures.reads cond) c.complete.ensures.closes
+
+pub expressions::control::while_expr-complete-requires : goal.expressions::control::while_expr-complete-requires
+expressions::control::while_expr-complete-requires t c = (c.while_rest.ensures.reads true).does.innermost _ (c.start-node.ensures.marker)
+
+pub expressions::control::loop_expr-returns-clause-reads : goal.expressions::control::loop_expr-returns-clause-reads
+expressions::control::loop_expr-returns-clause-reads t c = λ cond. reads-node cond c.start-node.ensures.opens (c.loop_rest.ensures.reads cond) c.complete.ensures.closes
+
+pub expressions::control::loop_expr-complete-requires : goal.expressions::control::loop_expr-complete-requires
+expressions::control::loop_expr-complete-requires t c = (c.loop_rest.ensures.reads true).does.innermost _ (c.start-node.ensures.marker)
+
+pub expressions::control::for_expr-returns-clause-reads : goal.expressions::control::for_expr-returns-clause-reads
+expressions::control::for_expr-returns-clause-reads t c = λ cond. reads-node cond c.start-node.ensures.opens (c.for_rest.ensures.reads cond) c.complete.ensures.closes
+
+pub expressions::control::for_expr-complete-requires : goal.expressions::control::for_expr-complete-requires
+expressions::control::for_expr-complete-requires t c = (c.for_rest.ensures.reads true).does.innermost _ (c.start-node.ensures.marker)
+
+pub expressions::control::while_rest-returns-clause-reads : goal.expressions::control::while_rest-returns-clause-reads
+expressions::control::while_rest-returns-clause-reads t c = λ cond. reads-then cond (c.take.ensures.reads cond) (reads-then cond (c.expect_condition.ensures.reads cond) (c.expect_part.ensures.reads cond))
+
+pub expressions::control::loop_rest-returns-clause-reads : goal.expressions::control::loop_rest-returns-clause-reads
+expressions::control::loop_rest-returns-clause-reads t c = λ cond. reads-then cond (c.take.ensures.reads cond) (c.expect_part.ensures.reads cond)
+
+pub expressions::control::for_rest-returns-clause-reads : goal.expressions::control::for_rest-returns-clause-reads
+expressions::control::for_rest-returns-clause-reads t c = λ cond. reads-then cond (c.take.ensures.reads cond) (reads-then cond (c.expect_part.ensures.reads cond) (reads-then cond (c.expect.ensures.reads cond) (reads-then cond (c.expect_condition.ensures.reads cond) (c.expect_part-2.ensures.reads cond))))
+
+pub expressions::control::after_label-returns-in-WHILE_KW-clause-completes : goal.expressions::control::after_label-returns-in-WHILE_KW-clause-completes
+unfolding look_of begins_below whole rule items statements expressions patterns types paths there_at shift passes is_silent begins in_mode anew row one_of any_of no_longer longest is_longer
+expressions::control::after_label-returns-in-WHILE_KW-clause-completes t c = λ cond. completes-here (saw-arm c.in-WHILE_KW.is (c.current.ensures.sees cond) and nothing) (completes-look c.current.ensures.peeks.same (completes-wrap (c.while_rest.ensures.reads cond) c.complete.ensures.closes))
+
+pub expressions::control::after_label-returns-in-LOOP_KW-clause-completes : goal.expressions::control::after_label-returns-in-LOOP_KW-clause-completes
+unfolding look_of begins_below whole rule items statements expressions patterns types paths there_at shift passes is_silent begins in_mode anew row one_of any_of no_longer longest is_longer
+expressions::control::after_label-returns-in-LOOP_KW-clause-completes t c = λ cond. completes-here (saw-arm c.in-LOOP_KW.is (c.current.ensures.sees cond) and nothing) (completes-look c.current.ensures.peeks.same (completes-wrap (c.loop_rest.ensures.reads cond) c.complete-in-LOOP_KW.ensures.closes))
+
+pub expressions::control::after_label-returns-in-FOR_KW-clause-completes : goal.expressions::control::after_label-returns-in-FOR_KW-clause-completes
+unfolding look_of begins_below whole rule items statements expressions patterns types paths there_at shift passes is_silent begins in_mode anew row one_of any_of no_longer longest is_longer
+expressions::control::after_label-returns-in-FOR_KW-clause-completes t c = λ cond. completes-here (saw-arm c.in-FOR_KW.is (c.current.ensures.sees cond) and nothing) (completes-look c.current.ensures.peeks.same (completes-wrap (c.for_rest.ensures.reads cond) c.complete-in-FOR_KW.ensures.closes))
+
+pub expressions::control::after_label-returns-in_default-clause-completes : goal.expressions::control::after_label-returns-in_default-clause-completes
+unfolding look_of begins_below whole rule items statements expressions patterns types paths there_at shift passes is_silent begins in_mode anew row one_of any_of no_longer longest is_longer
+expressions::control::after_label-returns-in_default-clause-completes t c = λ cond. completes-here (saw-not c.in_default.not-WHILE_KW (c.current.ensures.sees cond) and saw-not c.in_default.not-LOOP_KW (c.current.ensures.sees cond) and saw-not c.in_default.not-FOR_KW (c.current.ensures.sees cond) and nothing) (completes-look c.current.ensures.peeks.same (completes-wrap (c.expect_part.ensures.reads cond) c.complete-in_default.ensures.closes))
+
+pub expressions::control::after_label-complete-requires : goal.expressions::control::after_label-complete-requires
+expressions::control::after_label-complete-requires t c = (c.while_rest.ensures.reads true).does.innermost _ (c.current.ensures.peeks.same.innermost _ (c.requires.innermost))
+
+pub expressions::control::after_label-complete-requires-in-LOOP_KW : goal.expressions::control::after_label-complete-requires-in-LOOP_KW
+expressions::control::after_label-complete-requires-in-LOOP_KW t c = (c.loop_rest.ensures.reads true).does.innermost _ (c.current.ensures.peeks.same.innermost _ (c.requires.innermost))
+
+pub expressions::control::after_label-complete-requires-in-FOR_KW : goal.expressions::control::after_label-complete-requires-in-FOR_KW
+expressions::control::after_label-complete-requires-in-FOR_KW t c = (c.for_rest.ensures.reads true).does.innermost _ (c.current.ensures.peeks.same.innermost _ (c.requires.innermost))
+
+pub expressions::control::after_label-complete-requires-in_default : goal.expressions::control::after_label-complete-requires-in_default
+expressions::control::after_label-complete-requires-in_default t c = (c.expect_part.ensures.reads true).does.innermost _ (c.current.ensures.peeks.same.innermost _ (c.requires.innermost))
+
+pub expressions::control::block_with_words-returns-clause-reads : goal.expressions::control::block_with_words-returns-clause-reads
+expressions::control::block_with_words-returns-clause-reads t c = λ cond. reads-node cond c.start-node.ensures.opens (reads-then cond (c.block_words.ensures.reads cond) (c.expect_part.ensures.reads cond)) c.complete.ensures.closes
+
+pub expressions::control::block_with_words-complete-requires : goal.expressions::control::block_with_words-complete-requires
+expressions::control::block_with_words-complete-requires t c = (c.expect_part.ensures.reads true).does.innermost _ ((c.block_words.ensures.reads true).does.innermost _ (c.start-node.ensures.marker))
+
+pub expressions::control::new_block-returns-then-at-clause-anew : goal.expressions::control::new_block-returns-then-at-clause-anew
+unfolding look_of begins_below whole rule items statements expressions patterns types paths there_at shift passes is_silent begins in_mode anew row one_of any_of no_longer longest is_longer
+expressions::control::new_block-returns-then-at-clause-anew t c = λ cond. anew-here (saw-so (c.at.ensures.sees cond) c.if-at.true and nothing) (anew-look c.at.ensures.peeks.same (c.labelled.ensures.anew cond))
+
+pub expressions::control::new_block-returns-clause-anew : goal.expressions::control::new_block-returns-clause-anew
+unfolding look_of begins_below whole rule items statements expressions patterns types paths there_at shift passes is_silent begins in_mode anew row one_of any_of no_longer longest is_longer
+expressions::control::new_block-returns-clause-anew t c = λ cond. anew-here (saw-so (c.at.ensures.sees cond) c.if-at.false and nothing) (anew-look c.at.ensures.peeks.same (anew-after refl (c.block_with_words.ensures.reads cond)))
+
+pub expressions::control::labelled-after_label-requires : goal.expressions::control::labelled-after_label-requires
+expressions::control::labelled-after_label-requires t c = (omega arith, (c.label.ensures.reads true).does.innermost _ c.start-node.ensures.marker)
+
+pub expressions::control::labelled-returns-clause-anew : goal.expressions::control::labelled-returns-clause-anew
+expressions::control::labelled-returns-clause-anew t c = λ cond. anew-completes c.start-node.ensures.opens (completes-then (c.label.ensures.reads cond) (c.after_label.ensures.completes cond))
+
+pub expressions::control::block_like-returns-in-L_CURLY-clause-gives : goal.expressions::control::block_like-returns-in-L_CURLY-clause-gives
+unfolding look_of begins_below whole rule items statements expressions patterns types paths there_at shift passes is_silent begins in_mode anew row one_of any_of no_longer longest is_longer
+expressions::control::block_like-returns-in-L_CURLY-clause-gives t c = λ cond. gives-anew (anew-after refl (reads-here (saw-arm c.in-L_CURLY.is (c.current.ensures.sees cond) and nothing) (after-look cond c.current.ensures.peeks.same (reads-call cond (c.block.ensures.gives cond)))))
+
+pub expressions::control::block_like-returns-in-UNSAFE_KW-clause-gives : goal.expressions::control::block_like-returns-in-UNSAFE_KW-clause-gives
+unfolding look_of begins_below whole rule items statements expressions patterns types paths there_at shift passes is_silent begins in_mode anew row one_of any_of no_longer longest is_longer
+expressions::control::block_like-returns-in-UNSAFE_KW-clause-gives t c = λ cond. gives-anew (anew-after refl (reads-here (saw-arm c.in-UNSAFE_KW.is (c.current.ensures.sees cond) and nothing) (after-look cond c.current.ensures.peeks.same (c.unsafe_block.ensures.reads cond))))
+
+pub expressions::control::block_like-returns-in-IF_KW-clause-gives : goal.expressions::control::block_like-returns-in-IF_KW-clause-gives
+unfolding look_of begins_below whole rule items statements expressions patterns types paths there_at shift passes is_silent begins in_mode anew row one_of any_of no_longer longest is_longer
+expressions::control::block_like-returns-in-IF_KW-clause-gives t c = λ cond. gives-anew (anew-after refl (reads-here (saw-arm c.in-IF_KW.is (c.current.ensures.sees cond) and nothing) (after-look cond c.current.ensures.peeks.same (reads-call cond (c.if_expr.ensures.gives cond)))))
+
+pub expressions::control::block_like-returns-in-WHILE_KW-clause-gives : goal.expressions::control::block_like-returns-in-WHILE_KW-clause-gives
+unfolding look_of begins_below whole rule items statements expressions patterns types paths there_at shift passes is_silent begins in_mode anew row one_of any_of no_longer longest is_longer
+expressions::control::block_like-returns-in-WHILE_KW-clause-gives t c = λ cond. gives-anew (anew-after refl (reads-here (saw-arm c.in-WHILE_KW.is (c.current.ensures.sees cond) and nothing) (after-look cond c.current.ensures.peeks.same (c.while_expr.ensures.reads cond))))
+
+pub expressions::control::block_like-returns-in-LOOP_KW-clause-gives : goal.expressions::control::block_like-returns-in-LOOP_KW-clause-gives
+unfolding look_of begins_below whole rule items statements expressions patterns types paths there_at shift passes is_silent begins in_mode anew row one_of any_of no_longer longest is_longer
+expressions::control::block_like-returns-in-LOOP_KW-clause-gives t c = λ cond. gives-anew (anew-after refl (reads-here (saw-arm c.in-LOOP_KW.is (c.current.ensures.sees cond) and nothing) (after-look cond c.current.ensures.peeks.same (c.loop_expr.ensures.reads cond))))
+
+pub expressions::control::block_like-returns-in-FOR_KW-clause-gives : goal.expressions::control::block_like-returns-in-FOR_KW-clause-gives
+unfolding look_of begins_below whole rule items statements expressions patterns types paths there_at shift passes is_silent begins in_mode anew row one_of any_of no_longer longest is_longer
+expressions::control::block_like-returns-in-FOR_KW-clause-gives t c = λ cond. gives-anew (anew-after refl (reads-here (saw-arm c.in-FOR_KW.is (c.current.ensures.sees cond) and saw-without (wide binder_begins) (looks rules.block_like) (saw-arm c.in-FOR_KW.is (c.current.ensures.sees cond) and nothing) (c.requires.begins cond) refl and nothing) (after-look cond c.current.ensures.peeks.same (c.for_expr.ensures.reads cond))))
+
+pub expressions::control::block_like-returns-in-MATCH_KW-clause-gives : goal.expressions::control::block_like-returns-in-MATCH_KW-clause-gives
+unfolding look_of begins_below whole rule items statements expressions patterns types paths there_at shift passes is_silent begins in_mode anew row one_of any_of no_longer longest is_longer
+expressions::control::block_like-returns-in-MATCH_KW-clause-gives t c = λ cond. gives-anew (anew-after refl (reads-here (saw-arm c.in-MATCH_KW.is (c.current.ensures.sees cond) and nothing) (after-look cond c.current.ensures.peeks.same (c.match_expr.ensures.reads cond))))
+
+pub expressions::control::block_like-returns-then-at_new_block-clause-gives : goal.expressions::control::block_like-returns-then-at_new_block-clause-gives
+unfolding look_of begins_below whole rule items statements expressions patterns types paths there_at shift passes is_silent begins in_mode anew row one_of any_of no_longer longest is_longer
+expressions::control::block_like-returns-then-at_new_block-clause-gives t c = λ cond. gives-anew (anew-here (saw-not c.in_default.not-L_CURLY (c.current.ensures.sees cond) and saw-not c.in_default.not-UNSAFE_KW (c.current.ensures.sees cond) and saw-not c.in_default.not-IF_KW (c.current.ensures.sees cond) and saw-not c.in_default.not-WHILE_KW (c.current.ensures.sees cond) and saw-not c.in_default.not-LOOP_KW (c.current.ensures.sees cond) and saw-not c.in_default.not-FOR_KW (c.current.ensures.sees cond) and saw-not c.in_default.not-MATCH_KW (c.current.ensures.sees cond) and saw-before c.current.ensures.peeks.same (saw-so (c.at_new_block.ensures.sees cond) c.if-at_new_block.true) and nothing) (anew-look c.current.ensures.peeks.same (anew-look c.at_new_block.ensures.peeks.same (c.new_block.ensures.anew cond))))
+
+pub expressions::control::block_like-returns-in_default-clause-gives : goal.expressions::control::block_like-returns-in_default-clause-gives
+unfolding look_of begins_below whole rule items statements expressions patterns types paths there_at shift passes is_silent begins in_mode anew row one_of any_of no_longer longest is_longer
+expressions::control::block_like-returns-in_default-clause-gives t c = λ cond. gives-anew (anew-after refl (reads-here (saw-not c.in_default.not-L_CURLY (c.current.ensures.sees cond) and saw-not c.in_default.not-UNSAFE_KW (c.current.ensures.sees cond) and saw-not c.in_default.not-IF_KW (c.current.ensures.sees cond) and saw-not c.in_default.not-WHILE_KW (c.current.ensures.sees cond) and saw-not c.in_default.not-LOOP_KW (c.current.ensures.sees cond) and saw-not c.in_default.not-FOR_KW (c.current.ensures.sees cond) and saw-not c.in_default.not-MATCH_KW (c.current.ensures.sees cond) and saw-before c.current.ensures.peeks.same (saw-so (c.at_new_block.ensures.sees cond) c.if-at_new_block.false) and nothing) (after-look cond c.current.ensures.peeks.same (after-look cond c.at_new_block.ensures.peeks.same (c.macro_block.ensures.reads cond)))))
+
+pub expressions::control::block_like-new_block-requires : goal.expressions::control::block_like-new_block-requires
+expressions::control::block_like-new_block-requires t c = (omega arith, record { sees = λ d. saw-after c.at_new_block.ensures.peeks.same (saw-so (c.at_new_block.ensures.sees d) c.if-at_new_block.true); some = omega (arith, c.requires.some, c.at_new_block.ensures.some c.if-at_new_block.true, c.current.ensures.peeks.left, c.at_new_block.ensures.peeks.left) })
+
+pub expressions::control::block_like-macro_block-requires : goal.expressions::control::block_like-macro_block-requires
+expressions::control::block_like-macro_block-requires t c = record { begins = (λ d. saw-after c.at_new_block.ensures.peeks.same (saw-after c.current.ensures.peeks.same (c.requires.begins d))); some = omega (arith, c.requires.some, c.current.ensures.peeks.left, c.at_new_block.ensures.peeks.left) }

@@ -27,24 +27,8 @@ use Rattle.grammar_reader.proofs.grammar.+grammar.Goals as goal
 pub fields::field_value-named_value-requires : goal.fields::field_value-named_value-requires
 fields::field_value-named_value-requires t c = (omega arith, omega (arith, c.at_named_field.ensures.some c.if-at_named_field.true, c.at_named_field.ensures.peeks.left))
 
-pub fields::field_value-returns-then-at_named_field-clause-gives : goal.fields::field_value-returns-then-at_named_field-clause-gives
-unfolding look_of begins_below whole rule items statements expressions patterns types paths there_at shift passes is_silent begins in_mode anew row one_of any_of no_longer longest is_longer
-fields::field_value-returns-then-at_named_field-clause-gives t c = gives-anew (anew-after refl (reads-here (saw-so (c.at_named_field.ensures.sees c.args.condition) c.if-at_named_field.true and nothing) (after-look _ c.at_named_field.ensures.peeks.same c.named_value.ensures.reads)))
-
 pub fields::field_value-other_fields-requires : goal.fields::field_value-other_fields-requires
 fields::field_value-other_fields-requires t c = (omega arith, omega (arith, c.at_pair.ensures.some c.if-at_pair.true (λ e. absurd (omega (arith, e))), c.at_pair.ensures.peeks.left, c.at_named_field.ensures.peeks.left))
-
-pub fields::field_value-returns-then-at_pair-clause-gives : goal.fields::field_value-returns-then-at_pair-clause-gives
-unfolding look_of begins_below whole rule items statements expressions patterns types paths there_at shift passes is_silent begins in_mode anew row one_of any_of no_longer longest is_longer
-fields::field_value-returns-then-at_pair-clause-gives t c = gives-anew (anew-after refl (reads-here (saw-so (c.at_named_field.ensures.sees c.args.condition) c.if-at_named_field.false and saw-left (saw-before c.at_named_field.ensures.peeks.same (saw-so (c.at_pair.ensures.sees c.args.condition) c.if-at_pair.true)) and saw-before c.at_named_field.ensures.peeks.same (saw-so (c.at_pair.ensures.sees c.args.condition) c.if-at_pair.true) and nothing) (after-look _ c.at_named_field.ensures.peeks.same (after-look _ c.at_pair.ensures.peeks.same c.other_fields.ensures.reads))))
-
-pub fields::field_value-path_value-requires : goal.fields::field_value-path_value-requires
-unfolding look_of begins_below whole rule items statements expressions patterns types paths there_at shift passes is_silent begins in_mode anew row one_of any_of no_longer longest is_longer
-fields::field_value-path_value-requires t c = (omega arith, ((λ d. saw-after c.at_pair.ensures.peeks.same (saw-after c.at_named_field.ensures.peeks.same (any-mode (subst (λ (l : Look). Saw c.args.condition l c.args.p.now true) (paths-begin modes.Expr) (begins-else rules.expr_path rules.field_value refl (saw-so (c.at_named_field.ensures.sees c.args.condition) c.if-at_named_field.false and saw-before c.at_named_field.ensures.peeks.same (saw-so (c.at_pair.ensures.sees c.args.condition) c.if-at_pair.false) and nothing) c.requires.begins refl))))), omega arith))
-
-pub fields::field_value-returns-clause-gives : goal.fields::field_value-returns-clause-gives
-unfolding look_of begins_below whole rule items statements expressions patterns types paths there_at shift passes is_silent begins in_mode anew row one_of any_of no_longer longest is_longer
-fields::field_value-returns-clause-gives t c = gives-anew (anew-after refl (reads-here (saw-so (c.at_named_field.ensures.sees c.args.condition) c.if-at_named_field.false and saw-before c.at_named_field.ensures.peeks.same (saw-so (c.at_pair.ensures.sees c.args.condition) c.if-at_pair.false) and begun rules.expr_path (begins-else rules.expr_path rules.field_value refl (saw-so (c.at_named_field.ensures.sees c.args.condition) c.if-at_named_field.false and saw-before c.at_named_field.ensures.peeks.same (saw-so (c.at_pair.ensures.sees c.args.condition) c.if-at_pair.false) and nothing) c.requires.begins refl) nothing) (after-look _ c.at_named_field.ensures.peeks.same (after-look _ c.at_pair.ensures.peeks.same (c.path_value.ensures.reads c.args.condition)))))
 
 pub fields::named_value-complete-requires : goal.fields::named_value-complete-requires
 fields::named_value-complete-requires t c = c.expect_expression.ensures.reads.does.innermost _ ((c.take.ensures.reads true).does.innermost _ ((c.name_of_field.ensures.reads true).does.innermost _ c.start-node.ensures.marker))
@@ -133,3 +117,42 @@ fields::after_attributes-complete-requires-then-at_attributed_named_field t c = 
 
 pub fields::after_attributes-complete-requires-2 : goal.fields::after_attributes-complete-requires-2
 fields::after_attributes-complete-requires-2 t c = (c.any_binding.ensures.reads true).does.innermost _ (c.at_attributed_named_field.ensures.peeks.same.innermost _ (c.at_pair.ensures.peeks.same.innermost _ (c.requires.innermost)))
+
+pub fields::attributed_value-value_after_attributes-requires : goal.fields::attributed_value-value_after_attributes-requires
+fields::attributed_value-value_after_attributes-requires t c = (omega arith, (c.attributes.ensures.reads true).does.innermost _ ((c.attribute.ensures.gives true).does.innermost _ c.start-node.ensures.marker))
+
+pub fields::attributed_value-returns-clause-anew : goal.fields::attributed_value-returns-clause-anew
+fields::attributed_value-returns-clause-anew t c = anew-completes c.start-node.ensures.opens (completes-then (reads-call _ (c.attribute.ensures.gives c.args.condition)) (completes-then (c.attributes.ensures.reads c.args.condition) c.value_after_attributes.ensures.completes))
+
+pub fields::value_after_attributes-returns-then-at_attributed_named_field-clause-completes : goal.fields::value_after_attributes-returns-then-at_attributed_named_field-clause-completes
+unfolding look_of begins_below whole rule items statements expressions patterns types paths there_at shift passes is_silent begins in_mode anew row one_of any_of no_longer longest is_longer
+fields::value_after_attributes-returns-then-at_attributed_named_field-clause-completes t c = completes-here (saw-so (c.at_attributed_named_field.ensures.sees c.args.condition) c.if-at_attributed_named_field.true and nothing) (completes-look c.at_attributed_named_field.ensures.peeks.same (completes-wrap (reads-then c.args.condition (c.name_of_field.ensures.reads c.args.condition) (reads-then c.args.condition (c.take.ensures.reads c.args.condition) c.expect_expression.ensures.reads)) c.complete.ensures.closes))
+
+pub fields::value_after_attributes-returns-clause-completes : goal.fields::value_after_attributes-returns-clause-completes
+unfolding look_of begins_below whole rule items statements expressions patterns types paths there_at shift passes is_silent begins in_mode anew row one_of any_of no_longer longest is_longer
+fields::value_after_attributes-returns-clause-completes t c = completes-here (saw-so (c.at_attributed_named_field.ensures.sees c.args.condition) c.if-at_attributed_named_field.false and saw-before c.at_attributed_named_field.ensures.peeks.same (saw-so (c.at_pair.ensures.sees c.args.condition) c.if-at_pair.false) and nothing) (completes-look c.at_attributed_named_field.ensures.peeks.same (completes-look c.at_pair.ensures.peeks.same (completes-wrap (c.const_path.ensures.reads c.args.condition) c.complete-2.ensures.closes)))
+
+pub fields::value_after_attributes-complete-requires : goal.fields::value_after_attributes-complete-requires
+fields::value_after_attributes-complete-requires t c = c.expect_expression.ensures.reads.does.innermost _ ((c.take.ensures.reads true).does.innermost _ ((c.name_of_field.ensures.reads true).does.innermost _ (c.at_attributed_named_field.ensures.peeks.same.innermost _ (c.requires.innermost))))
+
+pub fields::value_after_attributes-complete-requires-2 : goal.fields::value_after_attributes-complete-requires-2
+fields::value_after_attributes-complete-requires-2 t c = (c.const_path.ensures.reads true).does.innermost _ (c.at_pair.ensures.peeks.same.innermost _ (c.at_attributed_named_field.ensures.peeks.same.innermost _ (c.requires.innermost)))
+
+pub fields::field_value-returns-then-at_new-clause-gives : goal.fields::field_value-returns-then-at_new-clause-gives
+unfolding look_of begins_below whole rule items statements expressions patterns types paths there_at shift passes is_silent begins in_mode anew row one_of any_of no_longer longest is_longer
+fields::field_value-returns-then-at_new-clause-gives t c = gives-anew (anew-here (saw-so (c.at_new.ensures.sees c.args.condition) c.if-at_new.true and nothing) (anew-look c.at_new.ensures.peeks.same c.attributed_value.ensures.anew))
+
+pub fields::field_value-returns-then-at_named_field-clause-gives : goal.fields::field_value-returns-then-at_named_field-clause-gives
+unfolding look_of begins_below whole rule items statements expressions patterns types paths there_at shift passes is_silent begins in_mode anew row one_of any_of no_longer longest is_longer
+fields::field_value-returns-then-at_named_field-clause-gives t c = gives-anew (anew-after refl (reads-here (saw-so (c.at_new.ensures.sees c.args.condition) c.if-at_new.false and saw-before c.at_new.ensures.peeks.same (saw-so (c.at_named_field.ensures.sees c.args.condition) c.if-at_named_field.true) and nothing) (after-look c.args.condition c.at_new.ensures.peeks.same (after-look c.args.condition c.at_named_field.ensures.peeks.same c.named_value.ensures.reads))))
+
+pub fields::field_value-returns-then-at_pair-clause-gives : goal.fields::field_value-returns-then-at_pair-clause-gives
+unfolding look_of begins_below whole rule items statements expressions patterns types paths there_at shift passes is_silent begins in_mode anew row one_of any_of no_longer longest is_longer
+fields::field_value-returns-then-at_pair-clause-gives t c = gives-anew (anew-after refl (reads-here (saw-so (c.at_new.ensures.sees c.args.condition) c.if-at_new.false and saw-before c.at_new.ensures.peeks.same (saw-so (c.at_named_field.ensures.sees c.args.condition) c.if-at_named_field.false) and saw-before c.at_new.ensures.peeks.same (saw-before c.at_named_field.ensures.peeks.same (saw-so (c.at_pair.ensures.sees c.args.condition) c.if-at_pair.true)) and nothing) (after-look c.args.condition c.at_new.ensures.peeks.same (after-look c.args.condition c.at_named_field.ensures.peeks.same (after-look c.args.condition c.at_pair.ensures.peeks.same c.other_fields.ensures.reads)))))
+
+pub fields::field_value-returns-clause-gives : goal.fields::field_value-returns-clause-gives
+unfolding look_of begins_below whole rule items statements expressions patterns types paths there_at shift passes is_silent begins in_mode anew row one_of any_of no_longer longest is_longer
+fields::field_value-returns-clause-gives t c = gives-anew (anew-after refl (reads-here (saw-so (c.at_new.ensures.sees c.args.condition) c.if-at_new.false and saw-before c.at_new.ensures.peeks.same (saw-so (c.at_named_field.ensures.sees c.args.condition) c.if-at_named_field.false) and saw-before c.at_new.ensures.peeks.same (saw-before c.at_named_field.ensures.peeks.same (saw-so (c.at_pair.ensures.sees c.args.condition) c.if-at_pair.false)) and nothing) (after-look c.args.condition c.at_new.ensures.peeks.same (after-look c.args.condition c.at_named_field.ensures.peeks.same (after-look c.args.condition c.at_pair.ensures.peeks.same (c.path_value.ensures.reads c.args.condition))))))
+
+pub fields::field_value-path_value-requires : goal.fields::field_value-path_value-requires
+fields::field_value-path_value-requires t c = (omega arith, ((λ d. saw-after c.at_pair.ensures.peeks.same (saw-after c.at_named_field.ensures.peeks.same (saw-after c.at_new.ensures.peeks.same (c.requires.begins d)))), omega (arith, c.requires.some, c.at_new.ensures.peeks.left, c.at_named_field.ensures.peeks.left, c.at_pair.ensures.peeks.left)))

@@ -341,3 +341,33 @@ patterns::after_path-wrap-requires-then-at_new t c = (c.expect_token_tree.ensure
 
 pub patterns::after_path-wrap-requires-2 : goal.patterns::after_path-wrap-requires-2
 patterns::after_path-wrap-requires-2 t c = c.at_new.ensures.peeks.same.innermost _ (c.at-2.ensures.peeks.same.innermost _ (c.at.ensures.peeks.same.innermost _ (c.requires.innermost)))
+
+pub patterns::single_or_missing-returns-then-at_single_pattern-clause-gives : goal.patterns::single_or_missing-returns-then-at_single_pattern-clause-gives
+patterns::single_or_missing-returns-then-at_single_pattern-clause-gives t c = λ cond. gives-look c.at_single_pattern.ensures.peeks.same (c.single_pattern.ensures.gives cond)
+
+pub patterns::single_or_missing-returns-clause-gives : goal.patterns::single_or_missing-returns-clause-gives
+patterns::single_or_missing-returns-clause-gives t c = λ cond. gives-look c.at_single_pattern.ensures.peeks.same (c.missing_single.ensures.gives cond)
+
+pub patterns::single_or_missing-single_pattern-requires : goal.patterns::single_or_missing-single_pattern-requires
+patterns::single_or_missing-single_pattern-requires t c = (omega arith, ((λ d. saw-after c.at_single_pattern.ensures.peeks.same (saw-so (c.at_single_pattern.ensures.sees d) c.if-at_single_pattern.true)), omega (arith, c.at_single_pattern.ensures.some c.if-at_single_pattern.true, c.at_single_pattern.ensures.peeks.left)))
+
+pub patterns::single_or_missing-missing_single-requires : goal.patterns::single_or_missing-missing_single-requires
+patterns::single_or_missing-missing_single-requires t c = (omega arith, λ d. saw-after c.at_single_pattern.ensures.peeks.same (saw-so (c.at_single_pattern.ensures.sees d) c.if-at_single_pattern.false))
+
+pub patterns::missing_single-missing_expr_path-requires : goal.patterns::missing_single-missing_expr_path-requires
+patterns::missing_single-missing_expr_path-requires t c = λ d. saw-inside c.start-frame.ensures.opens (no-path (c.requires.none d))
+
+pub patterns::missing_single-after_path-frame-requires : goal.patterns::missing_single-after_path-frame-requires
+patterns::missing_single-after_path-frame-requires t c = (omega arith, (c.missing_expr_path.ensures.gives true).does.innermost _ c.start-frame.ensures.marker)
+
+pub patterns::missing_single-opt_range-frame-requires : goal.patterns::missing_single-opt_range-frame-requires
+patterns::missing_single-opt_range-frame-requires t c = (omega arith, c.after_path-frame.ensures.asks.marker)
+
+pub or_patterns::pattern_or_missing-returns-then-at_pattern-clause-gives : goal.or_patterns::pattern_or_missing-returns-then-at_pattern-clause-gives
+or_patterns::pattern_or_missing-returns-then-at_pattern-clause-gives t c = λ cond. gives-look c.at_pattern.ensures.peeks.same (c.pattern.ensures.gives cond)
+
+pub or_patterns::pattern_or_missing-pattern-requires : goal.or_patterns::pattern_or_missing-pattern-requires
+or_patterns::pattern_or_missing-pattern-requires t c = (omega arith, (λ d. saw-after c.at_pattern.ensures.peeks.same (saw-so (c.at_pattern.ensures.sees d) c.if-at_pattern.true), omega (arith, c.at_pattern.ensures.some c.if-at_pattern.true, c.at_pattern.ensures.peeks.left)))
+
+pub or_patterns::pattern_or_missing-opt_further-frame-requires : goal.or_patterns::pattern_or_missing-opt_further-frame-requires
+or_patterns::pattern_or_missing-opt_further-frame-requires t c = (omega arith, (c.single_or_missing.ensures.gives true).does.innermost _ c.start-frame.ensures.marker)
