@@ -10,7 +10,6 @@ use Rattle.rust_grammar.specs.Rule.{begins, in_mode, anew, is_silent, passes, sh
 use Rattle.rust_grammar.specs.Statements.{statements}
 use Rattle.rust_grammar.specs.Types.{types}
 use Rattle.rust_grammar.specs.Whole.{rule, whole}
-use Rattle.rust_grammar.specs.Rule as rules
 use Rattle.rust_productions.proofs.Facts.{nothing, saw-so, ◌and◌}
 use Rattle.rust_productions.proofs.Looking.{saw-arm, saw-not}
 use Rattle.rust_productions.proofs.Seen.{saw-before, saw-told}

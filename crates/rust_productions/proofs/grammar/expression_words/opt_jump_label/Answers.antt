@@ -1,6 +1,5 @@
 -- Each path reads what the rule comes to there.
 use Rattle.std.proofs.Common.{true}
--- Each path reads what the rule comes to there.
 use Rattle.rust_grammar.specs.Expressions.{expressions}
 use Rattle.rust_grammar.specs.Items.{items}
 use Rattle.rust_grammar.specs.Meaning.{begins_below, look_of}
@@ -11,7 +10,6 @@ use Rattle.rust_grammar.specs.Rule.{begins, in_mode, anew, is_silent, passes, sh
 use Rattle.rust_grammar.specs.Statements.{statements}
 use Rattle.rust_grammar.specs.Types.{types}
 use Rattle.rust_grammar.specs.Whole.{rule, whole}
-use Rattle.rust_grammar.specs.Rule as rules
 use Rattle.rust_productions.proofs.ByHand.{after-look, reads-call, reads-nothing}
 use Rattle.rust_productions.proofs.Choices.{reads-here}
 use Rattle.rust_productions.proofs.Facts.{nothing, saw-so, ◌and◌}

@@ -1,16 +1,5 @@
 -- Each path reads what the rule comes to there.
--- Each path reads what the rule comes to there.
-use Rattle.rust_grammar.specs.Expressions.{expressions}
-use Rattle.rust_grammar.specs.Items.{items}
-use Rattle.rust_grammar.specs.Meaning.{begins_below, look_of}
-use Rattle.rust_grammar.specs.Notation.{any_of, is_longer, no_longer, longest, one_of, row}
-use Rattle.rust_grammar.specs.Paths.{paths}
-use Rattle.rust_grammar.specs.Patterns.{patterns}
-use Rattle.rust_grammar.specs.Rule.{begins, in_mode, anew, is_silent, passes, shift, there_at}
-use Rattle.rust_grammar.specs.Statements.{statements}
-use Rattle.rust_grammar.specs.Types.{types}
-use Rattle.rust_grammar.specs.Whole.{rule, whole}
-use Rattle.rust_grammar.specs.Rule as rules
+use Rattle.rust_grammar.specs.Whole.{rule}
 use Rattle.rust_productions.proofs.ByHand.{reads-then}
 use Rattle.rust_productions.proofs.grammar.expression_words.words_from_static.Goals as goal
 
