@@ -104,7 +104,8 @@ fn at_const_closure(p: &mut Parser<'_>) -> bool
         return false;
     }
     match nth(p, 1) {
-        SyntaxKind::PIPE | SyntaxKind::MOVE_KW | SyntaxKind::ASYNC_KW | SyntaxKind::STATIC_KW => true,
+        SyntaxKind::PIPE | SyntaxKind::MOVE_KW | SyntaxKind::ASYNC_KW | SyntaxKind::STATIC_KW =>
+            true,
         _ => false,
     }
 }

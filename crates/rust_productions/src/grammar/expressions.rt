@@ -180,8 +180,8 @@ pub fn at_body(p: &mut Parser<'_>, condition: bool) -> bool
     at(p, SyntaxKind::L_CURLY)
 }
 
-/// Returns `true` if the end of a range starts here. In a condition a `{` starts none, and in the whole
-/// language a range operator starts none.
+/// Returns `true` if the end of a range starts here. In a condition a `{` starts none, and in the
+/// whole language a range operator starts none.
 pub fn at_range_operand(p: &mut Parser<'_>, condition: bool) -> bool
     ensures sees { Saw condition (begins looks rows.range_operand) p.old result }
     ensures operand { IsTrue result → Saw condition (looks rules.prefixed) p.old true }

@@ -47,8 +47,8 @@ pub fn at_match_arm(p: &mut Parser<'_>) -> bool
     false
 }
 
-/// Returns `true` if a path starts here whose first segment has no arguments, and a `::` comes before
-/// it or after it.
+/// Returns `true` if a path starts here that has several segments or begins with `::`. The first
+/// segment has no arguments.
 pub fn at_long_path(p: &mut Parser<'_>) -> bool
     ensures sees { (c : Bool) → Saw c rows.long_path_begins p.old result }
     ensures some { IsTrue result → 2 ≤ tokens p.old }
