@@ -5,7 +5,7 @@ use Rattle.parser_events.specs.Forest.{ExpectedStatement}
 use Rattle.rust_grammar.specs.Rule.{macro_statements, statement_list, block, statement, macro_statement, statement_end, macro_statement_end, postfix, Production, Look, Rule, Nothing, One, Skip, When, Unless, Call}
 use Rattle.rust_grammar.specs.Words.{'semi', 'l_curly', 'r_curly', '#', '!', 'const', 'defer', 'else', 'enum', 'fn', 'impl', 'let', 'mod', 'pub', 'static', 'struct', 'trait', 'type', 'unsafe', 'use'}
 use Rattle.rust_grammar.specs.Calls.{Item, Attribute, Pattern, StatementList, Block, Expression, BlockLike}
-use Rattle.rust_grammar.specs.Notation.{◌or◌, ◌▸◌, ⁅◌⁆, ◌*, ◌⁺, ◌!, ◌⟨◌⟩, ◌<⟨◌⟩, more, off, at_end, next, ◌before◌, ◌before_any◌, any_of, one_of, until}
+use Rattle.rust_grammar.specs.Notation.{◌or◌, ◌▸◌, ⁅◌⁆, ◌*, ◌⁺, ◌!, ◌⟨◌⟩, ◌<⟨◌⟩, more, off, at_end, ◌before◌, ◌before_any◌, any_of, one_of, until}
 use Rattle.rust_grammar.specs.Shared.{type_annotation, initializer}
 use Rattle.rust_grammar.specs.Expressions.{goes_on}
 

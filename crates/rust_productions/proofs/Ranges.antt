@@ -3,13 +3,13 @@ use Rattle.std.proofs.Common.{◌≡◌, ℕ, ◌≤◌, Bool, true, false, leng
 use Rattle.parser_input.specs.Kinds.{BIN_EXPR, RANGE_EXPR}
 use Rattle.parser_events.specs.View.{View}
 use Rattle.rust_grammar.specs.Calls.{Disjunction, Operation}
-use Rattle.rust_grammar.specs.Expressions.{assignment, body_begins, expressions, range_mark, range_to}
+use Rattle.rust_grammar.specs.Expressions.{assignment, expressions, range_mark, range_operand, range_to}
 use Rattle.rust_grammar.specs.Items.{items}
 use Rattle.rust_grammar.specs.Meaning.{begins_below, fresh, look_of}
 use Rattle.rust_grammar.specs.Notation.{◌!, any_of, is_longer, no_longer, longest, one_of, row}
 use Rattle.rust_grammar.specs.Paths.{paths}
 use Rattle.rust_grammar.specs.Patterns.{patterns}
-use Rattle.rust_grammar.specs.Rule.{Production, disjunction, expression, operation, operation_tail, pipe_tail, prefixed, Look, Rule, Nothing, One, Then, Or, Node, Wrap, Unless, Continue, Call, begins, in_mode, anew, is_silent, passes, shift, there_at}
+use Rattle.rust_grammar.specs.Rule.{Production, disjunction, expression, operation, operation_tail, pipe_tail, prefixed, Look, Rule, Nothing, One, Then, Or, Node, Wrap, Continue, Call, begins, in_mode, anew, is_silent, passes, shift, there_at}
 use Rattle.rust_grammar.specs.Statements.{statements}
 use Rattle.rust_grammar.specs.Types.{types}
 use Rattle.rust_grammar.specs.Whole.{rule, whole}
@@ -65,9 +65,9 @@ mark-next {c} Inclusive next = next.dots_eq c
 -- the mark and an operand are both there
 pub range-near :
     {c d b : Bool} {old mid : View} (mark : RangeMark) → IsMark (Some mark) old → Reads d (One (spelling_of mark)) old mid
-    → Saw c (begins looks (Unless body_begins Disjunction)) mid b → Saw c (begins looks (range_to (spelling_of mark))) old b
+    → Saw c (begins looks range_operand) mid b → Saw c (begins looks (range_to (spelling_of mark))) old b
 unfolding look_of begins_below whole rule items statements expressions patterns types paths there_at shift passes is_silent begins in_mode anew row one_of any_of no_longer longest is_longer
-range-near mark next p saw = saw-both (mark-next mark next) (saw-ahead (begins looks (Unless body_begins Disjunction)) refl p saw)
+range-near mark next p saw = saw-both (mark-next mark next) (saw-ahead (begins looks range_operand) refl p saw)
 
 pub reads-mark : {c : Bool} {old new : View} (mark : RangeMark) → IsMark (Some mark) old → Reads c (One (spelling_of mark)) old new → Reads c range_mark old new
 unfolding look_of begins_below whole rule items statements expressions patterns types paths there_at shift passes is_silent begins in_mode anew row one_of any_of no_longer longest is_longer
@@ -77,7 +77,7 @@ reads-mark {c} Inclusive next p = reads-here (next.dots_eq c and (next.dots c an
 -- An operation that begins with a range, and the range alone.
 pub reads-range :
     {c : Bool} {old new : View} (mark : RangeMark) → IsMark (Some mark) old → Saw c (begins looks (range_to (spelling_of mark))) old true
-    → Reads c (Then (Node RANGE_EXPR (Then (One (spelling_of mark)) (Unless body_begins Disjunction))) (Continue operation_tail)) old new → Reads c (rule operation) old new
+    → Reads c (Then (Node RANGE_EXPR (Then (One (spelling_of mark)) range_operand)) (Continue operation_tail)) old new → Reads c (rule operation) old new
 unfolding look_of begins_below whole rule items statements expressions patterns types paths there_at shift passes is_silent begins in_mode anew row one_of any_of no_longer longest is_longer
 reads-range {c} Exclusive next near p = reads-here (next.dots_eq c and (next.dots c and (near and nothing))) p
 reads-range {c} Inclusive next near p = reads-here (next.dots_eq c and (next.dots c and (near and nothing))) p
@@ -92,7 +92,7 @@ reads-range-alone {c} Inclusive next near p = reads-here (next.dots_eq c and (ne
 -- The same after an operand.
 pub reads-range-on :
     {c : Bool} {old new : View} (mark : RangeMark) → IsMark (Some mark) old → Saw c (begins looks (range_to (spelling_of mark))) old true
-    → Reads c (Then (Wrap RANGE_EXPR (Then (One (spelling_of mark)) (Unless body_begins Disjunction))) (Continue operation_tail)) old new → Reads c (rule operation_tail) old new
+    → Reads c (Then (Wrap RANGE_EXPR (Then (One (spelling_of mark)) range_operand)) (Continue operation_tail)) old new → Reads c (rule operation_tail) old new
 unfolding look_of begins_below whole rule items statements expressions patterns types paths there_at shift passes is_silent begins in_mode anew row one_of any_of no_longer longest is_longer
 reads-range-on {c} Exclusive next near p = reads-here (next.dots_eq c and (next.dots c and (near and nothing))) p
 reads-range-on {c} Inclusive next near p = reads-here (next.dots_eq c and (next.dots c and (near and nothing))) p
