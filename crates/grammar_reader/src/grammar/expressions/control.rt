@@ -301,7 +301,8 @@ fn arms(p: &mut Parser<'_>)
     'turns: while arm_turn(p) {}
 }
 
-/// Parses a match arm, an attribute of the `match`, or skips a token into an error. Returns `true` if the list may continue.
+/// Parses a match arm or an attribute of the `match`, or skips a token into an error. Returns `true`
+/// if the list may continue.
 // a => b,
 #[cycle(grammar)]
 fn arm_turn(p: &mut Parser<'_>) -> bool
