@@ -134,17 +134,13 @@ word-left a {c} {v} e saw = within (length (left v)) refl
     within zero none = absurd (true≢false (sym (saw.at here refl) ∙ no-dyn c a e here none))
     within (suc n) some = omega (arith, some)
 
--- A parameter of a closure begins as its pattern does, in whatever mode.
-pub closure-param-begins : {b : Bool} {v : View} → Saw false (looks single_pattern) v b → Saw false (begins looks closure_param) v b
+-- A parameter of a closure begins in whatever mode.
+pub closure-param-anywhere : {c b : Bool} {v : View} → Saw false (begins looks closure_param) v b → Saw c (begins looks closure_param) v b
 unfolding look_of begins_below whole rule items statements expressions patterns types paths there_at shift passes is_silent begins in_mode anew row one_of any_of no_longer longest is_longer sees
-closure-param-begins saw = record { at = λ s e. saw.at s e }
+closure-param-anywhere saw = record { at = λ s e. saw.at s e }
 
-pub pattern-begins : {c b : Bool} {v : View} → Saw false (begins looks closure_param) v b → Saw c (looks single_pattern) v b
-unfolding look_of begins_below whole rule items statements expressions patterns types paths there_at shift passes is_silent begins in_mode anew row one_of any_of no_longer longest is_longer sees
-pattern-begins saw = record { at = λ s e. saw.at s e }
-
--- An arm begins as its pattern does.
-pub arm-there : {c b : Bool} {v : View} → Saw c (looks rules.pattern) v b → Saw c (anew (looks rules.match_arm)) v b
+-- An arm begins where it is called anew.
+pub arm-there : {c b : Bool} {v : View} → Saw c (looks rules.match_arm) v b → Saw c (anew (looks rules.match_arm)) v b
 unfolding look_of begins_below whole rule items statements expressions patterns types paths there_at shift passes is_silent begins in_mode anew row one_of any_of no_longer longest is_longer sees
 arm-there saw = record { at = λ s e. saw.at s e }
 

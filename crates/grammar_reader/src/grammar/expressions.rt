@@ -67,7 +67,7 @@ pub(crate) fn expect_expression(p: &mut Parser<'_>, level: Level, condition: boo
 #[cycle(grammar)]
 fn expect_any(p: &mut Parser<'_>, condition: bool)
     ensures reads { Reads condition (Expression !) p.old p.new }
-    ensures asks { Asks 14 p.old p.new }
+    ensures asks { Asks 19 p.old p.new }
 {
     if at_expression(p, condition) {
         expression(p, condition);
@@ -81,7 +81,7 @@ fn expect_any(p: &mut Parser<'_>, condition: bool)
 #[cycle(grammar)]
 fn expect_operation(p: &mut Parser<'_>, condition: bool)
     ensures reads { Reads condition (Operation !) p.old p.new }
-    ensures asks { Asks 14 p.old p.new }
+    ensures asks { Asks 19 p.old p.new }
 {
     if at_operation(p, condition) {
         operation(p, condition);
@@ -185,7 +185,7 @@ fn range_end(p: &mut Parser<'_>, mark: RangeMark, condition: bool) -> bool
     requires marked { IsMark (Some mark) p.old }
     ensures ends { EndsRange condition (spelling_of mark) result p.old p.new }
     ensures keeps { Keeps p.old p.new }
-    ensures takes { Takes 4080 p.old p.new }
+    ensures takes { Takes 4070 p.old p.new }
 {
     take_mark(p, mark);
     if at_range_operand(p, condition) {

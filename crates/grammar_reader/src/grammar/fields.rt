@@ -152,7 +152,7 @@ fn other_fields(p: &mut Parser<'_>, condition: bool)
 #[cycle(grammar)]
 fn opt_expression(p: &mut Parser<'_>, condition: bool)
     ensures reads { Reads condition ⁅ Expression ⁆ p.old p.new }
-    ensures asks { Asks 14 p.old p.new }
+    ensures asks { Asks 19 p.old p.new }
 {
     if at_expression(p, condition) {
         expression(p, condition);

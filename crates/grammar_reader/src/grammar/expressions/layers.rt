@@ -81,7 +81,7 @@ fn turn(p: &mut Parser<'_>, frame: Marker, operator: Operator, condition: bool) 
 pub(crate) fn expect_layer(p: &mut Parser<'_>, height: u8, condition: bool)
     requires high { height ≤ 10 }
     ensures reads { Reads condition (Want (Call (layer_at height)) ExpectedExpression) p.old p.new }
-    ensures asks { Asks 11 p.old p.new }
+    ensures asks { Asks 16 p.old p.new }
 {
     if at_operand(p, condition) {
         layers(p, height, condition);

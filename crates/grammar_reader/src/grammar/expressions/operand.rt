@@ -234,7 +234,7 @@ fn at_method(p: &mut Parser<'_>) -> bool
 fn after_dot(p: &mut Parser<'_>, frame: Marker) -> Marker
     requires innermost { IsInnermost frame p.old.nodes }
     ensures reads { (c : Bool) → Reads c (more rules.after_dot) p.old p.new }
-    ensures asks { AsksIn result 5 p.old p.new }
+    ensures asks { AsksIn result 6 p.old p.new }
 {
     if at_method(p) {
         method_call(p);

@@ -18,7 +18,7 @@ use Rattle.grammar_reader.specs.Told.{element_of, list_turn, looks_in}
 use Rattle.grammar_reader.specs.declared.grammar.lists.Element.{Element}
 use Rattle.grammar_reader.proofs.Elements.{element-pays, ends, few-looks-before, few-looks-in, more, over, over-there, reads-element, reads-stray, said-element, stray, sure-element}
 use Rattle.grammar_reader.proofs.AnyMode.{fn-ptr-param-anywhere, generic-arg-anywhere, param-anywhere, pattern-anywhere, pattern-field-anywhere, type-anywhere, type-arg-anywhere}
-use Rattle.grammar_reader.proofs.Seeing.{begun-left, param-left, pattern-begins, word-left}
+use Rattle.grammar_reader.proofs.Seeing.{begun-left, param-left, closure-param-anywhere, word-left}
 use Rattle.rust_productions.specs.Looks.{tokens, spent}
 use Rattle.rust_productions.specs.Reads.{looks, Reads, Saw}
 use Rattle.rust_productions.proofs.ByHand.{after-look, does-then, reads-call, reads-mode, reads-node, reads-then, reads-wrap}
@@ -103,7 +103,7 @@ lists::read_element-returns-in-Captured-clause-reads t c = subst (λ (e : Elemen
 pub lists::read_element-closure_param-requires : goal.lists::read_element-closure_param-requires
 lists::read_element-closure_param-requires t c =
     let seen = subst (λ (e : Element). Saw false (begins looks (element_of e)) c.args.p.now true) c.in-ClosureParam.is c.requires.begins in
-    (omega arith, ((λ d. pattern-begins seen), param-left seen))
+    (omega arith, ((λ d. closure-param-anywhere seen), param-left seen))
 
 pub lists::read_element-expression-requires : goal.lists::read_element-expression-requires
 unfolding look_of begins_below whole rule items statements expressions patterns types paths there_at shift passes is_silent begins in_mode anew row one_of any_of no_longer longest is_longer
