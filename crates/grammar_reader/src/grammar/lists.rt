@@ -10,7 +10,7 @@ ghost use Rattle.rust_grammar.specs.Words.{one};
 ghost use Rattle.rust_grammar.specs.Notation as rows;
 ghost use Rattle.grammar_reader.specs.Lists.{closing_in, element_in, kind_in, left_by, list_of, opening_in};
 ghost use Rattle.grammar_reader.specs.Told.{element_of, list_turn, looks_before, looks_in};
-ghost use Rattle.rust_productions.specs.Looks.{tokens, spent, Asks, Peeks, AsksIn};
+ghost use Rattle.rust_productions.specs.Looks.{tokens, spent, Takes, Asks, Peeks, AsksIn};
 ghost use Rattle.rust_productions.specs.Reads.{looks, Reads, Saw};
 ghost use Rattle.rust_productions.specs.Turns.{TakesTurn};
 ghost use Rattle.rust_productions.specs.Moves.{Keeps};
