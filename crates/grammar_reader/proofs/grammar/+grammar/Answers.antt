@@ -1265,12 +1265,6 @@ items::members::opt_fields-returns-in-L_PAREN-clause-reads = members.items::memb
 pub items::members::opt_fields-returns-in_default-clause-reads : goal.items::members::opt_fields-returns-in_default-clause-reads
 items::members::opt_fields-returns-in_default-clause-reads = members.items::members::opt_fields-returns-in_default-clause-reads
 
-pub expressions::operand::prefixed-operand-requires : goal.expressions::operand::prefixed-operand-requires
-expressions::operand::prefixed-operand-requires = operand.expressions::operand::prefixed-operand-requires
-
-pub expressions::operand::prefixed-returns-in_default-clause-gives : goal.expressions::operand::prefixed-returns-in_default-clause-gives
-expressions::operand::prefixed-returns-in_default-clause-gives = operand.expressions::operand::prefixed-returns-in_default-clause-gives
-
 pub expressions::operand::prefix_expr-complete-requires : goal.expressions::operand::prefix_expr-complete-requires
 expressions::operand::prefix_expr-complete-requires = operand.expressions::operand::prefix_expr-complete-requires
 
@@ -1324,9 +1318,6 @@ expressions::operand::postfix-returns-in_default-clause-reads = operand.expressi
 
 pub expressions::operand::index-returns-clause-reads : goal.expressions::operand::index-returns-clause-reads
 expressions::operand::index-returns-clause-reads = operand.expressions::operand::index-returns-clause-reads
-
-pub expressions::operand::after_dot-float-requires : goal.expressions::operand::after_dot-float-requires
-expressions::operand::after_dot-float-requires = operand.expressions::operand::after_dot-float-requires
 
 pub expressions::operand::method_call-returns-clause-reads : goal.expressions::operand::method_call-returns-clause-reads
 expressions::operand::method_call-returns-clause-reads = operand.expressions::operand::method_call-returns-clause-reads
@@ -3386,21 +3377,6 @@ expressions::operand::after_dot-wrap-requires-in-INT_NUMBER = operand.expression
 pub expressions::operand::after_dot-wrap-requires-in_default : goal.expressions::operand::after_dot-wrap-requires-in_default
 expressions::operand::after_dot-wrap-requires-in_default = operand.expressions::operand::after_dot-wrap-requires-in_default
 
-pub expressions::operand::prefixed-returns-in-MINUS-clause-gives : goal.expressions::operand::prefixed-returns-in-MINUS-clause-gives
-expressions::operand::prefixed-returns-in-MINUS-clause-gives = operand.expressions::operand::prefixed-returns-in-MINUS-clause-gives
-
-pub expressions::operand::prefixed-returns-in-BANG-clause-gives : goal.expressions::operand::prefixed-returns-in-BANG-clause-gives
-expressions::operand::prefixed-returns-in-BANG-clause-gives = operand.expressions::operand::prefixed-returns-in-BANG-clause-gives
-
-pub expressions::operand::prefixed-returns-in-STAR-clause-gives : goal.expressions::operand::prefixed-returns-in-STAR-clause-gives
-expressions::operand::prefixed-returns-in-STAR-clause-gives = operand.expressions::operand::prefixed-returns-in-STAR-clause-gives
-
-pub expressions::operand::prefixed-returns-then-at_new_operand-clause-gives : goal.expressions::operand::prefixed-returns-then-at_new_operand-clause-gives
-expressions::operand::prefixed-returns-then-at_new_operand-clause-gives = operand.expressions::operand::prefixed-returns-then-at_new_operand-clause-gives
-
-pub expressions::operand::prefixed-returns-then-at-clause-gives : goal.expressions::operand::prefixed-returns-then-at-clause-gives
-expressions::operand::prefixed-returns-then-at-clause-gives = operand.expressions::operand::prefixed-returns-then-at-clause-gives
-
 pub expressions::operand::prefixed-new_operand-requires : goal.expressions::operand::prefixed-new_operand-requires
 expressions::operand::prefixed-new_operand-requires = operand.expressions::operand::prefixed-new_operand-requires
 
@@ -3421,3 +3397,27 @@ expressions::atom::inside-returns-then-at_new_atom-clause-reads = atom.expressio
 
 pub expressions::atom::inside-new_atom-requires : goal.expressions::atom::inside-new_atom-requires
 expressions::atom::inside-new_atom-requires = atom.expressions::atom::inside-new_atom-requires
+
+pub expressions::operand::prefixed-returns-in-MINUS-clause-gives : goal.expressions::operand::prefixed-returns-in-MINUS-clause-gives
+expressions::operand::prefixed-returns-in-MINUS-clause-gives = operand.expressions::operand::prefixed-returns-in-MINUS-clause-gives
+
+pub expressions::operand::prefixed-returns-in-BANG-clause-gives : goal.expressions::operand::prefixed-returns-in-BANG-clause-gives
+expressions::operand::prefixed-returns-in-BANG-clause-gives = operand.expressions::operand::prefixed-returns-in-BANG-clause-gives
+
+pub expressions::operand::prefixed-returns-in-STAR-clause-gives : goal.expressions::operand::prefixed-returns-in-STAR-clause-gives
+expressions::operand::prefixed-returns-in-STAR-clause-gives = operand.expressions::operand::prefixed-returns-in-STAR-clause-gives
+
+pub expressions::operand::prefixed-returns-then-at_new_operand-clause-gives : goal.expressions::operand::prefixed-returns-then-at_new_operand-clause-gives
+expressions::operand::prefixed-returns-then-at_new_operand-clause-gives = operand.expressions::operand::prefixed-returns-then-at_new_operand-clause-gives
+
+pub expressions::operand::prefixed-returns-then-at-clause-gives : goal.expressions::operand::prefixed-returns-then-at-clause-gives
+expressions::operand::prefixed-returns-then-at-clause-gives = operand.expressions::operand::prefixed-returns-then-at-clause-gives
+
+pub expressions::operand::prefixed-returns-in_default-clause-gives : goal.expressions::operand::prefixed-returns-in_default-clause-gives
+expressions::operand::prefixed-returns-in_default-clause-gives = operand.expressions::operand::prefixed-returns-in_default-clause-gives
+
+pub expressions::operand::prefixed-operand-requires : goal.expressions::operand::prefixed-operand-requires
+expressions::operand::prefixed-operand-requires = operand.expressions::operand::prefixed-operand-requires
+
+pub expressions::operand::after_dot-float-requires : goal.expressions::operand::after_dot-float-requires
+expressions::operand::after_dot-float-requires = operand.expressions::operand::after_dot-float-requires

@@ -24,14 +24,6 @@ use Rattle.rust_productions.proofs.Seen.{begins-else, ends-at-end, saw-after, sa
 use Rattle.rust_productions.proofs.Turns.{last-turn, next-turn}
 use Rattle.grammar_reader.proofs.grammar.+grammar.Goals as goal
 
-pub expressions::operand::prefixed-operand-requires : goal.expressions::operand::prefixed-operand-requires
-unfolding look_of begins_below whole rule items statements expressions patterns types paths there_at shift passes is_silent begins in_mode anew row one_of any_of no_longer longest is_longer
-expressions::operand::prefixed-operand-requires t c = (omega arith, (saw-after c.current.ensures.peeks.same (begins-else rules.atom rules.prefixed refl (saw-not c.in_default.not-MINUS (c.current.ensures.sees c.args.condition) and saw-not c.in_default.not-BANG (c.current.ensures.sees c.args.condition) and saw-not c.in_default.not-STAR (c.current.ensures.sees c.args.condition) and saw-not c.in_default.not-AMP (c.current.ensures.sees c.args.condition) and nothing) c.requires.begins refl), omega arith))
-
-pub expressions::operand::prefixed-returns-in_default-clause-gives : goal.expressions::operand::prefixed-returns-in_default-clause-gives
-unfolding look_of begins_below whole rule items statements expressions patterns types paths there_at shift passes is_silent begins in_mode anew row one_of any_of no_longer longest is_longer
-expressions::operand::prefixed-returns-in_default-clause-gives t c = gives-anew (anew-here (saw-not c.in_default.not-MINUS (c.current.ensures.sees c.args.condition) and saw-not c.in_default.not-BANG (c.current.ensures.sees c.args.condition) and saw-not c.in_default.not-STAR (c.current.ensures.sees c.args.condition) and saw-not c.in_default.not-AMP (c.current.ensures.sees c.args.condition) and nothing) (anew-look c.current.ensures.peeks.same c.operand.ensures.anew))
-
 pub expressions::operand::prefix_expr-complete-requires : goal.expressions::operand::prefix_expr-complete-requires
 expressions::operand::prefix_expr-complete-requires t c = c.expect_expression.ensures.reads.does.innermost _ ((c.take.ensures.reads true).does.innermost _ c.start-node.ensures.marker)
 
@@ -98,9 +90,6 @@ expressions::operand::postfix-returns-in_default-clause-reads t c = λ cond. rea
 
 pub expressions::operand::index-returns-clause-reads : goal.expressions::operand::index-returns-clause-reads
 expressions::operand::index-returns-clause-reads t c = λ cond. (reads-then cond (c.take.ensures.reads cond) (reads-then cond (reads-mode cond c.expect_expression.ensures.reads) (c.expect.ensures.reads cond)))
-
-pub expressions::operand::after_dot-float-requires : goal.expressions::operand::after_dot-float-requires
-expressions::operand::after_dot-float-requires t c = (omega arith, (record { sees = λ d. saw-after c.current.ensures.peeks.same (saw-arm c.in-FLOAT_NUMBER.is (c.current.ensures.sees d)); some = omega (arith, c.current.ensures.some (λ e. absurd (omega (arith, sym (ap (λ (k : SyntaxKind). raw_of k) c.in-FLOAT_NUMBER.is) ∙ e))), c.current.ensures.peeks.left) }, c.current.ensures.peeks.same.innermost _ (c.at_method.ensures.peeks.same.innermost _ c.requires.innermost)))
 
 pub expressions::operand::method_call-returns-clause-reads : goal.expressions::operand::method_call-returns-clause-reads
 expressions::operand::method_call-returns-clause-reads t c = λ cond. (reads-then cond (c.word_type.ensures.reads cond) (reads-then cond (c.opt_part.ensures.reads cond) (c.expect_part.ensures.reads cond)))
@@ -175,25 +164,36 @@ expressions::operand::after_dot-wrap-requires-in-INT_NUMBER t c = (c.word_type-i
 pub expressions::operand::after_dot-wrap-requires-in_default : goal.expressions::operand::after_dot-wrap-requires-in_default
 expressions::operand::after_dot-wrap-requires-in_default t c = (c.error.ensures.reads true).does.innermost _ (c.current.ensures.peeks.same.innermost _ (c.at_new.ensures.peeks.same.innermost _ (c.at_method.ensures.peeks.same.innermost _ (c.requires.innermost))))
 
+pub expressions::operand::prefixed-new_operand-requires : goal.expressions::operand::prefixed-new_operand-requires
+expressions::operand::prefixed-new_operand-requires t c = (omega arith, record { sees = λ d. saw-after c.at_new_operand.ensures.peeks.same (saw-so (c.at_new_operand.ensures.sees d) c.if-at_new_operand.true); some = omega (arith, c.requires.some, c.at_new_operand.ensures.some c.if-at_new_operand.true, c.current.ensures.peeks.left, c.at_new_operand.ensures.peeks.left) })
+
 pub expressions::operand::prefixed-returns-in-MINUS-clause-gives : goal.expressions::operand::prefixed-returns-in-MINUS-clause-gives
 unfolding look_of begins_below whole rule items statements expressions patterns types paths there_at shift passes is_silent begins in_mode anew row one_of any_of no_longer longest is_longer
-expressions::operand::prefixed-returns-in-MINUS-clause-gives t c = gives-anew (anew-after refl (reads-here (saw-arm c.in-MINUS.is (c.current.ensures.sees c.args.condition) and nothing) (after-look c.args.condition c.current.ensures.peeks.same c.prefix_expr.ensures.reads)))
+expressions::operand::prefixed-returns-in-MINUS-clause-gives t c = gives-anew (anew-here (saw-arm c.in-MINUS.is (c.current.ensures.sees c.args.condition) and nothing) (anew-look c.current.ensures.peeks.same (anew-after refl c.prefix_expr.ensures.reads)))
 
 pub expressions::operand::prefixed-returns-in-BANG-clause-gives : goal.expressions::operand::prefixed-returns-in-BANG-clause-gives
 unfolding look_of begins_below whole rule items statements expressions patterns types paths there_at shift passes is_silent begins in_mode anew row one_of any_of no_longer longest is_longer
-expressions::operand::prefixed-returns-in-BANG-clause-gives t c = gives-anew (anew-after refl (reads-here (saw-arm c.in-BANG.is (c.current.ensures.sees c.args.condition) and nothing) (after-look c.args.condition c.current.ensures.peeks.same c.prefix_expr-in-BANG.ensures.reads)))
+expressions::operand::prefixed-returns-in-BANG-clause-gives t c = gives-anew (anew-here (saw-arm c.in-BANG.is (c.current.ensures.sees c.args.condition) and nothing) (anew-look c.current.ensures.peeks.same (anew-after refl c.prefix_expr-in-BANG.ensures.reads)))
 
 pub expressions::operand::prefixed-returns-in-STAR-clause-gives : goal.expressions::operand::prefixed-returns-in-STAR-clause-gives
 unfolding look_of begins_below whole rule items statements expressions patterns types paths there_at shift passes is_silent begins in_mode anew row one_of any_of no_longer longest is_longer
-expressions::operand::prefixed-returns-in-STAR-clause-gives t c = gives-anew (anew-after refl (reads-here (saw-arm c.in-STAR.is (c.current.ensures.sees c.args.condition) and nothing) (after-look c.args.condition c.current.ensures.peeks.same c.prefix_expr-in-STAR.ensures.reads)))
+expressions::operand::prefixed-returns-in-STAR-clause-gives t c = gives-anew (anew-here (saw-arm c.in-STAR.is (c.current.ensures.sees c.args.condition) and nothing) (anew-look c.current.ensures.peeks.same (anew-after refl c.prefix_expr-in-STAR.ensures.reads)))
 
 pub expressions::operand::prefixed-returns-then-at_new_operand-clause-gives : goal.expressions::operand::prefixed-returns-then-at_new_operand-clause-gives
 unfolding look_of begins_below whole rule items statements expressions patterns types paths there_at shift passes is_silent begins in_mode anew row one_of any_of no_longer longest is_longer
-expressions::operand::prefixed-returns-then-at_new_operand-clause-gives t c = gives-anew (anew-after refl (reads-here (saw-not c.in_default.not-MINUS (c.current.ensures.sees c.args.condition) and saw-not c.in_default.not-BANG (c.current.ensures.sees c.args.condition) and saw-not c.in_default.not-STAR (c.current.ensures.sees c.args.condition) and saw-before c.current.ensures.peeks.same (saw-so (c.at_new_operand.ensures.sees c.args.condition) c.if-at_new_operand.true) and nothing) (after-look c.args.condition c.current.ensures.peeks.same (after-look c.args.condition c.at_new_operand.ensures.peeks.same c.new_operand.ensures.reads))))
+expressions::operand::prefixed-returns-then-at_new_operand-clause-gives t c = gives-anew (anew-here (saw-not c.in_default.not-MINUS (c.current.ensures.sees c.args.condition) and saw-not c.in_default.not-BANG (c.current.ensures.sees c.args.condition) and saw-not c.in_default.not-STAR (c.current.ensures.sees c.args.condition) and saw-before c.current.ensures.peeks.same (saw-so (c.at_new_operand.ensures.sees c.args.condition) c.if-at_new_operand.true) and nothing) (anew-look c.current.ensures.peeks.same (anew-look c.at_new_operand.ensures.peeks.same (anew-after refl c.new_operand.ensures.reads))))
 
 pub expressions::operand::prefixed-returns-then-at-clause-gives : goal.expressions::operand::prefixed-returns-then-at-clause-gives
 unfolding look_of begins_below whole rule items statements expressions patterns types paths there_at shift passes is_silent begins in_mode anew row one_of any_of no_longer longest is_longer
-expressions::operand::prefixed-returns-then-at-clause-gives t c = gives-anew (anew-after refl (reads-here (saw-not c.in_default.not-MINUS (c.current.ensures.sees c.args.condition) and saw-not c.in_default.not-BANG (c.current.ensures.sees c.args.condition) and saw-not c.in_default.not-STAR (c.current.ensures.sees c.args.condition) and saw-before c.current.ensures.peeks.same (saw-so (c.at_new_operand.ensures.sees c.args.condition) c.if-at_new_operand.false) and saw-before c.current.ensures.peeks.same (saw-before c.at_new_operand.ensures.peeks.same (saw-so (c.at.ensures.sees c.args.condition) c.if-at.true)) and nothing) (after-look c.args.condition c.current.ensures.peeks.same (after-look c.args.condition c.at_new_operand.ensures.peeks.same (after-look c.args.condition c.at.ensures.peeks.same c.ref_expr.ensures.reads)))))
+expressions::operand::prefixed-returns-then-at-clause-gives t c = gives-anew (anew-here (saw-not c.in_default.not-MINUS (c.current.ensures.sees c.args.condition) and saw-not c.in_default.not-BANG (c.current.ensures.sees c.args.condition) and saw-not c.in_default.not-STAR (c.current.ensures.sees c.args.condition) and saw-before c.current.ensures.peeks.same (saw-so (c.at_new_operand.ensures.sees c.args.condition) c.if-at_new_operand.false) and saw-before c.current.ensures.peeks.same (saw-before c.at_new_operand.ensures.peeks.same (saw-so (c.at.ensures.sees c.args.condition) c.if-at.true)) and nothing) (anew-look c.current.ensures.peeks.same (anew-look c.at_new_operand.ensures.peeks.same (anew-look c.at.ensures.peeks.same (anew-after refl c.ref_expr.ensures.reads)))))
 
-pub expressions::operand::prefixed-new_operand-requires : goal.expressions::operand::prefixed-new_operand-requires
-expressions::operand::prefixed-new_operand-requires t c = (omega arith, record { sees = λ d. saw-after c.at_new_operand.ensures.peeks.same (saw-so (c.at_new_operand.ensures.sees d) c.if-at_new_operand.true); some = omega (arith, c.requires.some, c.at_new_operand.ensures.some c.if-at_new_operand.true, c.current.ensures.peeks.left, c.at_new_operand.ensures.peeks.left) })
+pub expressions::operand::prefixed-returns-in_default-clause-gives : goal.expressions::operand::prefixed-returns-in_default-clause-gives
+unfolding look_of begins_below whole rule items statements expressions patterns types paths there_at shift passes is_silent begins in_mode anew row one_of any_of no_longer longest is_longer
+expressions::operand::prefixed-returns-in_default-clause-gives t c = gives-anew (anew-here (saw-not c.in_default.not-MINUS (c.current.ensures.sees c.args.condition) and saw-not c.in_default.not-BANG (c.current.ensures.sees c.args.condition) and saw-not c.in_default.not-STAR (c.current.ensures.sees c.args.condition) and saw-before c.current.ensures.peeks.same (saw-so (c.at_new_operand.ensures.sees c.args.condition) c.if-at_new_operand.false) and saw-before c.current.ensures.peeks.same (saw-before c.at_new_operand.ensures.peeks.same (saw-so (c.at.ensures.sees c.args.condition) c.if-at.false)) and nothing) (anew-look c.current.ensures.peeks.same (anew-look c.at_new_operand.ensures.peeks.same (anew-look c.at.ensures.peeks.same c.operand.ensures.anew))))
+
+pub expressions::operand::prefixed-operand-requires : goal.expressions::operand::prefixed-operand-requires
+unfolding look_of begins_below whole rule items statements expressions patterns types paths there_at shift passes is_silent begins in_mode anew row one_of any_of no_longer longest is_longer
+expressions::operand::prefixed-operand-requires t c = (omega arith, (saw-after c.at.ensures.peeks.same (saw-after c.at_new_operand.ensures.peeks.same (saw-after c.current.ensures.peeks.same (begins-else rules.atom rules.prefixed refl (saw-not c.in_default.not-MINUS (c.current.ensures.sees c.args.condition) and saw-not c.in_default.not-BANG (c.current.ensures.sees c.args.condition) and saw-not c.in_default.not-STAR (c.current.ensures.sees c.args.condition) and saw-before c.current.ensures.peeks.same (saw-so (c.at_new_operand.ensures.sees c.args.condition) c.if-at_new_operand.false) and saw-before c.current.ensures.peeks.same (saw-before c.at_new_operand.ensures.peeks.same (saw-so (c.at.ensures.sees c.args.condition) c.if-at.false)) and nothing) c.requires.begins refl))), omega arith))
+
+pub expressions::operand::after_dot-float-requires : goal.expressions::operand::after_dot-float-requires
+expressions::operand::after_dot-float-requires t c = (omega arith, (record { sees = λ d. saw-after c.current.ensures.peeks.same (saw-arm c.in-FLOAT_NUMBER.is (c.current.ensures.sees d)); some = omega (arith, c.current.ensures.some (λ e. absurd (omega (arith, sym (ap (λ (k : SyntaxKind). raw_of k) c.in-FLOAT_NUMBER.is) ∙ e))), c.current.ensures.peeks.left) }, c.current.ensures.peeks.same.innermost _ (c.at_new.ensures.peeks.same.innermost _ (c.at_method.ensures.peeks.same.innermost _ c.requires.innermost))))
