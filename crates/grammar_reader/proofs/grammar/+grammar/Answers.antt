@@ -365,21 +365,6 @@ expressions::control::arms-turns-preserved = control.expressions::control::arms-
 pub expressions::control::arms-returns-clause-reads : goal.expressions::control::arms-returns-clause-reads
 expressions::control::arms-returns-clause-reads = control.expressions::control::arms-returns-clause-reads
 
-pub expressions::control::arm_turn-returns-then-at_list_end-clause-ends : goal.expressions::control::arm_turn-returns-then-at_list_end-clause-ends
-expressions::control::arm_turn-returns-then-at_list_end-clause-ends = control.expressions::control::arm_turn-returns-then-at_list_end-clause-ends
-
-pub expressions::control::arm_turn-match_arm-requires : goal.expressions::control::arm_turn-match_arm-requires
-expressions::control::arm_turn-match_arm-requires = control.expressions::control::arm_turn-match_arm-requires
-
-pub expressions::control::arm_turn-returns-then-at_pattern-clause-goes : goal.expressions::control::arm_turn-returns-then-at_pattern-clause-goes
-expressions::control::arm_turn-returns-then-at_pattern-clause-goes = control.expressions::control::arm_turn-returns-then-at_pattern-clause-goes
-
-pub expressions::control::arm_turn-skip-requires : goal.expressions::control::arm_turn-skip-requires
-expressions::control::arm_turn-skip-requires = control.expressions::control::arm_turn-skip-requires
-
-pub expressions::control::arm_turn-returns-clause-goes : goal.expressions::control::arm_turn-returns-clause-goes
-expressions::control::arm_turn-returns-clause-goes = control.expressions::control::arm_turn-returns-clause-goes
-
 pub expressions::expect_expression-returns-in-Comparison-clause-reads : goal.expressions::expect_expression-returns-in-Comparison-clause-reads
 expressions::expect_expression-returns-in-Comparison-clause-reads = expressions.expressions::expect_expression-returns-in-Comparison-clause-reads
 
@@ -1792,18 +1777,6 @@ types::opt_type_after-returns-then-at-clause-reads = types.types::opt_type_after
 
 pub types::opt_type_after-returns-else-at-clause-reads : goal.types::opt_type_after-returns-else-at-clause-reads
 types::opt_type_after-returns-else-at-clause-reads = types.types::opt_type_after-returns-else-at-clause-reads
-
-pub expressions::control::arm_turn-returns-then-at_pattern-clause-keeps : goal.expressions::control::arm_turn-returns-then-at_pattern-clause-keeps
-expressions::control::arm_turn-returns-then-at_pattern-clause-keeps = control.expressions::control::arm_turn-returns-then-at_pattern-clause-keeps
-
-pub expressions::control::arm_turn-returns-then-at_pattern-clause-asks : goal.expressions::control::arm_turn-returns-then-at_pattern-clause-asks
-expressions::control::arm_turn-returns-then-at_pattern-clause-asks = control.expressions::control::arm_turn-returns-then-at_pattern-clause-asks
-
-pub expressions::control::arm_turn-returns-clause-keeps : goal.expressions::control::arm_turn-returns-clause-keeps
-expressions::control::arm_turn-returns-clause-keeps = control.expressions::control::arm_turn-returns-clause-keeps
-
-pub expressions::control::arm_turn-returns-clause-asks : goal.expressions::control::arm_turn-returns-clause-asks
-expressions::control::arm_turn-returns-clause-asks = control.expressions::control::arm_turn-returns-clause-asks
 
 pub expressions::range_end-returns-then-at_range_operand-clause-ends : goal.expressions::range_end-returns-then-at_range_operand-clause-ends
 expressions::range_end-returns-then-at_range_operand-clause-ends = expressions.expressions::range_end-returns-then-at_range_operand-clause-ends
@@ -3421,3 +3394,39 @@ expressions::operand::prefixed-operand-requires = operand.expressions::operand::
 
 pub expressions::operand::after_dot-float-requires : goal.expressions::operand::after_dot-float-requires
 expressions::operand::after_dot-float-requires = operand.expressions::operand::after_dot-float-requires
+
+pub expressions::control::arm_turn-returns-then-at_list_end-clause-ends : goal.expressions::control::arm_turn-returns-then-at_list_end-clause-ends
+expressions::control::arm_turn-returns-then-at_list_end-clause-ends = control.expressions::control::arm_turn-returns-then-at_list_end-clause-ends
+
+pub expressions::control::arm_turn-match_arm-requires : goal.expressions::control::arm_turn-match_arm-requires
+expressions::control::arm_turn-match_arm-requires = control.expressions::control::arm_turn-match_arm-requires
+
+pub expressions::control::arm_turn-returns-then-at_match_arm-clause-goes : goal.expressions::control::arm_turn-returns-then-at_match_arm-clause-goes
+expressions::control::arm_turn-returns-then-at_match_arm-clause-goes = control.expressions::control::arm_turn-returns-then-at_match_arm-clause-goes
+
+pub expressions::control::arm_turn-returns-then-at_match_arm-clause-keeps : goal.expressions::control::arm_turn-returns-then-at_match_arm-clause-keeps
+expressions::control::arm_turn-returns-then-at_match_arm-clause-keeps = control.expressions::control::arm_turn-returns-then-at_match_arm-clause-keeps
+
+pub expressions::control::arm_turn-returns-then-at_match_arm-clause-asks : goal.expressions::control::arm_turn-returns-then-at_match_arm-clause-asks
+expressions::control::arm_turn-returns-then-at_match_arm-clause-asks = control.expressions::control::arm_turn-returns-then-at_match_arm-clause-asks
+
+pub expressions::control::arm_turn-skip-requires : goal.expressions::control::arm_turn-skip-requires
+expressions::control::arm_turn-skip-requires = control.expressions::control::arm_turn-skip-requires
+
+pub expressions::control::arm_turn-returns-clause-goes : goal.expressions::control::arm_turn-returns-clause-goes
+expressions::control::arm_turn-returns-clause-goes = control.expressions::control::arm_turn-returns-clause-goes
+
+pub expressions::control::arm_turn-returns-clause-keeps : goal.expressions::control::arm_turn-returns-clause-keeps
+expressions::control::arm_turn-returns-clause-keeps = control.expressions::control::arm_turn-returns-clause-keeps
+
+pub expressions::control::arm_turn-returns-clause-asks : goal.expressions::control::arm_turn-returns-clause-asks
+expressions::control::arm_turn-returns-clause-asks = control.expressions::control::arm_turn-returns-clause-asks
+
+pub expressions::control::arm_turn-returns-then-at_match_attribute-clause-goes : goal.expressions::control::arm_turn-returns-then-at_match_attribute-clause-goes
+expressions::control::arm_turn-returns-then-at_match_attribute-clause-goes = control.expressions::control::arm_turn-returns-then-at_match_attribute-clause-goes
+
+pub expressions::control::arm_turn-returns-then-at_match_attribute-clause-keeps : goal.expressions::control::arm_turn-returns-then-at_match_attribute-clause-keeps
+expressions::control::arm_turn-returns-then-at_match_attribute-clause-keeps = control.expressions::control::arm_turn-returns-then-at_match_attribute-clause-keeps
+
+pub expressions::control::arm_turn-returns-then-at_match_attribute-clause-asks : goal.expressions::control::arm_turn-returns-then-at_match_attribute-clause-asks
+expressions::control::arm_turn-returns-then-at_match_attribute-clause-asks = control.expressions::control::arm_turn-returns-then-at_match_attribute-clause-asks

@@ -6,7 +6,7 @@ use Rattle.rust_grammar.specs.Notation.{◌or◌, until}
 use Rattle.rust_grammar.specs.Rule.{Skip, Unless}
 use Rattle.rust_grammar.specs.Words.{'ident', 'l_curly', 'r_curly', '!'}
 use Rattle.rust_grammar.specs.Rule as rules
-use Rattle.rust_grammar.specs.Expressions.{expressions}
+use Rattle.rust_grammar.specs.Expressions.{expressions, arm_turn}
 use Rattle.rust_grammar.specs.Items.{items}
 use Rattle.rust_grammar.specs.Meaning.{begins_below, look_of}
 use Rattle.rust_grammar.specs.Notation.{any_of, is_longer, no_longer, longest, one_of, row}
@@ -79,62 +79,6 @@ expressions::control::arms-turns-preserved t c = record {
 
 pub expressions::control::arms-returns-clause-reads : goal.expressions::control::arms-returns-clause-reads
 expressions::control::arms-returns-clause-reads t c = c.turns.invariant.goes.rest _ (c.arm_turn.ensures.ends c.turns-test.false)
-
-pub expressions::control::arm_turn-returns-then-at_list_end-clause-ends : goal.expressions::control::arm_turn-returns-then-at_list_end-clause-ends
-unfolding look_of begins_below whole rule items statements expressions patterns types paths there_at shift passes is_silent begins in_mode anew row one_of any_of no_longer longest is_longer
-expressions::control::arm_turn-returns-then-at_list_end-clause-ends t c = λ e. last-turn false (Unless (until 'r_curly') (MatchArm or Skip ExpectedMatchArm)) (ends-at-end false (Unless (until 'r_curly') (MatchArm or Skip ExpectedMatchArm)) refl) _ _ _ first-turn (starts-here (Unless (until 'r_curly') (MatchArm or Skip ExpectedMatchArm)) (saw-so (c.at_list_end.ensures.sees false) c.if-at_list_end.true and nothing) refl) c.at_list_end.ensures.peeks.same
-
-pub expressions::control::arm_turn-match_arm-requires : goal.expressions::control::arm_turn-match_arm-requires
-unfolding look_of begins_below whole rule items statements expressions patterns types paths there_at shift passes is_silent begins in_mode anew row one_of any_of no_longer longest is_longer
-expressions::control::arm_turn-match_arm-requires t c =
-    (omega arith, ((λ d. saw-after c.at_pattern.ensures.peeks.same (saw-so (c.at_pattern.ensures.sees d) c.if-at_pattern.true)), omega (arith, c.at_pattern.ensures.some c.if-at_pattern.true, c.at_pattern.ensures.peeks.left)))
-
-pub expressions::control::arm_turn-returns-then-at_pattern-clause-goes : goal.expressions::control::arm_turn-returns-then-at_pattern-clause-goes
-unfolding anew any_of begins begins_below expressions in_mode is_longer is_silent items longest look_of no_longer one_of passes paths patterns row rule shift statements there_at tokens types whole
-expressions::control::arm_turn-returns-then-at_pattern-clause-goes t c = λ e. record {
-  turns = (next-turn false (Unless (until 'r_curly') (MatchArm or Skip ExpectedMatchArm)) (ends-at-end false (Unless (until 'r_curly') (MatchArm or Skip ExpectedMatchArm)) refl) _ _ _ first-turn (starts-here (Unless (until 'r_curly') (MatchArm or Skip ExpectedMatchArm)) (saw-so (c.at_list_end.ensures.sees false) c.if-at_list_end.false and begun-anew rules.match_arm (saw-before c.at_list_end.ensures.peeks.same (arm-there (saw-so (c.at_pattern.ensures.sees false) c.if-at_pattern.true))) nothing) refl) (reads-here (begun-anew rules.match_arm (saw-before c.at_list_end.ensures.peeks.same (arm-there (saw-so (c.at_pattern.ensures.sees false) c.if-at_pattern.true))) nothing) (after-look false c.at_list_end.ensures.peeks.same (after-look false c.at_pattern.ensures.peeks.same (reads-call false c.match_arm.ensures.gives)))) (omega (arith, c.match_arm.ensures.takes.left, c.at_pattern.ensures.peeks.left, c.at_list_end.ensures.peeks.left)));
-  takes = record {
-    left = omega arith;
-    looks = omega (arith, c.at_pattern.ensures.peeks.looks, c.at_list_end.ensures.peeks.looks, c.match_arm.ensures.takes.looks);
-  };
-}
-
-pub expressions::control::arm_turn-returns-then-at_pattern-clause-keeps : goal.expressions::control::arm_turn-returns-then-at_pattern-clause-keeps
-expressions::control::arm_turn-returns-then-at_pattern-clause-keeps t c = record {
-  input = c.match_arm.ensures.gives.does.input ∙ c.at_pattern.ensures.peeks.same.input ∙ c.at_list_end.ensures.peeks.same.input;
-  innermost = λ n i. c.match_arm.ensures.gives.does.innermost n (c.at_pattern.ensures.peeks.same.innermost n (c.at_list_end.ensures.peeks.same.innermost n i));
-}
-
-pub expressions::control::arm_turn-returns-then-at_pattern-clause-asks : goal.expressions::control::arm_turn-returns-then-at_pattern-clause-asks
-expressions::control::arm_turn-returns-then-at_pattern-clause-asks t c = record {
-  left = omega arith;
-  looks = omega (arith, c.at_pattern.ensures.peeks.looks, c.at_list_end.ensures.peeks.looks, c.match_arm.ensures.takes.looks);
-}
-
-pub expressions::control::arm_turn-skip-requires : goal.expressions::control::arm_turn-skip-requires
-expressions::control::arm_turn-skip-requires t c = omega (arith, some-left 'r_curly' (saw-so (c.at_list_end.ensures.sees false) c.if-at_list_end.false), c.at_list_end.ensures.peeks.left, c.at_pattern.ensures.peeks.left)
-
-pub expressions::control::arm_turn-returns-clause-goes : goal.expressions::control::arm_turn-returns-clause-goes
-unfolding anew any_of begins begins_below expressions in_mode is_longer is_silent items longest look_of no_longer one_of passes paths patterns row rule shift statements there_at tokens types whole
-expressions::control::arm_turn-returns-clause-goes t c = λ e. record {
-  turns = (next-turn false (Unless (until 'r_curly') (MatchArm or Skip ExpectedMatchArm)) (ends-at-end false (Unless (until 'r_curly') (MatchArm or Skip ExpectedMatchArm)) refl) _ _ _ first-turn (starts-here (Unless (until 'r_curly') (MatchArm or Skip ExpectedMatchArm)) (saw-so (c.at_list_end.ensures.sees false) c.if-at_list_end.false and left-there 'r_curly' (saw-so (c.at_list_end.ensures.sees false) c.if-at_list_end.false) and begun-anew rules.match_arm (saw-before c.at_list_end.ensures.peeks.same (arm-there (saw-so (c.at_pattern.ensures.sees false) c.if-at_pattern.false))) nothing) refl) (reads-here (begun-anew rules.match_arm (saw-before c.at_list_end.ensures.peeks.same (arm-there (saw-so (c.at_pattern.ensures.sees false) c.if-at_pattern.false))) nothing) (after-look false c.at_list_end.ensures.peeks.same (after-look false c.at_pattern.ensures.peeks.same (c.skip.ensures.reads false)))) (omega (arith, c.skip.ensures.left, c.at_pattern.ensures.peeks.left, c.at_list_end.ensures.peeks.left)));
-  takes = record {
-    left = omega arith;
-    looks = omega (arith, c.at_pattern.ensures.peeks.looks, c.at_list_end.ensures.peeks.looks, c.skip.ensures.looks);
-  };
-}
-
-pub expressions::control::arm_turn-returns-clause-keeps : goal.expressions::control::arm_turn-returns-clause-keeps
-expressions::control::arm_turn-returns-clause-keeps t c = record {
-  input = (c.skip.ensures.reads false).does.input ∙ c.at_pattern.ensures.peeks.same.input ∙ c.at_list_end.ensures.peeks.same.input;
-  innermost = λ n i. (c.skip.ensures.reads false).does.innermost n (c.at_pattern.ensures.peeks.same.innermost n (c.at_list_end.ensures.peeks.same.innermost n i));
-}
-
-pub expressions::control::arm_turn-returns-clause-asks : goal.expressions::control::arm_turn-returns-clause-asks
-expressions::control::arm_turn-returns-clause-asks t c = record {
-  left = omega arith;
-  looks = omega (arith, c.at_pattern.ensures.peeks.looks, c.at_list_end.ensures.peeks.looks, c.skip.ensures.looks);
-}
 
 pub expressions::control::while_expr-returns-clause-reads : goal.expressions::control::while_expr-returns-clause-reads
 expressions::control::while_expr-returns-clause-reads t c = λ cond. reads-node cond c.start-node.ensures.opens (c.while_rest.ensures.reads cond) c.complete.ensures.closes
@@ -252,3 +196,80 @@ expressions::control::block_like-new_block-requires t c = (omega arith, record {
 
 pub expressions::control::block_like-macro_block-requires : goal.expressions::control::block_like-macro_block-requires
 expressions::control::block_like-macro_block-requires t c = record { begins = (λ d. saw-after c.at_new_block.ensures.peeks.same (saw-after c.current.ensures.peeks.same (c.requires.begins d))); some = omega (arith, c.requires.some, c.current.ensures.peeks.left, c.at_new_block.ensures.peeks.left) }
+
+pub expressions::control::arm_turn-returns-then-at_list_end-clause-ends : goal.expressions::control::arm_turn-returns-then-at_list_end-clause-ends
+unfolding look_of begins_below whole rule items statements expressions patterns types paths there_at shift passes is_silent begins in_mode anew row one_of any_of no_longer longest is_longer
+expressions::control::arm_turn-returns-then-at_list_end-clause-ends t c = λ e. last-turn false arm_turn (ends-at-end false arm_turn refl) _ _ _ first-turn (starts-here arm_turn (saw-so (c.at_list_end.ensures.sees false) c.if-at_list_end.true and nothing) refl) c.at_list_end.ensures.peeks.same
+
+pub expressions::control::arm_turn-match_arm-requires : goal.expressions::control::arm_turn-match_arm-requires
+unfolding look_of begins_below whole rule items statements expressions patterns types paths there_at shift passes is_silent begins in_mode anew row one_of any_of no_longer longest is_longer
+expressions::control::arm_turn-match_arm-requires t c = (omega arith, ((λ d. saw-after c.at_match_arm.ensures.peeks.same (saw-so (c.at_match_arm.ensures.sees d) c.if-at_match_arm.true)), omega (arith, c.at_match_arm.ensures.some c.if-at_match_arm.true, c.at_match_arm.ensures.peeks.left)))
+
+pub expressions::control::arm_turn-returns-then-at_match_arm-clause-goes : goal.expressions::control::arm_turn-returns-then-at_match_arm-clause-goes
+unfolding anew any_of begins begins_below expressions in_mode is_longer is_silent items longest look_of no_longer one_of passes paths patterns row rule shift statements there_at tokens types whole
+expressions::control::arm_turn-returns-then-at_match_arm-clause-goes t c = λ e. record {
+  turns = (next-turn false arm_turn (ends-at-end false arm_turn refl) _ _ _ first-turn (starts-here arm_turn (saw-so (c.at_list_end.ensures.sees false) c.if-at_list_end.false and saw-before c.at_list_end.ensures.peeks.same (saw-so (c.at_match_attribute.ensures.sees false) c.if-at_match_attribute.false) and begun-anew rules.match_arm (saw-before c.at_list_end.ensures.peeks.same (saw-before c.at_match_attribute.ensures.peeks.same (arm-there (saw-so (c.at_match_arm.ensures.sees false) c.if-at_match_arm.true)))) nothing) refl) (reads-here (saw-before c.at_list_end.ensures.peeks.same (saw-so (c.at_match_attribute.ensures.sees false) c.if-at_match_attribute.false) and begun-anew rules.match_arm (saw-before c.at_list_end.ensures.peeks.same (saw-before c.at_match_attribute.ensures.peeks.same (arm-there (saw-so (c.at_match_arm.ensures.sees false) c.if-at_match_arm.true)))) nothing) (after-look false c.at_list_end.ensures.peeks.same (after-look false c.at_match_attribute.ensures.peeks.same (after-look false c.at_match_arm.ensures.peeks.same (reads-call false c.match_arm.ensures.gives))))) (omega (arith, c.match_arm.ensures.takes.left, c.at_match_arm.ensures.peeks.left, c.at_match_attribute.ensures.peeks.left, c.at_list_end.ensures.peeks.left)));
+  takes = record {
+    left = omega arith;
+    looks = omega (arith, c.at_match_arm.ensures.peeks.looks, c.at_match_attribute.ensures.peeks.looks, c.at_list_end.ensures.peeks.looks, c.match_arm.ensures.takes.looks);
+  };
+}
+
+pub expressions::control::arm_turn-returns-then-at_match_arm-clause-keeps : goal.expressions::control::arm_turn-returns-then-at_match_arm-clause-keeps
+expressions::control::arm_turn-returns-then-at_match_arm-clause-keeps t c = record {
+  input = c.match_arm.ensures.gives.does.input ∙ c.at_match_arm.ensures.peeks.same.input ∙ c.at_match_attribute.ensures.peeks.same.input ∙ c.at_list_end.ensures.peeks.same.input;
+  innermost = λ n i. c.match_arm.ensures.gives.does.innermost n (c.at_match_arm.ensures.peeks.same.innermost n (c.at_match_attribute.ensures.peeks.same.innermost n (c.at_list_end.ensures.peeks.same.innermost n i)));
+}
+
+pub expressions::control::arm_turn-returns-then-at_match_arm-clause-asks : goal.expressions::control::arm_turn-returns-then-at_match_arm-clause-asks
+expressions::control::arm_turn-returns-then-at_match_arm-clause-asks t c = record {
+  left = omega arith;
+  looks = omega (arith, c.at_match_arm.ensures.peeks.looks, c.at_match_attribute.ensures.peeks.looks, c.at_list_end.ensures.peeks.looks, c.match_arm.ensures.takes.looks);
+}
+
+pub expressions::control::arm_turn-skip-requires : goal.expressions::control::arm_turn-skip-requires
+expressions::control::arm_turn-skip-requires t c = omega (arith, some-left 'r_curly' (saw-so (c.at_list_end.ensures.sees false) c.if-at_list_end.false), c.at_list_end.ensures.peeks.left, c.at_match_arm.ensures.peeks.left)
+
+pub expressions::control::arm_turn-returns-clause-goes : goal.expressions::control::arm_turn-returns-clause-goes
+unfolding anew any_of begins begins_below expressions in_mode is_longer is_silent items longest look_of no_longer one_of passes paths patterns row rule shift statements there_at tokens types whole
+expressions::control::arm_turn-returns-clause-goes t c = λ e. record {
+  turns = (next-turn false arm_turn (ends-at-end false arm_turn refl) _ _ _ first-turn (starts-here arm_turn (saw-so (c.at_list_end.ensures.sees false) c.if-at_list_end.false and saw-before c.at_list_end.ensures.peeks.same (saw-so (c.at_match_attribute.ensures.sees false) c.if-at_match_attribute.false) and left-there 'r_curly' (saw-so (c.at_list_end.ensures.sees false) c.if-at_list_end.false) and begun-anew rules.match_arm (saw-before c.at_list_end.ensures.peeks.same (saw-before c.at_match_attribute.ensures.peeks.same (arm-there (saw-so (c.at_match_arm.ensures.sees false) c.if-at_match_arm.false)))) nothing) refl) (reads-here (saw-before c.at_list_end.ensures.peeks.same (saw-so (c.at_match_attribute.ensures.sees false) c.if-at_match_attribute.false) and begun-anew rules.match_arm (saw-before c.at_list_end.ensures.peeks.same (saw-before c.at_match_attribute.ensures.peeks.same (arm-there (saw-so (c.at_match_arm.ensures.sees false) c.if-at_match_arm.false)))) nothing) (after-look false c.at_list_end.ensures.peeks.same (after-look false c.at_match_attribute.ensures.peeks.same (after-look false c.at_match_arm.ensures.peeks.same (c.skip.ensures.reads false))))) (omega (arith, c.skip.ensures.left, c.at_match_arm.ensures.peeks.left, c.at_match_attribute.ensures.peeks.left, c.at_list_end.ensures.peeks.left)));
+  takes = record {
+    left = omega arith;
+    looks = omega (arith, c.at_match_arm.ensures.peeks.looks, c.at_match_attribute.ensures.peeks.looks, c.at_list_end.ensures.peeks.looks, c.skip.ensures.looks);
+  };
+}
+
+pub expressions::control::arm_turn-returns-clause-keeps : goal.expressions::control::arm_turn-returns-clause-keeps
+expressions::control::arm_turn-returns-clause-keeps t c = record {
+  input = (c.skip.ensures.reads false).does.input ∙ c.at_match_arm.ensures.peeks.same.input ∙ c.at_match_attribute.ensures.peeks.same.input ∙ c.at_list_end.ensures.peeks.same.input;
+  innermost = λ n i. (c.skip.ensures.reads false).does.innermost n (c.at_match_arm.ensures.peeks.same.innermost n (c.at_match_attribute.ensures.peeks.same.innermost n (c.at_list_end.ensures.peeks.same.innermost n i)));
+}
+
+pub expressions::control::arm_turn-returns-clause-asks : goal.expressions::control::arm_turn-returns-clause-asks
+expressions::control::arm_turn-returns-clause-asks t c = record {
+  left = omega arith;
+  looks = omega (arith, c.at_match_arm.ensures.peeks.looks, c.at_match_attribute.ensures.peeks.looks, c.at_list_end.ensures.peeks.looks, c.skip.ensures.looks);
+}
+
+pub expressions::control::arm_turn-returns-then-at_match_attribute-clause-goes : goal.expressions::control::arm_turn-returns-then-at_match_attribute-clause-goes
+unfolding anew any_of begins begins_below expressions in_mode is_longer is_silent items longest look_of no_longer one_of passes paths patterns row rule shift statements there_at tokens types whole
+expressions::control::arm_turn-returns-then-at_match_attribute-clause-goes t c = λ e. record {
+  turns = (next-turn false arm_turn (ends-at-end false arm_turn refl) _ _ _ first-turn (starts-here arm_turn (saw-so (c.at_list_end.ensures.sees false) c.if-at_list_end.false and saw-before c.at_list_end.ensures.peeks.same (saw-so (c.at_match_attribute.ensures.sees false) c.if-at_match_attribute.true) and nothing) refl) (reads-here (saw-before c.at_list_end.ensures.peeks.same (saw-so (c.at_match_attribute.ensures.sees false) c.if-at_match_attribute.true) and nothing) (after-look false c.at_list_end.ensures.peeks.same (after-look false c.at_match_attribute.ensures.peeks.same (reads-call false (c.attribute.ensures.gives false))))) (omega (arith, c.attribute.ensures.takes.left, c.at_match_attribute.ensures.peeks.left, c.at_list_end.ensures.peeks.left)));
+  takes = record {
+    left = omega arith;
+    looks = omega (arith, c.at_match_attribute.ensures.peeks.looks, c.at_list_end.ensures.peeks.looks, c.attribute.ensures.takes.looks);
+  };
+}
+
+pub expressions::control::arm_turn-returns-then-at_match_attribute-clause-keeps : goal.expressions::control::arm_turn-returns-then-at_match_attribute-clause-keeps
+expressions::control::arm_turn-returns-then-at_match_attribute-clause-keeps t c = record {
+  input = (c.attribute.ensures.gives false).does.input ∙ c.at_match_attribute.ensures.peeks.same.input ∙ c.at_list_end.ensures.peeks.same.input;
+  innermost = λ n i. (c.attribute.ensures.gives false).does.innermost n (c.at_match_attribute.ensures.peeks.same.innermost n (c.at_list_end.ensures.peeks.same.innermost n i));
+}
+
+pub expressions::control::arm_turn-returns-then-at_match_attribute-clause-asks : goal.expressions::control::arm_turn-returns-then-at_match_attribute-clause-asks
+expressions::control::arm_turn-returns-then-at_match_attribute-clause-asks t c = record {
+  left = omega arith;
+  looks = omega (arith, c.at_match_attribute.ensures.peeks.looks, c.at_list_end.ensures.peeks.looks, c.attribute.ensures.takes.looks);
+}
