@@ -1,28 +1,26 @@
 -- Each arm asks for its parts.
 use Rattle.std.proofs.Common.{◌+◌, ◌≤◌, inl, inr, sym, subst, arith, refl}
 use Rattle.std.proofs.Common.{rules}
-use Rattle.rust_grammar.specs.Expressions.{expressions, closure_params}
+use Rattle.rust_grammar.specs.Expressions.{expressions}
 use Rattle.rust_grammar.specs.Items.{items}
 use Rattle.rust_grammar.specs.Meaning.{begins_below, look_of}
 use Rattle.rust_grammar.specs.Notation.{any_of, is_longer, no_longer, longest, one_of, row}
 use Rattle.rust_grammar.specs.Paths.{paths}
 use Rattle.rust_grammar.specs.Patterns.{patterns}
-use Rattle.rust_grammar.specs.Rule as grammar
 use Rattle.rust_grammar.specs.Rule.{begins, in_mode, anew, is_silent, passes, shift, there_at}
 use Rattle.rust_grammar.specs.Statements.{statements}
-use Rattle.rust_grammar.specs.Types.{types, fn_ptr_params}
+use Rattle.rust_grammar.specs.Types.{types}
 use Rattle.rust_grammar.specs.Whole.{rule, whole}
 use Rattle.grammar_reader.specs.Parts.{looks_of, part_begins}
 use Rattle.grammar_reader.specs.declared.grammar.parts.Part.{Part}
 use Rattle.rust_productions.specs.Looks.{spent}
 use Rattle.rust_productions.specs.Reads.{Saw}
-use Rattle.rust_productions.proofs.Facts.{nothing, ◌and◌}
-use Rattle.rust_productions.proofs.Seen.{begins-row, starts-here}
+use Rattle.rust_productions.proofs.Seen.{saw-always}
 use Rattle.grammar_reader.proofs.grammar.parts.at_part.Goals as goal
 
 pub returns-in-Arguments-clause-sees : goal.returns-in-Arguments-clause-sees
 unfolding look_of begins_below whole rule items statements expressions patterns types paths there_at shift passes is_silent begins in_mode anew row one_of any_of no_longer longest is_longer
-returns-in-Arguments-clause-sees c d = elim c.in-Arguments.is [ inl a0 ↦ subst (λ (e : Part). Saw d (part_begins e) c.args.p.now c.at.result) (sym a0) (begins-row grammar.arguments (c.at.ensures.sees d and nothing) refl) | inr b0 ↦ elim b0 [ inl a1 ↦ subst (λ (e : Part). Saw d (part_begins e) c.args.p.now c.at.result) (sym a1) (starts-here fn_ptr_params (c.at.ensures.sees d and nothing) refl) | inr b1 ↦ subst (λ (e : Part). Saw d (part_begins e) c.args.p.now c.at.result) (sym b1) (begins-row grammar.params (c.at.ensures.sees d and nothing) refl) ] ]
+returns-in-Arguments-clause-sees c d = elim c.in-Arguments.is [ inl a0 ↦ subst (λ (e : Part). Saw d (part_begins e) c.args.p.now c.at.result) (sym a0) (saw-always (c.at.ensures.sees d)) | inr b0 ↦ elim b0 [ inl a1 ↦ subst (λ (e : Part). Saw d (part_begins e) c.args.p.now c.at.result) (sym a1) (saw-always (c.at.ensures.sees d)) | inr b1 ↦ subst (λ (e : Part). Saw d (part_begins e) c.args.p.now c.at.result) (sym b1) (saw-always (c.at.ensures.sees d)) ] ]
 
 pub returns-in-Arguments-clause-peeks : goal.returns-in-Arguments-clause-peeks
 returns-in-Arguments-clause-peeks c = record {
@@ -33,7 +31,7 @@ returns-in-Arguments-clause-peeks c = record {
 
 pub returns-in-AssocItems-clause-sees : goal.returns-in-AssocItems-clause-sees
 unfolding look_of begins_below whole rule items statements expressions patterns types paths there_at shift passes is_silent begins in_mode anew row one_of any_of no_longer longest is_longer
-returns-in-AssocItems-clause-sees c d = elim c.in-AssocItems.is [ inl a0 ↦ subst (λ (e : Part). Saw d (part_begins e) c.args.p.now c.at-in-AssocItems.result) (sym a0) (begins-row grammar.assoc_items (c.at-in-AssocItems.ensures.sees d and nothing) refl) | inr b0 ↦ elim b0 [ inl a1 ↦ subst (λ (e : Part). Saw d (part_begins e) c.args.p.now c.at-in-AssocItems.result) (sym a1) (begins-row grammar.block (c.at-in-AssocItems.ensures.sees d and nothing) refl) | inr b1 ↦ elim b1 [ inl a2 ↦ subst (λ (e : Part). Saw d (part_begins e) c.args.p.now c.at-in-AssocItems.result) (sym a2) (begins-row grammar.match_arms (c.at-in-AssocItems.ensures.sees d and nothing) refl) | inr b2 ↦ elim b2 [ inl a3 ↦ subst (λ (e : Part). Saw d (part_begins e) c.args.p.now c.at-in-AssocItems.result) (sym a3) (begins-row grammar.record_fields (c.at-in-AssocItems.ensures.sees d and nothing) refl) | inr b3 ↦ elim b3 [ inl a4 ↦ subst (λ (e : Part). Saw d (part_begins e) c.args.p.now c.at-in-AssocItems.result) (sym a4) (begins-row grammar.statement_list (c.at-in-AssocItems.ensures.sees d and nothing) refl) | inr b4 ↦ subst (λ (e : Part). Saw d (part_begins e) c.args.p.now c.at-in-AssocItems.result) (sym b4) (begins-row grammar.variants (c.at-in-AssocItems.ensures.sees d and nothing) refl) ] ] ] ] ]
+returns-in-AssocItems-clause-sees c d = elim c.in-AssocItems.is [ inl a0 ↦ subst (λ (e : Part). Saw d (part_begins e) c.args.p.now c.at-in-AssocItems.result) (sym a0) (saw-always (c.at-in-AssocItems.ensures.sees d)) | inr b0 ↦ elim b0 [ inl a1 ↦ subst (λ (e : Part). Saw d (part_begins e) c.args.p.now c.at-in-AssocItems.result) (sym a1) (saw-always (c.at-in-AssocItems.ensures.sees d)) | inr b1 ↦ elim b1 [ inl a2 ↦ subst (λ (e : Part). Saw d (part_begins e) c.args.p.now c.at-in-AssocItems.result) (sym a2) (saw-always (c.at-in-AssocItems.ensures.sees d)) | inr b2 ↦ elim b2 [ inl a3 ↦ subst (λ (e : Part). Saw d (part_begins e) c.args.p.now c.at-in-AssocItems.result) (sym a3) (saw-always (c.at-in-AssocItems.ensures.sees d)) | inr b3 ↦ elim b3 [ inl a4 ↦ subst (λ (e : Part). Saw d (part_begins e) c.args.p.now c.at-in-AssocItems.result) (sym a4) (saw-always (c.at-in-AssocItems.ensures.sees d)) | inr b4 ↦ subst (λ (e : Part). Saw d (part_begins e) c.args.p.now c.at-in-AssocItems.result) (sym b4) (saw-always (c.at-in-AssocItems.ensures.sees d)) ] ] ] ] ]
 
 pub returns-in-AssocItems-clause-peeks : goal.returns-in-AssocItems-clause-peeks
 returns-in-AssocItems-clause-peeks c = record {
@@ -44,7 +42,7 @@ returns-in-AssocItems-clause-peeks c = record {
 
 pub returns-in-ClosureParams-clause-sees : goal.returns-in-ClosureParams-clause-sees
 unfolding look_of begins_below whole rule items statements expressions patterns types paths there_at shift passes is_silent begins in_mode anew row one_of any_of no_longer longest is_longer
-returns-in-ClosureParams-clause-sees c d = subst (λ (e : Part). Saw d (part_begins e) c.args.p.now c.at-in-ClosureParams.result) (sym c.in-ClosureParams.is) (starts-here closure_params (c.at-in-ClosureParams.ensures.sees d and nothing) refl)
+returns-in-ClosureParams-clause-sees c d = subst (λ (e : Part). Saw d (part_begins e) c.args.p.now c.at-in-ClosureParams.result) (sym c.in-ClosureParams.is) (saw-always (c.at-in-ClosureParams.ensures.sees d))
 
 pub returns-in-ClosureParams-clause-peeks : goal.returns-in-ClosureParams-clause-peeks
 returns-in-ClosureParams-clause-peeks c = record {
@@ -66,7 +64,7 @@ returns-in-GenericArgs-clause-peeks c = record {
 
 pub returns-in-GenericParams-clause-sees : goal.returns-in-GenericParams-clause-sees
 unfolding look_of begins_below whole rule items statements expressions patterns types paths there_at shift passes is_silent begins in_mode anew row one_of any_of no_longer longest is_longer
-returns-in-GenericParams-clause-sees c d = subst (λ (e : Part). Saw d (part_begins e) c.args.p.now c.at-in-GenericParams.result) (sym c.in-GenericParams.is) (begins-row grammar.generic_params (c.at-in-GenericParams.ensures.sees d and nothing) refl)
+returns-in-GenericParams-clause-sees c d = subst (λ (e : Part). Saw d (part_begins e) c.args.p.now c.at-in-GenericParams.result) (sym c.in-GenericParams.is) (saw-always (c.at-in-GenericParams.ensures.sees d))
 
 pub returns-in-GenericParams-clause-peeks : goal.returns-in-GenericParams-clause-peeks
 returns-in-GenericParams-clause-peeks c = record {
@@ -154,7 +152,7 @@ returns-in-TypeNoBounds-clause-peeks c = record {
 
 pub returns-in-WhereClause-clause-sees : goal.returns-in-WhereClause-clause-sees
 unfolding look_of begins_below whole rule items statements expressions patterns types paths there_at shift passes is_silent begins in_mode anew row one_of any_of no_longer longest is_longer
-returns-in-WhereClause-clause-sees c d = subst (λ (e : Part). Saw d (part_begins e) c.args.p.now c.at-in-WhereClause.result) (sym c.in-WhereClause.is) (begins-row grammar.where_clause (c.at-in-WhereClause.ensures.sees d and nothing) refl)
+returns-in-WhereClause-clause-sees c d = subst (λ (e : Part). Saw d (part_begins e) c.args.p.now c.at-in-WhereClause.result) (sym c.in-WhereClause.is) (saw-always (c.at-in-WhereClause.ensures.sees d))
 
 pub returns-in-WhereClause-clause-peeks : goal.returns-in-WhereClause-clause-peeks
 returns-in-WhereClause-clause-peeks c = record {
