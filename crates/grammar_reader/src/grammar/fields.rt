@@ -1,7 +1,7 @@
 //! Fields of record expressions and of record patterns.
 
 ghost use Rattle.std.specs.Prelude.{◌≡◌, ◌≤◌, ◌+◌, Bool, true};
-ghost use Rattle.parser_input.specs.Kinds.{IDENT_PAT, NAME_REF, RECORD_EXPR_FIELD, RECORD_PAT_FIELD};
+ghost use Rattle.parser_input.specs.Kinds.{IDENT_PAT, RECORD_EXPR_FIELD, RECORD_PAT_FIELD};
 ghost use Rattle.parser_events.specs.Stack.{IsInnermost};
 ghost use Rattle.rust_grammar.specs.Calls.{Expression, Name, Pattern};
 ghost use Rattle.rust_grammar.specs.Notation.{◌▸◌, ⁅◌⁆, ◌!, ◌⟨◌⟩};

@@ -2,7 +2,7 @@
 
 ghost use Rattle.std.specs.Prelude.{◌≤◌, Bool, true, false};
 ghost use Rattle.parser_input.specs.Kinds.{TYPE_BOUND, WHERE_PRED};
-ghost use Rattle.rust_grammar.specs.Calls.{AnyType, Bound, GenericParams, WherePred};
+ghost use Rattle.rust_grammar.specs.Calls.{AnyType, Bound};
 ghost use Rattle.rust_grammar.specs.Notation.{◌▸◌, ⁅◌⁆, ◌*, ◌!, ◌⟨◌⟩, wide};
 ghost use Rattle.rust_grammar.specs.Rule as rules;
 ghost use Rattle.rust_grammar.specs.Rule.{One};

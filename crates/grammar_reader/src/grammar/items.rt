@@ -2,7 +2,7 @@
 
 ghost use Rattle.std.specs.Prelude.{◌≡◌, ◌≤◌, Bool, IsTrue, true, false};
 ghost use Rattle.parser_input.specs.Kind.{raw_of};
-ghost use Rattle.parser_input.specs.Kinds.{POUND, PUB_KW};
+ghost use Rattle.parser_input.specs.Kinds.{PUB_KW};
 ghost use Rattle.parser_events.specs.Stack.{IsInnermost};
 ghost use Rattle.grammar_reader.specs.Told.{ends_of, item_or_attribute};
 ghost use Rattle.rust_grammar.specs.Calls.{Attribute, Visibility};

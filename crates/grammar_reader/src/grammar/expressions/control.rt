@@ -1,7 +1,6 @@
 //! Expressions that end in a block.
 
 ghost use Rattle.std.specs.Prelude.{◌≡◌, ◌≤◌, ◌+◌, Bool, IsTrue, true, false};
-ghost use Rattle.rust_grammar.specs.Calls.{Block, MatchArms, StatementList};
 ghost use Rattle.rust_grammar.specs.Notation.{⁅◌⁆, ◌*, ◌! };
 ghost use Rattle.rust_grammar.specs.Rule as rules;
 ghost use Rattle.rust_grammar.specs.Expressions as rows;

@@ -2,9 +2,9 @@
 
 ghost use Rattle.std.specs.Prelude.{◌≤◌, Bool, IsTrue, true};
 ghost use Rattle.parser_input.specs.Kind.{raw_of};
-ghost use Rattle.parser_input.specs.Kinds.{CALL_EXPR, FLOAT_NUMBER, INDEX_EXPR, METHOD_CALL_EXPR, PREFIX_EXPR, TRY_EXPR};
+ghost use Rattle.parser_input.specs.Kinds.{FLOAT_NUMBER, PREFIX_EXPR};
 ghost use Rattle.parser_events.specs.Stack.{IsInnermost};
-ghost use Rattle.rust_grammar.specs.Calls.{Arguments, Prefixed};
+ghost use Rattle.rust_grammar.specs.Calls.{Prefixed};
 ghost use Rattle.rust_grammar.specs.Notation.{◌▸◌, ◌*, ◌!, ◌⟨◌⟩, more, wide};
 ghost use Rattle.rust_grammar.specs.Rule as rules;
 ghost use Rattle.rust_grammar.specs.Rule.{Kind, One, Split};

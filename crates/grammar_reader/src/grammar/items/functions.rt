@@ -3,7 +3,6 @@
 ghost use Rattle.std.specs.Prelude.{◌≤◌, Bool};
 ghost use Rattle.parser_input.specs.Kinds.{FN};
 ghost use Rattle.parser_events.specs.Stack.{IsInnermost};
-ghost use Rattle.rust_grammar.specs.Calls.{Params};
 ghost use Rattle.rust_grammar.specs.Items.{fn_begins};
 ghost use Rattle.rust_grammar.specs.Notation.{◌!, ◌▸◌, ◌<⟨◌⟩};
 ghost use Rattle.rust_grammar.specs.Items as rows;
