@@ -15,12 +15,11 @@ use Rattle.grammar_reader.specs.Parts.{looks_of, part_begins}
 use Rattle.grammar_reader.specs.declared.grammar.parts.Part.{Part}
 use Rattle.rust_productions.specs.Looks.{spent}
 use Rattle.rust_productions.specs.Reads.{Saw}
-use Rattle.rust_productions.proofs.Seen.{saw-always}
 use Rattle.grammar_reader.proofs.grammar.parts.at_part.Goals as goal
 
 pub returns-in-Arguments-clause-sees : goal.returns-in-Arguments-clause-sees
 unfolding look_of begins_below whole rule items statements expressions patterns types paths there_at shift passes is_silent begins in_mode anew row one_of any_of no_longer longest is_longer
-returns-in-Arguments-clause-sees c d = elim c.in-Arguments.is [ inl a0 ↦ subst (λ (e : Part). Saw d (part_begins e) c.args.p.now c.at.result) (sym a0) (saw-always (c.at.ensures.sees d)) | inr b0 ↦ elim b0 [ inl a1 ↦ subst (λ (e : Part). Saw d (part_begins e) c.args.p.now c.at.result) (sym a1) (saw-always (c.at.ensures.sees d)) | inr b1 ↦ subst (λ (e : Part). Saw d (part_begins e) c.args.p.now c.at.result) (sym b1) (saw-always (c.at.ensures.sees d)) ] ]
+returns-in-Arguments-clause-sees c d = elim c.in-Arguments.is [ inl a0 ↦ subst (λ (e : Part). Saw d (part_begins e) c.args.p.now c.at.result) (sym a0) (c.at.ensures.sees d) | inr b0 ↦ elim b0 [ inl a1 ↦ subst (λ (e : Part). Saw d (part_begins e) c.args.p.now c.at.result) (sym a1) (c.at.ensures.sees d) | inr b1 ↦ subst (λ (e : Part). Saw d (part_begins e) c.args.p.now c.at.result) (sym b1) (c.at.ensures.sees d) ] ]
 
 pub returns-in-Arguments-clause-peeks : goal.returns-in-Arguments-clause-peeks
 returns-in-Arguments-clause-peeks c = record {
@@ -31,7 +30,7 @@ returns-in-Arguments-clause-peeks c = record {
 
 pub returns-in-AssocItems-clause-sees : goal.returns-in-AssocItems-clause-sees
 unfolding look_of begins_below whole rule items statements expressions patterns types paths there_at shift passes is_silent begins in_mode anew row one_of any_of no_longer longest is_longer
-returns-in-AssocItems-clause-sees c d = elim c.in-AssocItems.is [ inl a0 ↦ subst (λ (e : Part). Saw d (part_begins e) c.args.p.now c.at-in-AssocItems.result) (sym a0) (saw-always (c.at-in-AssocItems.ensures.sees d)) | inr b0 ↦ elim b0 [ inl a1 ↦ subst (λ (e : Part). Saw d (part_begins e) c.args.p.now c.at-in-AssocItems.result) (sym a1) (saw-always (c.at-in-AssocItems.ensures.sees d)) | inr b1 ↦ elim b1 [ inl a2 ↦ subst (λ (e : Part). Saw d (part_begins e) c.args.p.now c.at-in-AssocItems.result) (sym a2) (saw-always (c.at-in-AssocItems.ensures.sees d)) | inr b2 ↦ elim b2 [ inl a3 ↦ subst (λ (e : Part). Saw d (part_begins e) c.args.p.now c.at-in-AssocItems.result) (sym a3) (saw-always (c.at-in-AssocItems.ensures.sees d)) | inr b3 ↦ elim b3 [ inl a4 ↦ subst (λ (e : Part). Saw d (part_begins e) c.args.p.now c.at-in-AssocItems.result) (sym a4) (saw-always (c.at-in-AssocItems.ensures.sees d)) | inr b4 ↦ subst (λ (e : Part). Saw d (part_begins e) c.args.p.now c.at-in-AssocItems.result) (sym b4) (saw-always (c.at-in-AssocItems.ensures.sees d)) ] ] ] ] ]
+returns-in-AssocItems-clause-sees c d = elim c.in-AssocItems.is [ inl a0 ↦ subst (λ (e : Part). Saw d (part_begins e) c.args.p.now c.at-in-AssocItems.result) (sym a0) (c.at-in-AssocItems.ensures.sees d) | inr b0 ↦ elim b0 [ inl a1 ↦ subst (λ (e : Part). Saw d (part_begins e) c.args.p.now c.at-in-AssocItems.result) (sym a1) (c.at-in-AssocItems.ensures.sees d) | inr b1 ↦ elim b1 [ inl a2 ↦ subst (λ (e : Part). Saw d (part_begins e) c.args.p.now c.at-in-AssocItems.result) (sym a2) (c.at-in-AssocItems.ensures.sees d) | inr b2 ↦ elim b2 [ inl a3 ↦ subst (λ (e : Part). Saw d (part_begins e) c.args.p.now c.at-in-AssocItems.result) (sym a3) (c.at-in-AssocItems.ensures.sees d) | inr b3 ↦ elim b3 [ inl a4 ↦ subst (λ (e : Part). Saw d (part_begins e) c.args.p.now c.at-in-AssocItems.result) (sym a4) (c.at-in-AssocItems.ensures.sees d) | inr b4 ↦ subst (λ (e : Part). Saw d (part_begins e) c.args.p.now c.at-in-AssocItems.result) (sym b4) (c.at-in-AssocItems.ensures.sees d) ] ] ] ] ]
 
 pub returns-in-AssocItems-clause-peeks : goal.returns-in-AssocItems-clause-peeks
 returns-in-AssocItems-clause-peeks c = record {
@@ -42,7 +41,7 @@ returns-in-AssocItems-clause-peeks c = record {
 
 pub returns-in-ClosureParams-clause-sees : goal.returns-in-ClosureParams-clause-sees
 unfolding look_of begins_below whole rule items statements expressions patterns types paths there_at shift passes is_silent begins in_mode anew row one_of any_of no_longer longest is_longer
-returns-in-ClosureParams-clause-sees c d = subst (λ (e : Part). Saw d (part_begins e) c.args.p.now c.at-in-ClosureParams.result) (sym c.in-ClosureParams.is) (saw-always (c.at-in-ClosureParams.ensures.sees d))
+returns-in-ClosureParams-clause-sees c d = subst (λ (e : Part). Saw d (part_begins e) c.args.p.now c.at-in-ClosureParams.result) (sym c.in-ClosureParams.is) (c.at-in-ClosureParams.ensures.sees d)
 
 pub returns-in-ClosureParams-clause-peeks : goal.returns-in-ClosureParams-clause-peeks
 returns-in-ClosureParams-clause-peeks c = record {
@@ -64,7 +63,7 @@ returns-in-GenericArgs-clause-peeks c = record {
 
 pub returns-in-GenericParams-clause-sees : goal.returns-in-GenericParams-clause-sees
 unfolding look_of begins_below whole rule items statements expressions patterns types paths there_at shift passes is_silent begins in_mode anew row one_of any_of no_longer longest is_longer
-returns-in-GenericParams-clause-sees c d = subst (λ (e : Part). Saw d (part_begins e) c.args.p.now c.at-in-GenericParams.result) (sym c.in-GenericParams.is) (saw-always (c.at-in-GenericParams.ensures.sees d))
+returns-in-GenericParams-clause-sees c d = subst (λ (e : Part). Saw d (part_begins e) c.args.p.now c.at-in-GenericParams.result) (sym c.in-GenericParams.is) (c.at-in-GenericParams.ensures.sees d)
 
 pub returns-in-GenericParams-clause-peeks : goal.returns-in-GenericParams-clause-peeks
 returns-in-GenericParams-clause-peeks c = record {
@@ -152,7 +151,7 @@ returns-in-TypeNoBounds-clause-peeks c = record {
 
 pub returns-in-WhereClause-clause-sees : goal.returns-in-WhereClause-clause-sees
 unfolding look_of begins_below whole rule items statements expressions patterns types paths there_at shift passes is_silent begins in_mode anew row one_of any_of no_longer longest is_longer
-returns-in-WhereClause-clause-sees c d = subst (λ (e : Part). Saw d (part_begins e) c.args.p.now c.at-in-WhereClause.result) (sym c.in-WhereClause.is) (saw-always (c.at-in-WhereClause.ensures.sees d))
+returns-in-WhereClause-clause-sees c d = subst (λ (e : Part). Saw d (part_begins e) c.args.p.now c.at-in-WhereClause.result) (sym c.in-WhereClause.is) (c.at-in-WhereClause.ensures.sees d)
 
 pub returns-in-WhereClause-clause-peeks : goal.returns-in-WhereClause-clause-peeks
 returns-in-WhereClause-clause-peeks c = record {
