@@ -64,7 +64,7 @@ def outcome(case):
 def main():
     count = int(sys.argv[2]) if len(sys.argv) > 2 else 120
     lines = [line for line in open(sys.argv[1], encoding="utf-8") if len(line) <= 900][:count]
-    print("-- Cases of an independent reader of what a rewrite is, over trees made at random. Written by bench/rewrites_from_cases.py.")
+    print("-- Cases of a reference implementation of a rewrite, over random trees. Written by bench/rewrites_from_cases.py.")
     print("use Rattle.std.specs.Prelude.{ℕ, List, [], ◌∷◌, Some, None, true, false}")
     print("use Rattle.rowan_green.specs.Forest.{Forest, empty, node, leaf, Tree}")
     print("use Rattle.syntax_suite.specs.Case.{Case, into, over, over_root, intersecting, missing, accepted}")

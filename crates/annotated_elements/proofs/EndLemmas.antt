@@ -67,7 +67,7 @@ lead-ahead ms n t (i ∷ up) o h is =
     by_image above None own r = child-ahead ms n i (lead_at ms n t up) o above r
     by_image above (Some y) own r = image-ahead ms (element_at n t (i ∷ up)) o h (own ∙ r)
 
--- what stands there is that
+-- the element at its own up-path is itself
 standing-same : (x y : Element) → standing x ≡ Some y → standing x ≡ Some x
 standing-same x y h = by_term (term_of x) refl h
   where

@@ -51,7 +51,7 @@ followed-more d ms e = let k : d + 1 ≡ suc d = omega arith in ap (λ n. follow
 pub followed-end : (d : ℕ) (ms : Mapping) (e : Element) → None ≡ lead_of ms e → followed_within (d + 1) ms e ≡ Some e
 followed-end d ms e h = followed-more d ms e ∙ ap (end_after (followed_within d ms) e) (sym h)
 
--- one that leads to where `s` stands
+-- one that leads to `s`
 pub followed-on : (d : ℕ) (ms : Mapping) (e x : Element) (s : Option Element) → Some x ≡ lead_of ms e → s ≡ standing x
     → followed_within (d + 1) ms e ≡ option_and_then (followed_within d ms) s
 followed-on d ms e x s h is =

@@ -97,7 +97,7 @@ found_beside m root es e h =
     ∙ (λ i. picked p (zip ((ap (λ r. map element_of (elements r)) is_root ∙ both.0) i) ((h.origins ∙ both.1) i)))
     ∙ picked-pairs p (element_at n t) (λ k. k.origin) (marks m)
 
--- ---- what was put in
+-- ---- inserted elements
 put-picked : (b : Bool) (w : Way) (ws : List Way) → if_put b w ws ≡ if_picked b w ws
 put-picked true w ws = refl
 put-picked false w ws = refl

@@ -1,5 +1,6 @@
 -- What is picked from two lists that go side by side.
 use Rattle.std.proofs.Common.{◌≡◌, List, [], ◌∷◌, ◌++◌, map, Bool, true, false, cond, refl, ap, sym, ◌∙◌, append_assoc}
+use Rattle.std.proofs.lemmas.List.{append-nil}
 use Rattle.std.specs.List.{filter, zip}
 use Rattle.annotated_elements.specs.Found.{picked}
 
@@ -63,3 +64,17 @@ picked-on {X} p b x y new old xs all_x ys all_y is same first second =
     by_test : (c : Bool) → cond c (x ∷ []) [] ++ picked p (zip xs ys) ≡ if_picked c x (picked p (zip xs ys))
     by_test true = refl
     by_test false = refl
+
+abbrev nil_of : (Y : Type 0) → List Y
+nil_of Y = []
+
+zip-nil : {X Y : Type 0} (xs : List X) → zip xs (nil_of Y) ≡ []
+zip-nil [] = refl
+zip-nil (x ∷ xs) = refl
+
+-- nothing is left on one side
+pub none-left : {X Y : Type 0} (p : Y → Bool) (now all : List X) (ys : List Y) → now ++ picked p (zip [] ys) ≡ all → now ≡ all
+none-left p now all ys h = sym (append-nil now) ∙ h
+
+pub none-beside : {X Y : Type 0} (p : Y → Bool) (now all xs : List X) → now ++ picked p (zip xs (nil_of Y)) ≡ all → now ≡ all
+none-beside p now all xs h = sym (append-nil now) ∙ ap (λ l. now ++ picked p l) (sym (zip-nil xs)) ∙ h

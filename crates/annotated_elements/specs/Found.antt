@@ -5,7 +5,7 @@ use Rattle.syntax_tree.specs.Element.{Way, Element, same_element}
 use Rattle.tree_rewrite.specs.Marked.{Marked, nothing, inner, token, Mark, origins}
 use Rattle.tree_rewrite.specs.Fits.{IsNode}
 
--- the way of each element with its mark, in preorder, in a list that stands below the way `w` from a number on
+-- the way of each element with its mark, in preorder, in a list of children of the element at `w`, from a number on
 abbrev pub marks_from : Marked → Way → ℕ → List (Way × Mark)
 marks_from nothing w i = []
 marks_from (inner m k f r) w i = (i ∷ w, m) ∷ (marks_from f (i ∷ w) 0 ++ marks_from r w (i + 1))
@@ -17,7 +17,7 @@ marks nothing = []
 marks (inner m k f r) = ([], m) ∷ marks_from f [] 0
 marks (token m l r) = ([], m) ∷ []
 
--- those beside which something stands that passes
+-- those whose partner passes
 abbrev pub picked : {X Y : Type 0} → (Y → Bool) → List (X × Y) → List X
 picked p xs = map (λ x. x.0) (filter (λ x. p x.1) xs)
 

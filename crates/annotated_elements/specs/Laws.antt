@@ -20,6 +20,6 @@ abbrev pub OriginsAgree : Type 0
 OriginsAgree = (m : Marked) (t : Tree) (n : ℕ) → IsNode m t
     → (map element_of (elements (element_at n t [])) ≡ map (λ x. element_at n t x.0) (marks m)) × (origins m ≡ map (λ x. x.1.origin) (marks m))
 
--- what was put in is what is marked so
+-- the inserted elements are those with the mark `put`
 abbrev pub ChangedAgree : Type 0
 ChangedAgree = (m : Marked) → changed m ≡ picked (λ k. k.put) (marks m)

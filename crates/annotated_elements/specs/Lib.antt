@@ -4,4 +4,5 @@ pub mod Nearest
 pub mod Found
 pub mod Changed
 pub mod Annotated
+pub mod Groups
 pub mod Laws

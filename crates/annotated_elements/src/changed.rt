@@ -1,4 +1,4 @@
-//! The elements of a rewritten tree that were put in.
+//! The inserted elements of a rewritten tree.
 ghost use Rattle.std.specs.Prelude.{◌≡◌, map, IfOk};
 ghost use Rattle.std.specs.List.{zip};
 ghost use Rattle.syntax_tree.specs.Element.{element_at};
@@ -12,8 +12,8 @@ use crate::found::push_if;
 use std::alloc::{AllocError, Global};
 use syntax_tree::{SyntaxElement, SyntaxNode};
 
-/// The elements beside which a mark says so, those at and below a root and these marks taken side
-/// by side, in preorder.
+/// Returns the elements at and below `root` whose mark is `true`, in preorder. `marks` has the marks
+/// of these elements, in preorder; elements past the last mark are left out.
 fn marked(
     alloc: Global,
     root: &SyntaxNode,
@@ -35,8 +35,8 @@ fn marked(
     Ok(marked)
 }
 
-/// The elements of a tree that were put in by changes that lie in no other, in preorder. The tree
-/// is that of a root, and for each of its elements in preorder a mark says whether it was put in.
+/// Returns the elements of the tree of `root` that the outermost changes inserted, in preorder.
+/// `put` has a mark for each element of the tree, in preorder: `true` if it is inserted.
 pub fn changed(
     alloc: Global,
     root: &SyntaxNode,

@@ -1,4 +1,4 @@
-//! Where a mapping leads.
+//! The end to which a mapping leads an element.
 ghost use Rattle.std.specs.Prelude.{◌≡◌, ◌++◌, option_map, IfOk};
 ghost use Rattle.rowan_green.specs.Forest.{Tree};
 ghost use Rattle.syntax_tree.specs.Handle.{element_of, standing_at};
@@ -8,8 +8,8 @@ ghost use Rattle.annotated_elements.specs.Nearest.{lead_by};
 use std::alloc::{AllocError, Global};
 use syntax_tree::{SyntaxElement, SyntaxMapping, SyntaxNode};
 
-/// What the nearest mapped node at or above a way in the tree of this number is mapped to, and the
-/// numbers of the way below that node; none where none is mapped.
+/// Returns the image of the nearest mapped node at or above an up-path in the tree of this number,
+/// and the part of the up-path below that node; `None` if no such node is mapped.
 fn nearest<'m, 'w>(
     mapping: &'m SyntaxMapping,
     tree: u32,
@@ -29,7 +29,7 @@ fn nearest<'m, 'w>(
     }
 }
 
-/// The element so far below a node, the innermost number first; none where no element stands there.
+/// Returns the element at an up-path below `node`, or `None` if there is no element.
 fn element_below(
     alloc: Global,
     node: &SyntaxNode,
@@ -44,11 +44,12 @@ fn element_below(
     node.element_at(alloc, &whole)
 }
 
-/// The end to which a mapping leads an element: from the nearest mapped element at or above it to
-/// what that is mapped to, and the same way down from there, again and again, until nothing at or
-/// above it is mapped; none where nothing stands there. It follows at most as many steps as the
-/// mapping has entries: there are no more where each entry's output is of a tree of a greater
-/// number.
+/// Returns the end to which a mapping leads an element.
+///
+/// A step goes from the nearest mapped node at or above the element to the image of that node, and
+/// then down again by the same child indices. Steps are repeated until no node at or above the
+/// element is mapped. Returns `None` if a step leads to no element, or if there are more steps than
+/// the mapping has entries; with outputs in trees of greater numbers there are never more.
 pub fn followed(
     alloc: Global,
     mapping: &SyntaxMapping,

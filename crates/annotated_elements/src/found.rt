@@ -1,4 +1,4 @@
-//! The elements of a rewritten tree that came from one.
+//! The elements of a rewritten tree that were copied from a given one.
 ghost use Rattle.std.specs.Prelude.{◌≡◌, [], ◌∷◌, ◌++◌, map, if◌then◌else◌, IfOk, OnOk};
 ghost use Rattle.std.specs.List.{zip};
 ghost use Rattle.rowan_green.specs.Forest.{Tree};
@@ -11,7 +11,7 @@ ghost use Rattle.annotated_elements.specs.Found.{picked, found, AreOrigins};
 use std::alloc::{AllocError, Global};
 use syntax_tree::{SyntaxElement, SyntaxNode};
 
-/// Adds an element, if told so.
+/// Appends the element if `is_there`.
 pub(crate) fn push_if(
     is_there: bool,
     element: SyntaxElement,
@@ -25,8 +25,8 @@ pub(crate) fn push_if(
     Ok(())
 }
 
-/// The elements beside which this one stands, those at and below a root and these taken side by
-/// side, in preorder.
+/// Returns the elements at and below `root` whose origin is `origin`, in preorder. `origins` has the
+/// origins of these elements, in preorder; elements past the last origin are left out.
 fn beside(
     alloc: Global,
     root: &SyntaxNode,
@@ -52,8 +52,8 @@ fn beside(
     Ok(found)
 }
 
-/// The elements of a tree that came from this one, in preorder. The tree is that of a root, and its
-/// elements have these origins, in preorder.
+/// Returns the elements of the tree of `root` that were copied from `origin`, in preorder.
+/// `origins` has the origins of the elements of the tree, in preorder.
 pub fn found(
     alloc: Global,
     root: &SyntaxNode,

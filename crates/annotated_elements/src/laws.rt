@@ -12,7 +12,7 @@ pub fn origins_agree()
     ensures { OriginsAgree }
 {}
 
-/// The ways of what was put in are those whose marks say so, in preorder.
+/// The up-paths of the inserted elements are those with the mark `put`, in preorder.
 pub fn changed_agree()
     ensures { ChangedAgree }
 {}

@@ -1,4 +1,5 @@
--- Derivations of which no token touches the next, with given bits for their floats; and the bits that are left for what stands after.
+-- Derivations of which no token touches the next, with given bits for their floats; and the bits that are left for the parts
+-- after them.
 use Rattle.std.proofs.Common.{Bool, false, List}
 use Rattle.core_language.specs.Types.{Mutability, Immutable, Mutable, Path, Name, Below, CoreType, PathType, ReferenceType, SliceType}
 use Rattle.core_language.specs.Operators.{LiteralForm, FloatNumber}

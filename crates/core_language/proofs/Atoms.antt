@@ -45,7 +45,7 @@ literal-atom CText j more = whole-means atom false _ ∙ rw (literal-reads CText
 literal-atom TrueWord j more = whole-means atom false _ ∙ rw (literal-reads TrueWord j more) refl
 literal-atom FalseWord j more = whole-means atom false _ ∙ rw (literal-reads FalseWord j more) refl
 
--- what stands after a path
+-- the rest of an expression that begins with a path: a macro call, a record, or the path alone
 abbrev after_path : Rule
 after_path =
     Or (Unless (next '!=') (Then (Wrap MACRO_CALL (Then (One '!') (Want (Call token_tree) (Expected TOKEN_TREE)))) (Wrap MACRO_EXPR Nothing)))

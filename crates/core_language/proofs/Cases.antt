@@ -1,4 +1,4 @@
--- Files of an independent reader, with its inputs and trees: core files, and others of which the tree is no core tree.
+-- Files of a reference implementation, with its inputs and trees: core files, and others of which the tree is no core tree.
 -- tools/cases.py writes this file; a lemma's number is the line of its case.
 use Rattle.std.proofs.Common.{◌≡◌, ℕ, Bool, true, false, List, [], ◌∷◌, refl, arith}
 use Rattle.parser_input.specs.Kinds.{AMP, AMP2, AMPEQ, ARG_LIST, BANG, BIN_EXPR, BLOCK_EXPR, BYTE_STRING, CALL_EXPR, CARET, CARETEQ, CHAR, COLON, COLON2, COMMA, DOT, EOF, EQ, EQ2, EXPR_STMT, FIELD_EXPR, FLOAT_NUMBER, FN, FN_KW, GTEQ, IDENT, IDENT_PAT, INT_NUMBER, ITEM_LIST, LET_KW, LET_STMT, LITERAL, LTEQ, L_ANGLE, L_BRACK, L_CURLY, L_PAREN, METHOD_CALL_EXPR, MINUS, MINUSEQ, MODULE, MOD_KW, MUT_KW, NAME, NAME_REF, NEQ, PARAM, PARAM_LIST, PAREN_EXPR, PATH, PATH_EXPR, PATH_SEGMENT, PATH_TYPE, PERCENT, PERCENTEQ, PIPE, PIPE2, PIPEEQ, PLUS, PLUSEQ, PREFIX_EXPR, PUB_KW, RECORD_FIELD, RECORD_FIELD_LIST, REF_EXPR, REF_TYPE, RET_TYPE, R_ANGLE, R_BRACK, R_CURLY, R_PAREN, SEMICOLON, SHL, SHLEQ, SHR, SHREQ, SLASH, SLASHEQ, SLICE_TYPE, SOURCE_FILE, STAR, STAREQ, STMT_LIST, STRING, STRUCT, STRUCT_KW, THIN_ARROW, TRUE_KW, VISIBILITY}

@@ -7,7 +7,7 @@ use Rattle.core_language.specs.Laws.{CoreExpressionsAreClean, CoreFilesAreClean,
 use Rattle.core_language.specs.Statements.{AnnotatedBy, Annotation, Block, Braces, Defer, InitializedBy, Initializer, LastExpression, Let, NamePattern, NoAnnotation, NoInitializer, NoStatement, Pattern, Run, Statement, StatementThen, Statements, annotation_tree, block_tree, initializer_tree, pattern_tree, statement_tree, statements_tree}
 use Rattle.core_language.specs.Types.{Below, CoreType, Immutable, Mutability, Mutable, Name, Path, PathType, ReferenceType, SliceType, inside_path, inside_type, mut_tree}
 
--- Each part is clean where what stands after it is.
+-- Each part is clean if the trees after it are.
 path-clean : (p : Path) → is_clean (inside_path p) ≡ true
 unfolding is_clean
 path-clean (Name j) = refl

@@ -18,7 +18,7 @@ pub record Known (e : Expression) : Type 0 where
   pub piped : 2 ≤ level e → ReadsPiped e
   pub whole : ReadsWhole e
 
--- what holds together more than any operator
+-- an expression of a higher binding power than every binary operator
 from-prefixed : (e : Expression) → 14 ≤ level e → (15 ≤ level e → ReadsHigh e) → ReadsPrefixed e → Known e
 from-prefixed e h high p =
     let at_any : (d : ℕ) → d ≤ 9 → ReadsAt d e = λ d k. climb e 0 d (omega arith) k (reads-cast e p) in
@@ -76,7 +76,7 @@ from-pipe e two p = record {
 expression-of : (e : Expression) → Known e → ReadsExpression e
 expression-of e k more c = expression-reads e more (k.whole more c)
 
--- no operator has the power of ranges, so what holds together more than `|>` is an operand of the highest layer
+-- no operator has the power 3, that of ranges, so an expression that binds tighter than `|>` is an operand of the highest layer
 above-power : (o : Operator) → 2 < power o → 4 ≤ power o
 above-power Pipe h = absurd (omega arith)
 above-power LogicalOr h = omega arith

@@ -160,7 +160,7 @@ item-tokens-of (OuterModule v j n k) more = refl
 item-tokens-of (InnerModule v j n l is k) more = refl
 item-tokens-of (Function v j n l ps k r b) more = refl
 
--- what is first the same of two items: the visibility and what stands after it
+-- two items of one tree and the same tokens have the same visibility, and the same trees and tokens after it
 item-head-one : (i j : Item) (f g : Forest) (more other : List Token) → item_tree i f ≡ item_tree j g
     → item_tokens i more ≡ item_tokens j other
     → Same (visibility_of i) (visibility_of j) (item_inside i) (item_inside j) (word_of i ∷ after_word i more) (word_of j ∷ after_word j other) × (f ≡ g)

@@ -20,7 +20,7 @@ pub record Between (o : Operator) (j : Bool) (t : Token) (ts : List Token) : Typ
 abbrev pub NotBoth : Operator → Bool → Token → Type 0
 NotBoth o j t = is_bit_and o ≡ true → j ≡ true → (t.kind == AMP) ≡ false
 
--- the same, by tests
+-- `Between` from tests that compute
 found : {o : Operator} {j : Bool} {t : Token} {ts : List Token} →
     ((g : Forest) → begins_at (turn (under o)) (at g (operator_tokens o j (t ∷ ts))) ≡ true) →
     ((g : Forest) → reads (ops (under o)) (at g (operator_tokens o j (t ∷ ts))) ≡ at (g then operator_tree o End) (t ∷ ts)) →

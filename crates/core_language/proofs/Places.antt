@@ -1,4 +1,4 @@
--- What stands after an expression, and how the layers of operators are numbered: 0 for casts, then from products up to `||`. The
+-- What may follow an expression, and how the layers of operators are numbered: 0 for casts, then from products up to `||`. The
 -- turns of `|>` are those of a layer 10, which is no production of its own.
 use Rattle.std.proofs.Common.{◌≡◌, ℕ, zero, suc, ◌+◌, ◌≤◌, ◌⊎◌, inl, inr, arith, Bool, true, false, not, ◌&&◌, List, ◌∷◌, refl, ◌==◌}
 use Rattle.parser_input.specs.Input.{Token}
@@ -111,7 +111,7 @@ abbrev pub Stops : ℕ → List Token → Type 0
 Stops zero more = Base more
 Stops (suc d) more = ((g : Forest) → begins_at (turn d) (at g more) ≡ false) × Stops d more
 
--- The same as tests, which compute where the next tokens are known.
+-- `Calm`, `Base` and `Stops` as tests, which compute if the next tokens are known.
 abbrev pub is_calm : Bool → Forest → List Token → Bool
 is_calm j g more =
     let kind = (ahead 0 more).kind in

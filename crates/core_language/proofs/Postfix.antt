@@ -1,4 +1,4 @@
--- Arguments, and what stands after an atom or before one.
+-- Arguments, and the postfix and prefix operators of an atom.
 use Rattle.std.proofs.Common.{◌≡◌, ℕ, suc, ◌≤◌, Bool, true, false, ◌&&◌, List, ◌∷◌, length, nat_lt, refl, ap, ◌∙◌, subst, arith, if◌then◌else◌}
 use Rattle.std.proofs.lemmas.Bool.{lt-ltb}
 use Rattle.parser_input.specs.Input.{Token}
@@ -133,7 +133,7 @@ arguments-read j k es more r =
     ∙ list-reads j k (arguments_tokens es (of_kind R_PAREN k ∷ more)) (arguments_tree es End) more (star-reads element (r (Leaf L_PAREN 1 End) k more))
     ∙ ap (λ (f : Forest). at (Node ARG_LIST (Leaf L_PAREN 1 f) End) more) (arguments-then es (Leaf R_PAREN 1 End))
 
--- An atom and what stands after it, as far as this goes.
+-- An atom and all postfix operators after it.
 abbrev pub high : Rule
 high = Then (Call atom) (Star (Continue postfix))
 

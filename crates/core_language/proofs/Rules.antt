@@ -93,7 +93,7 @@ unfoldable pub table : Unit {0}
 unfolding read leaf node wrapped after fresh sees ahead is_end begins passes is_silent shift in_mode anew there_at look_of begins_below rule rank whole paths types patterns expressions statements items row one_of any_of is_longer no_longer longest
 table = tt
 
--- the same without the table: what a production begins with stays as it stands
+-- `table` without the rules of the productions: where a production begins is not computed
 unfoldable pub forms : Unit {0}
 unfolding read leaf node wrapped after fresh sees ahead is_end begins passes is_silent shift in_mode anew there_at row one_of any_of is_longer no_longer longest
 forms = tt

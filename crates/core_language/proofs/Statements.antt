@@ -335,7 +335,7 @@ pub braces-read : (list : ℕ) (a : Rule) (j k : Bool) (ts : List Token) (f : Fo
 unfolding forms
 braces-read list a j k ts f more e = rw e refl
 
--- the same after other trees
+-- `braces-read` after other trees
 pub braces-read-in : (list : ℕ) (a : Rule) (g : Forest) (j k : Bool) (ts : List Token) (f : Forest) (more : List Token)
     → reads (Star a) (at (Leaf L_CURLY 1 End) ts) ≡ at (Leaf L_CURLY 1 f) (of_kind R_CURLY k ∷ more) →
     reads (rules.Node list (Then (One 'l_curly') (Then (Mode false (Star a)) (Want (One 'r_curly') (Expected R_CURLY))))) (at g (of_kind L_CURLY j ∷ ts)) ≡ at (g then Node list (Leaf L_CURLY 1 (f then Leaf R_CURLY 1 End)) End) more

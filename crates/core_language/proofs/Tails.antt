@@ -33,7 +33,7 @@ pub record Set (o : Assigner) (j : Bool) (t : Token) (ts : List Token) : Type 0 
   pub stops : Stops 10 (assigner_tokens o j (t ∷ ts))
   pub calm : Calm (assigner_tokens o j (t ∷ ts))
 
--- the same, by tests
+-- `Set` from tests that compute
 found : {o : Assigner} {j : Bool} {t : Token} {ts : List Token} →
     ((g : Forest) → begins_at setting (at g (assigner_tokens o j (t ∷ ts))) ≡ true) →
     ((g : Forest) → reads assignment (at g (assigner_tokens o j (t ∷ ts))) ≡ at (g then assigner_tree o End) (t ∷ ts)) →
@@ -85,7 +85,7 @@ nothing-reads : (s : Reading) → reads Nothing s ≡ s
 unfolding forms
 nothing-reads s = refl
 
--- `|>` with its right operand, and what stands after it
+-- `|>` with its right operand, and the tail after it
 abbrev piping : Rule
 piping = Then (turn 9) (Continue pipe_tail)
 
@@ -97,7 +97,7 @@ pipe-begins : (s : Reading) → begins_at piping s ≡ begins_at (turn 9) s
 unfolding forms
 pipe-begins s = refl
 
--- where no `|>` is next, what stands after an operand is an assignment or nothing
+-- where no `|>` is next, the tail of an operand is an assignment or nothing
 pipe-ends : (g : Forest) (ts : List Token) → begins_at (turn 9) (at g ts) ≡ false
     → gives pipe_tail (at g ts) ≡ reads (Or setting Nothing) (at g ts)
 pipe-ends g ts h =
@@ -119,7 +119,7 @@ pub record Closed (more : List Token) : Type 0 where
   pub stops : Stops 10 more
   pub set : (g : Forest) → begins_at setting (at g more) ≡ false
 
--- the same, by tests
+-- `Closed` from tests that compute
 pub closed-of : (more : List Token) → ((i : Bool) (g : Forest) → is_calm i g more ≡ true) → ((g : Forest) → stops_at 10 g more ≡ true) →
     ((g : Forest) → begins_at setting (at g more) ≡ false) → Closed more
 closed-of more calm stops set = record { calm = calm-of more calm; stops = stops-of 10 more stops; set = set }

@@ -1,4 +1,4 @@
--- Literals and operators are told by the kinds of their leaves, and the bit of an operator by its tokens.
+-- Literals and operators are determined by the kinds of their leaves, and the bit of an operator by its tokens.
 use Rattle.std.proofs.Common.{◌≡◌, ℕ, Bool, true, false, List, ◌∷◌, refl, ap, sym, ◌∙◌, ◌==◌, if◌then◌else◌}
 use Rattle.parser_input.specs.Input.{Token}
 use Rattle.parser_input.specs.Kinds.{AMP, AMP2, AMPEQ, BANG, BYTE, BYTE_STRING, CARET, CARETEQ, CHAR, C_STRING, EQ, EQ2, FLOAT_NUMBER, GTEQ, INT_NUMBER, LTEQ, L_ANGLE, MINUS, MINUSEQ, NEQ, PERCENTEQ, PIPE, PIPE2, PIPE_GT, PIPEEQ, PLUS, PLUSEQ, R_ANGLE, SHL, SHLEQ, SHR, SHREQ, SLASH, SLASHEQ, STAR, STAREQ, STRING, TRUE_KW}

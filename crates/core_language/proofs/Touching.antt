@@ -1,4 +1,4 @@
--- Cases by hand: where tokens touch, and the literals and operators that no case of the independent reader has.
+-- Cases by hand: where tokens touch, and the literals and operators that no case of the reference implementation has.
 use Rattle.std.proofs.Common.{Bool, true, false, List, [], ◌∷◌, refl, arith}
 use Rattle.parser_input.specs.Input.{Token}
 use Rattle.parser_input.specs.Kinds.{AMP, AMP2, BIN_EXPR, BYTE, COLON, COLON2, C_STRING, FALSE_KW, FLOAT_NUMBER, IDENT, LITERAL, L_ANGLE, L_BRACK, MINUS, MUT_KW, NAME_REF, PATH, PATH_EXPR, PATH_SEGMENT, PATH_TYPE, PREFIX_EXPR, REF_EXPR, REF_TYPE, R_BRACK, SLASH, SLICE_TYPE}

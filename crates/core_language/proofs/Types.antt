@@ -130,7 +130,7 @@ no-dots (TypeWithBracket j) g ts = refl
 pub type-is-no-dots : (t : CoreType) (more : List Token) (g : Forest) → begins_at (When (wide dots_dot) three_dots) (at g (type_tokens t more)) ≡ false
 type-is-no-dots t more g = let b = type-begins t more in rw b.are (no-dots b.start g b.rest)
 
--- The same type where one without bounds is wanted.
+-- A core type can start where a type without bounds is expected, and reads as itself there.
 pub bare-type-is-there : (t : CoreType) (g : Forest) (more : List Token) → sees false (at g (type_tokens t more)) (look_of whole type_no_bounds) ≡ true
 bare-type-is-there t g more = let b = type-begins t more in rw b.are (begins-bare b.start g b.rest)
 

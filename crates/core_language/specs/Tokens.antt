@@ -1,5 +1,5 @@
 -- The input tokens of the core language. In all that follows a `Bool` named after a token says whether that token touches the
--- next one; where it is free, white space makes no difference.
+-- next one; where it is free, whitespace makes no difference.
 use Rattle.std.specs.Prelude.{ℕ, Bool, true, false, List, [], ◌∷◌}
 use Rattle.parser_input.specs.Kinds.{EOF, IDENT, PIPE, R_ANGLE, PIPE_GT}
 use Rattle.parser_input.specs.Input.{Token}

@@ -1,4 +1,4 @@
-"""Writes antt lemmas that compare the definitions of the core language with cases of an independent reader.
+"""Writes antt lemmas that compare the definitions of the core language with cases of a reference implementation.
 
     cases.py CASES.jsonl > Cases.antt        all cases
     cases.py CASES.jsonl 3,14,15 > Cases.antt   those of these lines
@@ -316,7 +316,7 @@ def heading(body):
     named = set(re.findall(r"[A-Za-z_][\w-]*", body))
     kinds = sorted(it for it in named if re.fullmatch(r"[A-Z][A-Z0-9_]+", it))
     lines = [
-        "-- Files of an independent reader, with its inputs and trees: core files, and others of which the tree is no core tree.",
+        "-- Files of a reference implementation, with its inputs and trees: core files, and others of which the tree is no core tree.",
         "-- tools/cases.py writes this file; a lemma's number is the line of its case.",
         "use Rattle.std.proofs.Common.{◌≡◌, ℕ, Bool, true, false, List, [], ◌∷◌, refl, arith, if◌then◌else◌}",
         f"use Rattle.parser_input.specs.Kinds.{{{', '.join(kinds)}}}",

@@ -1,8 +1,9 @@
-//! Differences of rewritten trees from their readings; indents of lines; inputs of the whole language.
-use crate::documents::{Changes, range, recorded};
+//! Differences of rewritten trees from their readings; commits that are tried; indents of lines; inputs of the whole language.
+use crate::documents::{Changes, read, recorded};
 use anyhow::bail;
 use parser_input::{Edition, LexedStr, SyntaxKind};
-use ra_parser::Grammar;
+use ra_parser::{Grammar, TopEntryPoint};
+use rowan_green::{TextRange, TextSize};
 use rust_document::Document;
 use rust_source::Source;
 use std::alloc::Global;
@@ -32,6 +33,17 @@ pub(crate) fn difference(
     Ok(format!(in alloc; "{start}..{end} {wanted} {read}")?)
 }
 
+/// Returns the text that a commit of changes would make.
+pub(crate) fn tried(
+    alloc: Global,
+    document: &Document,
+    changes: Changes,
+    ids: &mut TreeIds,
+) -> anyhow::Result<String> {
+    let editor = recorded(alloc, changes, document, ids)?;
+    Ok(document.try_commit(alloc, &editor)?)
+}
+
 /// Returns the indent of a function's line.
 pub(crate) fn line_indent(alloc: Global) -> anyhow::Result<String> {
     let text = "mod m {\n \tfn f() {}\n}";
@@ -48,4 +60,19 @@ pub(crate) fn whole_input(alloc: Global) -> anyhow::Result<String> {
     let input = Grammar::Whole.input(alloc, &lexed)?;
     let count = input.len();
     Ok(format!(in alloc; "{count}")?)
+}
+
+/// Returns a range of bytes.
+pub(crate) fn range(start: u32, end: u32) -> TextRange {
+    if end < start {
+        return TextRange::empty(TextSize(start));
+    }
+    TextRange::new(TextSize(start), TextSize(end))
+}
+
+/// Returns a payload and its tree number.
+pub(crate) fn payload_read(alloc: Global) -> anyhow::Result<String> {
+    let mut ids = TreeIds::new();
+    let element = read(alloc, TopEntryPoint::Expr, "1 + 2", &mut ids)?;
+    Ok(format!(in alloc; "{} {}", element.tree(), element.green()?)?)
 }

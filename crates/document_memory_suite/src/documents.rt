@@ -1,11 +1,11 @@
 //! Documents that are opened, edited and committed.
-use crate::differences::{difference, line_indent, whole_input};
+use crate::differences::{difference, line_indent, payload_read, range, tried, whole_input};
 use anyhow::bail;
 use memory_table::row::{Ask, Row};
 use memory_table::shown::all_shown;
 use parser_input::{Edition, SyntaxKind};
 use ra_parser::TopEntryPoint;
-use rowan_green::{TextRange, TextSize};
+use rowan_green::TextRange;
 use rust_document::{
     CommitError, Committed, Document, EditError, OpenError, PayloadEntry, SyntaxEditor,
     WithoutMessagesError, payload,
@@ -26,6 +26,8 @@ pub(crate) enum DocumentCall {
     CommitWithoutMessages(&'static str, Changes),
     /// Tells the first difference that changes make.
     Difference(&'static str, Changes),
+    /// Tries a commit of changes.
+    Try(&'static str, Changes),
     Payload,
     Find,
     Editor,
@@ -54,13 +56,6 @@ pub(crate) enum Changes {
 
 /// An element by its kind and range.
 type Place = (SyntaxKind, u32, u32);
-
-pub(crate) fn range(start: u32, end: u32) -> TextRange {
-    if end < start {
-        return TextRange::empty(TextSize(start));
-    }
-    TextRange::new(TextSize(start), TextSize(end))
-}
 
 /// The kinds and ends of a document's tokens.
 fn tokens(alloc: Global, document: &Document) -> Result<String, AllocError> {
@@ -149,7 +144,7 @@ fn found(alloc: Global, document: &Document, place: Place) -> anyhow::Result<Syn
     }
 }
 
-fn read(
+pub(crate) fn read(
     alloc: Global,
     entry: TopEntryPoint,
     text: &str,
@@ -336,12 +331,6 @@ fn asked(alloc: Global, call: DocumentCall, document: &Document) -> anyhow::Resu
     }
 }
 
-fn payload_read(alloc: Global) -> anyhow::Result<String> {
-    let mut ids = TreeIds::new();
-    let element = read(alloc, TopEntryPoint::Expr, "1 + 2", &mut ids)?;
-    Ok(format!(in alloc; "{} {}", element.tree(), element.green()?)?)
-}
-
 impl Ask for DocumentCall {
     fn answer(self, alloc: Global, refused: &mut u32) -> anyhow::Result<String> {
         let mut ids = TreeIds::new();
@@ -375,6 +364,10 @@ impl Ask for DocumentCall {
             DocumentCall::Difference(text, changes) => {
                 let document = open(alloc, (edition, text), &mut ids, refused)?;
                 difference(alloc, &document, changes, &mut ids)
+            }
+            DocumentCall::Try(text, changes) => {
+                let document = open(alloc, (edition, text), &mut ids, refused)?;
+                tried(alloc, &document, changes, &mut ids)
             }
             _ => asked(
                 alloc,
@@ -486,6 +479,11 @@ pub(crate) const ROWS: &[Row<DocumentCall>] = &[
         "rust_document::Document::difference",
         DocumentCall::Difference("struct S;", Changes::Keyword),
         "7..13 NAME -",
+    ),
+    (
+        "rust_document::Document::try_commit",
+        DocumentCall::Try("struct S;", Changes::Name),
+        "struct Tee;",
     ),
     ("rust_document::payload", DocumentCall::Payload, "1 1 + 2"),
     ("rust_document::Document::find", DocumentCall::Find, "S"),

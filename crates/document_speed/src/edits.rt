@@ -1,4 +1,4 @@
-//! Records another token for each tenth child of a list of many, and finishes.
+//! Records the replacement of each tenth child of a long list of tokens, and finishes the edit.
 ghost use Rattle.std.specs.Prelude.{◌≡◌, [], IfSome};
 
 use parser_input::syntax_kind::SyntaxKind;
@@ -13,7 +13,7 @@ fn raw(kind: SyntaxKind) -> rowan_green::SyntaxKind {
     rowan_green::SyntaxKind(kind.to_raw())
 }
 
-/// A file of so many tokens.
+/// Returns a file of `children` tokens.
 fn file(alloc: Global, children: usize) -> Option<GreenNode> {
     let mut builder = GreenNodeBuilder::new(alloc);
     builder.start_node(raw(SyntaxKind::SOURCE_FILE)).ok()?;
@@ -29,14 +29,14 @@ fn editor(alloc: Global, children: usize, ids: &mut TreeIds) -> Option<SyntaxEdi
     Some(SyntaxEditor::of_root(alloc, root))
 }
 
-/// The token that is put in.
+/// Returns the replacement.
 fn other(alloc: Global, ids: &mut TreeIds) -> Option<SyntaxElement> {
     let green = GreenToken::new(alloc, raw(SyntaxKind::IDENT), "b").ok()?;
     let token = SyntaxToken::detached(alloc, green, ids).ok()?;
     Some(SyntaxElement::Token(token))
 }
 
-/// Puts a token in the place of each tenth child.
+/// Records the replacement of each tenth child with `new`.
 fn record(
     alloc: Global,
     editor: &mut SyntaxEditor,
@@ -74,7 +74,7 @@ fn measured(rt: &HostRuntime, children: usize, ids: &mut TreeIds) -> io::Result<
     Ok(finished.map(|edit| edit.changed().len()))
 }
 
-/// Prints how many of a list's tokens were replaced; the times go to standard error.
+/// Prints the number of tokens of a list that were replaced; the times go to standard error.
 pub(crate) fn measure(rt: &HostRuntime, children: usize) -> io::Result<()> {
     match measured(rt, children, &mut TreeIds::new())? {
         Some(changed) => println!(rt; "{changed}"),

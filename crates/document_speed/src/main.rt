@@ -1,6 +1,7 @@
-//! Opens the text on standard input as a document five times, edits a name in its middle four times, and commits another name for its
-//! last one. Prints how many bytes the text then has, or why not; then edits lists of tokens, and prints how many were replaced. The
-//! times go to standard error, in microseconds.
+//! Opens the text on standard input as a document five times, edits a name in its middle four
+//! times, and commits another name for its last one. Prints whether the commit succeeded and the
+//! number of bytes of the text, or the error of opening; then edits lists of tokens, and prints how
+//! many were replaced. The times go to standard error, in microseconds.
 #![tactic(auto)]
 
 use parser_input::edition::Edition;
@@ -14,10 +15,10 @@ use syntax_tree::{SyntaxElement, TreeIds};
 
 mod edits;
 
-/// How often a text is opened before its last name is replaced.
+/// The number of times that a text is opened before its last name is replaced.
 const AGAIN: usize = 4;
 
-/// Where the last name of the text stands.
+/// Returns the range of the last name of the text.
 fn last_name(document: &Document) -> Option<TextRange> {
     let mut last = None;
     for token in document.tokens() {
@@ -28,7 +29,7 @@ fn last_name(document: &Document) -> Option<TextRange> {
     last
 }
 
-/// Returns the place of the first name in the second half of the text.
+/// Returns the range of the first name in the second half of the text.
 fn middle_name(document: &Document) -> Option<TextRange> {
     let half = document.text().len() / 2;
     for token in document.tokens() {
@@ -39,13 +40,13 @@ fn middle_name(document: &Document) -> Option<TextRange> {
     None
 }
 
-/// The last name itself.
+/// Returns the last name of the text as an element of the tree.
 fn target(alloc: Global, document: &Document) -> Option<SyntaxElement> {
     let range = last_name(document)?;
     document.find(alloc, SyntaxKind::IDENT, range).ok()?
 }
 
-/// An editor that puts `renamed` for the last name.
+/// Returns an editor that replaces the last name with `renamed`.
 fn editor(alloc: Global, document: &Document, ids: &mut TreeIds) -> Option<SyntaxEditor> {
     let old = target(alloc, document)?;
     let edition = document.edition();
@@ -72,7 +73,7 @@ fn opened(
     Ok(opened)
 }
 
-/// Replaces a name in the middle of the text by `renamed`.
+/// Replaces a name in the middle of the text with `renamed`.
 fn edit(rt: &HostRuntime, document: &mut Document, ids: &mut TreeIds) -> io::Result<()> {
     let Some(range) = middle_name(document) else {
         return Ok(());

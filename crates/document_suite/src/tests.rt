@@ -20,6 +20,7 @@ mod refused_memory;
 mod renames;
 mod rewrites;
 mod trees;
+mod tries;
 mod without_messages;
 
 use parser_input::edition::Edition;

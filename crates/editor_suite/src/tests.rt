@@ -1,4 +1,5 @@
-//! What no contract says: that calls succeed where memory is ample. A row edits a tree that is built by hand, and says what must come of it.
+//! Tests what contracts leave open: that calls succeed while allocations do. A row has a tree that
+//! is built by hand, the changes recorded on it, and the expected outcome.
 mod above;
 mod copy;
 mod doing;
@@ -26,7 +27,7 @@ use std::test::Fail;
 use syntax_editor::{Annotations, IndentLevel, Space, SyntaxFactory};
 use syntax_tree::TreeIds;
 
-/// A tree, what is done to it, and what comes of that.
+/// A tree, the calls that are made on it, and the expected outcome.
 type Row = (Tree, &'static [Do<'static>], &'static str);
 
 fn passes(alloc: Global, (tree, doings, expected): &Row) -> Result<bool, Fail> {
@@ -238,7 +239,7 @@ fn copies_are_edited(rt: HostRuntime) -> Result<(), Fail> {
     Ok(())
 }
 
-/// Whether white space and a comma are made.
+/// Returns `true` if the factory makes the expected whitespace and comma tokens.
 fn are_tokens(alloc: Global, ids: &mut TreeIds) -> Result<bool, Fail> {
     let space = SyntaxFactory.whitespace(alloc, "\n", ids)?;
     let comma = SyntaxFactory.token(alloc, SyntaxKind::COMMA, ",", ids)?;
@@ -252,7 +253,7 @@ fn tokens_are_made(rt: HostRuntime) -> Result<(), Fail> {
     Ok(())
 }
 
-/// The spaces of one level more than the first.
+/// Returns the indentation of level 2, and whether the level is zero.
 fn two_levels(alloc: Global) -> Result<String, Fail> {
     let mut level = IndentLevel::from(1);
     level += 1;
@@ -267,7 +268,7 @@ fn levels_stop_at_255(rt: HostRuntime) -> Result<(), Fail> {
     Ok(())
 }
 
-/// A tree, the way of an element, and its level.
+/// A tree, the up-path of an element, and its indent level.
 type Level = (Tree, &'static [usize], u8);
 
 const LEVELS: &[Level] = &[
@@ -278,7 +279,7 @@ const LEVELS: &[Level] = &[
     (Tree::Lines, &[4, 1], 0),
 ];
 
-/// An element in no line is at level 0.
+/// Elements with no line break before them: their level is 0.
 const NO_LINES: &[Level] = &[(Tree::Args, &[4], 0), (Tree::Empty, &[], 0)];
 
 #[test]
@@ -297,7 +298,7 @@ fn levels_need_a_line(rt: HostRuntime) -> Result<(), Fail> {
     Ok(())
 }
 
-/// A tree, two children of its root, and what comes between them.
+/// A tree, the indices of two children of its root, and the whitespace between them.
 type Between = (Tree, usize, usize, Space);
 
 fn is_between(alloc: Global, (tree, left, right, space): &Between) -> Result<bool, Fail> {
@@ -363,7 +364,7 @@ fn editors_of_two_trees_are_not(rt: HostRuntime) -> Result<(), Fail> {
     Ok(())
 }
 
-/// A tree, a gap in it, what is put there, and what comes of that.
+/// A tree, a gap in it, the elements to insert there, and the expected outcome.
 type SpacedRow = (Tree, Gap<'static>, &'static [&'static str], &'static str);
 
 fn is_spaced(

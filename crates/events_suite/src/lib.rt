@@ -1,4 +1,4 @@
-//! Markers, outputs and the steps with a text's own leaves are tried here, as a caller has them.
+//! Tests of markers, outputs and steps with trivia, through the public API.
 #![tactic(auto)]
 
 #[cfg(test)]

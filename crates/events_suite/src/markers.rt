@@ -1,4 +1,4 @@
-//! What no clause says: that the steps are the ones that were meant, by lists written by hand.
+//! Tests what contracts leave open: that the steps are the intended ones, by lists written by hand.
 
 ghost use Rattle.std.specs.Prelude.{◌≡◌, ◌∷◌, [], length, IfOk};
 ghost use Rattle.parser_input.specs.Kinds as kinds;
@@ -128,7 +128,8 @@ fn an_empty_node_beside_an_abandoned_one(rt: HostRuntime) -> Result<(), AllocErr
     Ok(())
 }
 
-/// Whether the looks at a word and a float are answered, and those after the word; and how many steps there were.
+/// Returns `true` if the lookaheads at a word and a float have the expected values, `true` if those
+/// after the word do, and the number of parser steps.
 fn looked(alloc: Global, input: &Input) -> Result<(bool, bool, u64), AllocError>
     requires { length input.now ≡ 2 }
 {

@@ -1,4 +1,5 @@
-//! What no clause says: that the trees with their text are the ones that were meant, by lists written by hand.
+//! Tests what contracts leave open: that the trees with their text are the intended ones, by lists
+//! written by hand.
 
 ghost use Rattle.std.specs.Prelude.{◌≡◌, ◌+◌};
 
@@ -13,7 +14,7 @@ use parser_input::lexed_str::LexedStr;
 use parser_input::syntax_kind::SyntaxKind;
 use std::alloc::{AllocError, Global};
 
-/// A step with the place of its text, in bytes.
+/// A step with the offsets of its text, in bytes.
 #[derive(Clone, Copy, PartialEq, Eq)]
 enum Mark {
     Leaf(SyntaxKind, usize, usize),
@@ -22,11 +23,11 @@ enum Mark {
     Said(Message, usize),
 }
 
-/// How many steps a sink took before the one that it refused.
+/// The number of steps that a sink accepted before the one that it refused.
 #[derive(Clone, Copy, PartialEq, Eq)]
 struct Refusal(usize);
 
-/// Takes no more than so many steps, and looks whether they are those that are wanted.
+/// A sink that accepts at most `most` steps, and compares them with the expected ones.
 #[derive(Drop)]
 struct Awaiting<'a> {
     wanted: &'a [Mark],
@@ -47,7 +48,7 @@ impl<'a> Awaiting<'a> {
         }
     }
 
-    /// What a step is here.
+    /// Returns the mark of a step at the current offset.
     fn mark(&self, step: StrStep<'_>) -> Mark {
         match step {
             StrStep::Token { kind, text } => {
@@ -83,8 +84,9 @@ impl StrSink for Awaiting<'_> {
     }
 }
 
-/// What becomes of steps that are put into a text, by a sink that takes no more than so many and wants these: the step that
-/// was refused, how many were taken, and whether they were the first of those.
+/// Adds the trivia of `text` to `steps`, for a sink that accepts at most `most` steps and expects
+/// `wanted`. Returns the index of the step that the sink refused, if any, the number of steps that
+/// it accepted, and whether these were the first of `wanted`.
 fn put(
     alloc: Global,
     text: &str,
@@ -108,12 +110,12 @@ fn do_fit(alloc: Global, text: &str, steps: &[Step]) -> Result<bool, AllocError>
     Ok(output.fits(&lexed))
 }
 
-/// A node begins.
+/// Returns the step that starts a node.
 fn enter(kind: SyntaxKind) -> Step {
     Step::Enter { kind }
 }
 
-/// A leaf over one token.
+/// Returns the step of a leaf over one token.
 fn leaf(kind: SyntaxKind) -> Step {
     Step::Token {
         kind,
@@ -121,7 +123,7 @@ fn leaf(kind: SyntaxKind) -> Step {
     }
 }
 
-/// A file of one struct without fields.
+/// Returns the steps of a file with one struct without fields.
 fn one_struct() -> [Step; 9] {
     [
         enter(SyntaxKind::SOURCE_FILE),
@@ -215,7 +217,7 @@ fn comments_before_a_struct(rt: HostRuntime) -> Result<(), AllocError> {
     Ok(())
 }
 
-/// Whether these steps are put into a text as these marks say.
+/// Returns `true` if `steps` with the trivia of `text` are exactly `wanted`.
 fn is_put(alloc: Global, text: &str, steps: &[Step], wanted: &[Mark]) -> Result<bool, AllocError> {
     let outcome = put(alloc, text, steps, wanted, usize::MAX)?;
     Ok(outcome == (None, wanted.len(), true))
@@ -348,7 +350,7 @@ const SHIFT: Step = Step::Token {
     n_input_tokens: 2,
 };
 
-/// A text, steps, and whether those fit it.
+/// A text, steps, and whether the steps fit the text.
 const FITTING: &[(&str, [Step; 4], bool)] = &[
     (" << ", [FILE, SHIFT, SAID, Step::Exit], true),
     ("< <", [FILE, SHIFT, SAID, Step::Exit], false),

@@ -81,7 +81,7 @@ unfolding look_of begins_below whole rule items statements expressions patterns 
 statement-begins list_ends.Brace saw = starts-here (Call rules.statement) (saw and nothing) refl
 statement-begins list_ends.Input saw = starts-here (Call rules.macro_statement) (saw and nothing) refl
 
--- the rows of a statement, and of what stands after an expression
+-- the rules of a statement, and of the end of an expression statement
 pub gives-statement : (end : ListEnd) {c : Bool} {old new : View} → Anew c (statement_of (listing_of end)) old new → Gives (listing_of end).one c old new
 unfolding rule items statements
 gives-statement list_ends.Brace p = gives-anew p

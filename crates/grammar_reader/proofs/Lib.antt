@@ -5,3 +5,5 @@ pub mod Operands
 pub mod PathArgs
 pub mod AnyMode
 pub mod Parts
+pub mod ListsAndParts
+pub mod Arms

@@ -1,4 +1,4 @@
--- What stands at the front of a node that is left out in the end, and floats that are split.
+-- The first production in a node that is abandoned later, and floats that are split.
 use Rattle.std.proofs.Common.{◌≡◌, ℕ, suc, ◌+◌, Bool, true, false, not, List, [], ◌∷◌, drop, Option, Some, None, IfSome, refl, sym, ap, subst, ◌∙◌, arith}
 use Rattle.std.proofs.lemmas.Bool.{eqb-true}
 use Rattle.std.proofs.lemmas.List.{drop-drop}
@@ -24,7 +24,7 @@ use Rattle.rust_productions.proofs.Choices.{anew-completes}
 use Rattle.rust_productions.proofs.Looking.{kind-ahead}
 use Rattle.rust_productions.proofs.Moves.{becomes, around-closed}
 
--- A production that stands first may be read in the node that is left out in the end: nothing was given in it.
+-- The first production may be read in a node that is abandoned later: nothing was given in that node.
 pub anew-first : {x : Production} {b : Rule} {c : Bool} {old mid new : View} → Opens old mid → Completes c (Then (rule x) b) mid new → Anew c (Then (Call x) b) old new
 unfolding read fresh after
 anew-first {x} {b} {c} {old} {mid} {new} o q =

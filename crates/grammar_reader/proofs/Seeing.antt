@@ -5,7 +5,7 @@ use Rattle.parser_input.specs.Input.{Token}
 use Rattle.parser_input.specs.Kinds.{DYN_KW, EOF, EXTERN_KW, FN_KW, L_CURLY, UNSAFE_KW}
 use Rattle.parser_events.specs.Forest as forest
 use Rattle.parser_events.specs.View.{View}
-use Rattle.rust_grammar.specs.Expressions.{closure_param, expressions}
+use Rattle.rust_grammar.specs.Expressions.{closure_param, expressions, open_range}
 use Rattle.rust_grammar.specs.Items.{items}
 use Rattle.rust_grammar.specs.Meaning.{begins_below}
 use Rattle.rust_grammar.specs.Notation.{any_of, is_longer, longest, no_longer, one_of, row, until}
@@ -21,6 +21,10 @@ use Rattle.rust_grammar.specs.Meaning.{Reading, ahead, fresh, look_of, read, say
 use Rattle.rust_grammar.specs.Whole.{rule, whole}
 use Rattle.rust_grammar.specs.Words.{'ident', 'l_curly', '!'}
 use Rattle.rust_productions.specs.Looks.{tokens}
+use Rattle.rust_productions.specs.Operators.{IsMark, spelling_of}
+use Rattle.rust_productions.specs.declared.grammar.operators.RangeMark.{RangeMark}
+use Rattle.rust_productions.proofs.Ranges.{reads-open-range, reads-open-range-alone}
+use Rattle.grammar_reader.specs.Next.{EndsRange}
 use Rattle.rust_productions.specs.Reads.{looks, Closes, Does, Gives, Reads, Saw}
 use Rattle.rust_productions.specs.Stands.{left}
 use Rattle.rust_productions.proofs.ByHand.{does-as, does-then}
@@ -65,7 +69,7 @@ gives-look p q = record { does = does-then p q.does }
 pub saw-closed : {c b : Bool} {l : Look} {kind : ℕ} {old new : View} → Closes kind old new → Saw c l old b → Saw c l new b
 saw-closed o saw = record { at = λ s e. saw.at s (sym o.rest ∙ e) }
 
--- a production that begins here, called anew
+-- adds to the known facts whether a production begins here, with nothing given before it
 pub begun-anew : (x : Production) {c b : Bool} {fs : List Fact} {v : View} → Saw c (anew (looks x)) v b → Known c fs v → Known c (Begins x b ∷ fs) v
 begun-anew x saw k = record { at = λ s e. (saw.at s e, k.at s e) }
 
@@ -85,7 +89,7 @@ left-some {c} {v} saw = omega (arith, ltb-true 0 (length (left v)) (saw.at (reco
 pub some-left : (x : Spelling) {c : Bool} {v : View} → Saw c (until x) v false → 1 ≤ tokens v
 some-left x saw = left-some (left-there x saw)
 
--- so far ahead a token is left where its kind is not that of the end
+-- more than `n` tokens are left if the kind `n` tokens ahead is not `EOF`
 some-ahead : (n k : ℕ) (ts : List Token) → (ahead n ts).kind ≡ k → (k ≡ EOF → ⊥) → n < length ts
 unfolding ahead
 some-ahead n k [] e other = absurd (other (sym e))
@@ -111,7 +115,7 @@ begun-left a {c} {v} e saw = within (length (left v)) refl
     within zero none = absurd (true≢false (sym (saw.at here refl) ∙ ends-at-end c a e here none))
     within (suc n) some = omega (arith, some)
 
--- The same of a rule that asks whether a word is `dyn`: behind the last token is none.
+-- What is known at the end of the input, for rules that ask whether a word is `dyn`: after the last token there is none.
 abbrev at_the_end : List Fact
 at_the_end = Answers (Kind 0 EOF) true ∷ Answers Left false ∷ Answers (Contextual 0 DYN_KW) false ∷ []
 
@@ -134,17 +138,13 @@ word-left a {c} {v} e saw = within (length (left v)) refl
     within zero none = absurd (true≢false (sym (saw.at here refl) ∙ no-dyn c a e here none))
     within (suc n) some = omega (arith, some)
 
--- A parameter of a closure begins as its pattern does, in whatever mode.
-pub closure-param-begins : {b : Bool} {v : View} → Saw false (looks single_pattern) v b → Saw false (begins looks closure_param) v b
+-- A parameter of a closure begins in whatever mode.
+pub closure-param-anywhere : {c b : Bool} {v : View} → Saw false (begins looks closure_param) v b → Saw c (begins looks closure_param) v b
 unfolding look_of begins_below whole rule items statements expressions patterns types paths there_at shift passes is_silent begins in_mode anew row one_of any_of no_longer longest is_longer sees
-closure-param-begins saw = record { at = λ s e. saw.at s e }
+closure-param-anywhere saw = record { at = λ s e. saw.at s e }
 
-pub pattern-begins : {c b : Bool} {v : View} → Saw false (begins looks closure_param) v b → Saw c (looks single_pattern) v b
-unfolding look_of begins_below whole rule items statements expressions patterns types paths there_at shift passes is_silent begins in_mode anew row one_of any_of no_longer longest is_longer sees
-pattern-begins saw = record { at = λ s e. saw.at s e }
-
--- An arm begins as its pattern does.
-pub arm-there : {c b : Bool} {v : View} → Saw c (looks rules.pattern) v b → Saw c (anew (looks rules.match_arm)) v b
+-- Whether a match arm begins does not depend on what was given before it.
+pub arm-there : {c b : Bool} {v : View} → Saw c (looks rules.match_arm) v b → Saw c (anew (looks rules.match_arm)) v b
 unfolding look_of begins_below whole rule items statements expressions patterns types paths there_at shift passes is_silent begins in_mode anew row one_of any_of no_longer longest is_longer sees
 arm-there saw = record { at = λ s e. saw.at s e }
 
@@ -173,3 +173,11 @@ fn-ptr-begins {c} {v} saw = record { at = λ s e. one s ((ahead 0 s.rest).kind =
     one s f false true is iu ix there = rw (iu, ix) refl
     one s true false false is iu ix there = rw (iu, ix, is) refl
     one s false false false is iu ix there = absurd (let z : false ≡ true = rw (is, iu, ix) at there in cc)
+
+-- a range operator and its operand, if one follows
+pub reads-open-end : {c b : Bool} {old new : View} (mark : RangeMark) → IsMark (Some mark) old → EndsRange c (spelling_of mark) b old new → Reads c open_range old new
+reads-open-end {c} {b} {old} {new} mark next ends = which b ends
+  where
+    which : (b : Bool) → EndsRange c (spelling_of mark) b old new → Reads c open_range old new
+    which true e = reads-open-range mark next e.near (e.to refl)
+    which false e = reads-open-range-alone mark next e.near (e.alone refl)

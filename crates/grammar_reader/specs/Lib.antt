@@ -1,2 +1,4 @@
 pub mod Told
 pub mod Next
+pub mod Lists
+pub mod Parts

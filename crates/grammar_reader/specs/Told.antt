@@ -48,8 +48,8 @@ element_of elements.Variant = variant
 
 -- how many looks tell at most whether an element is next, and how many one takes that takes no token
 abbrev pub looks_before : Element → ℕ
-looks_before elements.ClosureParam = 8
-looks_before elements.Expression = 14
+looks_before elements.ClosureParam = 9
+looks_before elements.Expression = 19
 looks_before x = 30
 
 abbrev pub looks_in : Element → ℕ

@@ -16,6 +16,7 @@ pub(crate) mod new_bounds;
 pub(crate) mod new_params;
 pub mod or_patterns;
 pub(crate) mod params;
+pub(crate) mod parts;
 pub(crate) mod paths;
 pub(crate) mod pattern_ranges;
 pub(crate) mod patterns;

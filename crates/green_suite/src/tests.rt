@@ -1,5 +1,5 @@
-//! What no contract says: that calls succeed where memory is ample, the worked cases, and that a
-//! refused growth is answered with `NoMemory` and changes nothing.
+//! Tests what contracts leave open: that calls succeed while allocations do, worked cases, and that
+//! a call whose allocation fails returns `NoMemory` and changes nothing.
 mod deep;
 
 use rowan_green::{
@@ -33,7 +33,7 @@ fn node_of_two(
     node(alloc, kind, vec![in alloc; first, second]?)
 }
 
-/// A node 1 of the tokens `a` and `b`, which are of the kinds 2 and 3.
+/// Returns a node of kind 1 with the tokens `a` and `b`, of kinds 2 and 3.
 fn pair(alloc: Global) -> Result<GreenElement, GreenError> {
     node_of_two(alloc, 1, token(alloc, 2, "a")?, token(alloc, 3, "b")?)
 }
@@ -53,7 +53,8 @@ fn range(start: u32, end: u32) -> TextRange {
     TextRange::new(start, TextSize::from(end.max(u32::from(start))))
 }
 
-/// Start, end and length of 2 to 5, and of the least range over it and 9.
+/// Returns start, end and length of `five`, and start and end of the smallest range that covers it
+/// and offset 9.
 fn ends(five: TextRange) -> [u32; 5] {
     let cover = five.cover(TextRange::empty(TextSize(9)));
     [
@@ -65,7 +66,7 @@ fn ends(five: TextRange) -> [u32; 5] {
     ]
 }
 
-/// The length of what 2 to 5 and another range have in common, or 99.
+/// Returns the length of the intersection of `five` and another range, or 99 if there is none.
 fn common_length(five: TextRange, start: u32, end: u32) -> u32 {
     match five.intersect(range(start, end)) {
         Some(common) => common.len().0,
@@ -73,7 +74,7 @@ fn common_length(five: TextRange, start: u32, end: u32) -> u32 {
     }
 }
 
-/// Whether 2 to 5 contains 2, 5, the empty range at 5, and 4 to 6.
+/// Returns whether `five` contains offset 2, offset 5, the empty range at 5, and the range 4 to 6.
 fn contains(five: TextRange) -> [bool; 4] {
     [
         five.contains(TextSize(2)),
@@ -102,7 +103,7 @@ fn ranges_are_values(rt: HostRuntime) {
     assert!(rt; (usize::from(TextSize(7)) == 7) & (TextSize(1) < TextSize(2)));
 }
 
-/// Whether a node and a token read as what they are.
+/// Returns whether the accessors of a node and of a token have the expected values.
 fn reads(node: &GreenElement, token: &GreenElement) -> [bool; 6] {
     [
         node.kind() == SyntaxKind(1) && node.text_len() == TextSize(2),
@@ -147,7 +148,7 @@ fn children_come_from_both_ends(rt: HostRuntime) -> Result<(), Fail> {
     Ok(())
 }
 
-/// A node of tokens of these texts.
+/// Returns a node with a token for each of `texts`.
 fn row_of(alloc: Global, texts: &[&str]) -> Result<GreenNode, GreenError> {
     let mut children = Vec::new(alloc);
     for text in texts {
@@ -178,7 +179,7 @@ fn children_at_offsets(rt: HostRuntime) -> Result<(), Fail> {
     Ok(())
 }
 
-/// One edit of a node of two children, by its number.
+/// Returns a node of two children after the edit with number `edit`.
 fn edited(alloc: Global, node: &GreenNode, edit: u8) -> Result<GreenNode, GreenError> {
     if node.children().len() != 2 {
         return Err(GreenError::Unbalanced);
@@ -192,7 +193,7 @@ fn edited(alloc: Global, node: &GreenNode, edit: u8) -> Result<GreenNode, GreenE
     }
 }
 
-/// Whether a node prints as this text.
+/// Returns `true` if `node` prints as `text`.
 fn prints(alloc: Global, node: &GreenNode, text: &str) -> Result<bool, AllocError> {
     Ok(format!(in alloc; "{node}")?.as_str() == text)
 }
@@ -211,7 +212,7 @@ fn edits(rt: HostRuntime) -> Result<(), Fail> {
     Ok(())
 }
 
-/// A node of a thousand tokens `a`, with one edit, by its number, of the children from 499 on.
+/// Returns a node of 1000 tokens `a` after the edit with number `edit` of its children from 499 on.
 fn edited_row(alloc: Global, row: &GreenNode, edit: u8) -> Result<GreenNode, GreenError> {
     if row.children().len() != 1000 {
         return Err(GreenError::Unbalanced);
@@ -225,7 +226,8 @@ fn edited_row(alloc: Global, row: &GreenNode, edit: u8) -> Result<GreenNode, Gre
     }
 }
 
-/// An edit of that node, by its number; how many children and bytes there are then; and what stands at byte 500.
+/// The number of an edit of that node; the expected numbers of children and bytes; and the index
+/// and start of the child at byte 500.
 type RowEdit = (u8, usize, u32, (usize, u32));
 
 const ROW_EDITS: &[RowEdit] = &[
@@ -235,7 +237,7 @@ const ROW_EDITS: &[RowEdit] = &[
     (3, 502, 504, (499, 499)),
 ];
 
-/// The length of what a node prints.
+/// Returns the length of the text that `node` prints, in bytes.
 fn printed_length(alloc: Global, node: &GreenNode) -> Result<usize, AllocError> {
     Ok(format!(in alloc; "{node}")?.len())
 }
@@ -260,7 +262,7 @@ fn edits_of_many_children(rt: HostRuntime) -> Result<(), Fail> {
     Ok(())
 }
 
-/// A node of the token `x` and of a pair.
+/// Returns a node with the token `x` and a pair.
 fn outer(alloc: Global) -> Result<GreenElement, GreenError> {
     node_of_two(alloc, 5, token(alloc, 2, "x")?, pair(alloc)?)
 }
@@ -294,7 +296,7 @@ fn a_length_past_u32_is_too_long(rt: HostRuntime) -> Result<(), Fail> {
     Ok(())
 }
 
-/// Opens a node 1 with a token `a`, and a node 4 around the token `b` after it.
+/// Builds a node of kind 1 with the token `a`, and a node of kind 4 around the token `b` after it.
 fn wrapped(alloc: Global) -> Result<GreenNode, GreenError> {
     let mut builder = GreenNodeBuilder::new(alloc);
     builder.start_node(SyntaxKind(1))?;
@@ -316,7 +318,8 @@ fn a_checkpoint_wraps_what_came_after_it(rt: HostRuntime) -> Result<(), Fail> {
     Ok(())
 }
 
-/// Whether a checkpoint in a node 2 in a node 1 is one before that node 2 is closed, and is refused after.
+/// Returns `true` if a checkpoint in an inner node is valid until that node is closed, and causes
+/// an error after that.
 fn goes_stale(builder: &mut GreenNodeBuilder<'_>) -> Result<bool, GreenError> {
     builder.start_node(SyntaxKind(1))?;
     builder.start_node(SyntaxKind(2))?;
@@ -329,7 +332,7 @@ fn goes_stale(builder: &mut GreenNodeBuilder<'_>) -> Result<bool, GreenError> {
     Ok(was_one & !is_one & (refused == Err(GreenError::Unbalanced)))
 }
 
-/// The node that is built then, if the checkpoint was refused.
+/// Returns the node that is built after that, or `None` if the checkpoint did not go stale.
 fn built_past_stale(alloc: Global) -> Result<Option<GreenNode>, GreenError> {
     let mut builder = GreenNodeBuilder::new(alloc);
     let goes_stale = goes_stale(&mut builder)?;
@@ -337,7 +340,7 @@ fn built_past_stale(alloc: Global) -> Result<Option<GreenNode>, GreenError> {
     Ok(goes_stale.then_some(node))
 }
 
-/// A node 1 of an empty node 2.
+/// Returns a node of kind 1 with an empty node of kind 2.
 fn nested(alloc: Global) -> Result<GreenElement, GreenError> {
     node_of_one(alloc, 1, node(alloc, 2, Vec::new(alloc))?)
 }
@@ -350,7 +353,8 @@ fn a_stale_checkpoint_is_unbalanced(rt: HostRuntime) -> Result<(), Fail> {
     Ok(())
 }
 
-/// Closes no node, which is refused, and then leaves a node 1 of a token `a` open.
+/// Closes a node where none is open, and then leaves a node with the token `a` open. Returns `true`
+/// if the first call was an error.
 fn left_open(builder: &mut GreenNodeBuilder<'_>) -> Result<bool, GreenError> {
     let refused = builder.finish_node();
     builder.start_node(SyntaxKind(1))?;
@@ -358,7 +362,8 @@ fn left_open(builder: &mut GreenNodeBuilder<'_>) -> Result<bool, GreenError> {
     Ok(refused == Err(GreenError::Unbalanced))
 }
 
-/// The node that is built once that node is closed, where each of the other calls was refused.
+/// Returns the node that is built after that node is closed, or `None` if a call before that was
+/// not an error as expected.
 fn built_past_refusals(alloc: Global) -> Result<Option<GreenNode>, GreenError> {
     let mut builder = GreenNodeBuilder::new(alloc);
     if !left_open(&mut builder)? {
@@ -381,7 +386,7 @@ fn what_is_not_one_complete_node_is_unbalanced(rt: HostRuntime) -> Result<(), Fa
     Ok(())
 }
 
-/// Leaves a node open, beside a complete one.
+/// Finishes a builder whose outer node is still open, after its child was closed.
 fn half_done(alloc: Global) -> Result<GreenNode, GreenError> {
     let mut builder = GreenNodeBuilder::new(alloc);
     builder.start_node(SyntaxKind(1))?;
@@ -390,7 +395,7 @@ fn half_done(alloc: Global) -> Result<GreenNode, GreenError> {
     Ok(builder.finish()?)
 }
 
-/// Builds a node 1 of two nodes 2, each of the token `x`.
+/// Builds a node of kind 1 with two nodes of kind 2, each with the token `x`.
 fn built_with(alloc: Global, cache: &mut NodeCache) -> Result<GreenNode, GreenError> {
     let mut builder = GreenNodeBuilder::with_cache(alloc, cache);
     builder.start_node(SyntaxKind(1))?;
@@ -421,7 +426,7 @@ fn was_refused(answer: Result<(), GreenError>) -> bool {
     answer == Err(GreenError::NoMemory)
 }
 
-/// Adds a token, by a second call where memory was refused to the first.
+/// Adds a token; repeats the call once if it is out of memory.
 fn add_token(builder: &mut GreenNodeBuilder<'_>, text: &str) -> Result<(), GreenError> {
     let kind = SyntaxKind(2);
     let answer = builder.token(kind, text);
@@ -441,7 +446,7 @@ fn close(builder: &mut GreenNodeBuilder<'_>) -> Result<(), GreenError> {
     }
 }
 
-/// Wraps the last of five tokens, each call made again where memory was refused.
+/// Wraps the last of five tokens; repeats each call once if it is out of memory.
 fn wrap_last(builder: &mut GreenNodeBuilder<'_>) -> Result<(), GreenError> {
     for text in ["a", "b", "c", "d"] {
         add_token(builder, text)?;
@@ -457,8 +462,8 @@ fn wrap_last(builder: &mut GreenNodeBuilder<'_>) -> Result<(), GreenError> {
     }
 }
 
-/// With `rt try --test --fail-alloc N` one growth is refused; a call that had left something
-/// after would show in the tree.
+/// With `rt try --test --fail-alloc N` one allocation fails. If the call that failed had changed
+/// the builder, the tree would differ.
 #[test]
 fn a_refused_growth_changes_nothing(rt: HostRuntime) -> Result<(), Fail> {
     let alloc = rt.alloc();

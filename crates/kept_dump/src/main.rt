@@ -1,10 +1,13 @@
-//! Edits documents: each line of the input is a JSON object with an edition, a text, an edit as the start and the end of a range of
-//! bytes and the text that replaces it, how many tokens are kept in front, lexed, and kept after, and whether the parser's
-//! input stays the same. Prints for each what the edit of a document answers, and whether that agrees; then how many agree, and for how
-//! many the edit of a `LexedText` of the whole text has the same counts.
+//! Edits documents: each line of the input is a JSON object with an edition, a text, an edit (the
+//! start and the end of a byte range, and the text that replaces it), the numbers of tokens that
+//! are kept in front, lexed, and kept after, and whether the parser's input stays the same. Prints
+//! for each the outcome of the document's edit, and whether it agrees; then the number of cases
+//! that agree, and the number for which the edit of a `LexedText` of the whole text has the same
+//! counts.
 //!
-//! The cases that lie beside it were computed by a slow, plain reader of the rules that shares no code with these crates. A document's
-//! edit is that of the whole text in those with no first line of an interpreter, no frontmatter and no `#"` or `##`.
+//! The cases next to it were computed by a slow, plain reference implementation that shares no code
+//! with these crates. A document's edit has the counts of the whole text in the cases with no
+//! shebang, no frontmatter and no `#"` or `##`.
 #![tactic(auto)]
 
 use anyhow::{Context, bail};
@@ -30,14 +33,14 @@ struct Case<'a> {
     put: &'a str,
 }
 
-/// Returns a number of a list.
+/// Returns the number at `index` of a list.
 fn number_at(list: &Value, index: usize) -> anyhow::Result<u32> {
     let number = list.get(index).and_then(Value::as_u64);
     let number = number.context("a case lacks a number")?;
     u32::try_from(number).ok().context("a number is too large")
 }
 
-/// Returns a count of a list.
+/// Returns the count at `index` of a list.
 fn count_at(list: &Value, index: usize) -> anyhow::Result<usize> {
     Ok(number_at(list, index)? as usize)
 }
@@ -68,7 +71,7 @@ fn edit_in(case: &Value) -> anyhow::Result<Case<'_>> {
     })
 }
 
-/// Returns what the edit of a document answers.
+/// Edits the text of a case as a document, and returns the outcome.
 fn edit_document(alloc: Global, case: &Case<'_>) -> anyhow::Result<Edited> {
     if case.end < case.start {
         bail!("a range ends before it starts");
@@ -82,7 +85,7 @@ fn edit_document(alloc: Global, case: &Case<'_>) -> anyhow::Result<Edited> {
     Ok(document.edit(alloc, range, case.put, &mut ids)?)
 }
 
-/// Returns what the edit of the whole text answers.
+/// Edits the text of a case as one `LexedText`, and returns the counts.
 fn edit_text(alloc: Global, case: &Case<'_>) -> anyhow::Result<Kept> {
     let start = case.start as usize;
     let end = case.end as usize;
@@ -93,7 +96,7 @@ fn edit_text(alloc: Global, case: &Case<'_>) -> anyhow::Result<Kept> {
     Ok(lexed.edit(start..end, case.put)?)
 }
 
-/// Returns the counts that a case has.
+/// Returns the counts that a case expects.
 fn expected_counts(case: &Value) -> anyhow::Result<Kept> {
     let counts = case.get("kept").context("a case lacks its counts")?;
     Ok(Kept {
@@ -103,7 +106,7 @@ fn expected_counts(case: &Value) -> anyhow::Result<Kept> {
     })
 }
 
-/// Returns `true` if a case has equal inputs of the parser.
+/// Returns `true` if a case expects that the parser's input stays the same.
 fn has_same_input(case: &Value) -> anyhow::Result<bool> {
     let same = case.get("same_input").and_then(Value::as_bool);
     same.context("a case does not tell of the input")

@@ -1,4 +1,4 @@
-//! What no clause says: that calls succeed where memory is ample, and the worked edits.
+//! Tests what contracts leave open: that calls succeed while allocations do, and worked edits.
 
 use lexed_text::{Kept, LexedText};
 use rustc_lexer::tokenize;
@@ -9,7 +9,7 @@ use std::process::Abort;
 /// An edit's counts: the tokens kept in front, those lexed, and those kept after.
 type Counts = (usize, usize, usize);
 
-/// Edits a text, and looks at the counts.
+/// Edits a text, and checks the counts.
 fn expect(
     rt: &impl Abort,
     alloc: Global,
@@ -43,7 +43,8 @@ fn edits_are_counted(rt: HostRuntime) -> Result<(), AllocError> {
     expect(&rt, alloc, "fn f() { x.0.1; }", 13..14, "", (10, 1, 3))
 }
 
-/// Whether a text can be put in the place of a range of `aé\u{2028}b`, in which characters begin at 0, 1, 3 and 6.
+/// Returns `true` if a text of `new_len` bytes can replace `range` of `aé\u{2028}b`, in which
+/// characters start at 0, 1, 3 and 6.
 fn can_edit(alloc: Global, range: Range<usize>, new_len: usize) -> Result<bool, AllocError> {
     let text = LexedText::new(alloc, "aé\u{2028}b")?;
     Ok(text.can_edit(range, new_len))
@@ -68,7 +69,7 @@ fn ranges_are_edits_or_none(rt: HostRuntime) -> Result<(), AllocError> {
     Ok(())
 }
 
-/// Whether a text holds the tokens of its text.
+/// Returns `true` if the tokens of `text` are those that the lexer finds in it.
 fn is_lexed(text: &LexedText) -> bool {
     let mut wanted = tokenize(text.text());
     for token in text.tokens() {
@@ -95,12 +96,12 @@ fn copies_are_apart(rt: HostRuntime) -> Result<(), AllocError> {
     Ok(())
 }
 
-/// What is put in at random: whatever opens, closes or joins tokens.
+/// The texts that are inserted at random: they start, end or join tokens.
 const PIECES: [&str; 16] = [
     "", " ", "\n", "a", "é", "1", ".", "'", "\"", "/", "/*", "*/", "//", "r#\"", "#", "\u{2028}",
 ];
 
-/// The next of some numbers without order.
+/// Returns the next pseudorandom number.
 fn next(state: &mut u64) -> usize {
     let new = state.wrapping_mul(6_364_136_223_846_793_005);
     *state = new.wrapping_add(1_442_695_040_888_963_407);
@@ -126,7 +127,7 @@ fn a_thousand_edits_end_in_the_texts_tokens(rt: HostRuntime) -> Result<(), Alloc
     Ok(())
 }
 
-/// So many structs, a line each of five tokens.
+/// Returns a text of `count` structs, each a line of five tokens.
 fn structs(alloc: Global, count: usize) -> Result<String, AllocError> {
     let mut text = String::new(alloc);
     for _ in 0..count {
@@ -135,7 +136,8 @@ fn structs(alloc: Global, count: usize) -> Result<String, AllocError> {
     Ok(text)
 }
 
-/// Makes an edit, and makes it again where memory was refused; a refusal leaves text and tokens as they were.
+/// Inserts `put` at `at`, and repeats the edit once if it is out of memory. Checks that text and
+/// tokens are unchanged after an error.
 fn edit_again(
     rt: &impl Abort,
     text: &mut LexedText,
@@ -155,8 +157,8 @@ fn edit_again(
     Err(AllocError)
 }
 
-/// Lexes, edits and copies a text of several runs of tokens. Run with one request for memory refused, each in turn, it ends the same way:
-/// `bench/refused.py`.
+/// Lexes, edits and copies a text of several runs of tokens. With any one allocation failing, the
+/// result is the same: `bench/refused.py` tries each in turn.
 #[test]
 fn refused_calls_change_nothing(rt: HostRuntime) -> Result<(), AllocError> {
     let alloc = rt.alloc();

@@ -1,8 +1,10 @@
-//! Puts a text in the place of one name of a text, and the name back, over and over, and prints what the edits moved and lexed.
+//! Replaces one name of a text and restores it, over and over, and prints what the edits moved and
+//! lexed.
 //!
-//! Standard input is the text. The arguments are how often it is lexed whole before, how often the name gives way and comes back,
-//! where the name stands, in hundredths of the text, and what is put in its place. No time is taken here: two runs differ in theirs
-//! by the lexings, or the edits, that only one of them makes (`bench/kept`).
+//! Standard input is the text. The arguments are the number of times it is lexed whole before, the
+//! number of times the name is replaced and restored, the position of the name in hundredths of the
+//! text, and the replacement. Nothing is timed here: the times of two runs differ by the lexings,
+//! or the edits, that only one of them makes (`bench/kept`).
 #![tactic(auto)]
 
 use anyhow::{Context, bail};
@@ -12,23 +14,23 @@ use std::alloc::Global;
 use std::ops::Range;
 use std::{env, io};
 
-/// What edits did, all together.
+/// The sums over all edits.
 #[derive(Clone, Copy)]
 struct Sum {
-    /// The edits.
+    /// The number of edits.
     edits: usize,
 
-    /// Bytes of text that an edit put elsewhere: those after it, where it changes the text's length.
+    /// Bytes of text that edits moved: those after an edit that changes the text's length.
     bytes_moved: usize,
 
-    /// Tokens that an edit put elsewhere: those kept after it, where it changes their number.
+    /// Tokens that edits moved: those kept after an edit that changes their number.
     tokens_moved: usize,
 
     /// Tokens that were lexed.
     tokens_lexed: usize,
 }
 
-/// Puts a text in the place of a range, and adds what that did.
+/// Replaces `range` with `put`, and returns `sum` with that edit added.
 fn edit(text: &mut LexedText, range: Range<usize>, put: &str, sum: Sum) -> anyhow::Result<Sum> {
     let start = range.start;
     let end = range.end;
@@ -56,7 +58,8 @@ fn edit(text: &mut LexedText, range: Range<usize>, put: &str, sum: Sum) -> anyho
     })
 }
 
-/// The last name that begins within so many bytes, or the first one of all.
+/// Returns the range of the last name that starts within the first `bytes` bytes, or of the first
+/// name if none does.
 fn name_within(text: &LexedText, bytes: usize) -> Option<Range<usize>> {
     let mut found = None;
     let mut start: usize = 0;
@@ -70,7 +73,7 @@ fn name_within(text: &LexedText, bytes: usize) -> Option<Range<usize>> {
     found
 }
 
-/// Puts a text in the name's place, and the name back, so often.
+/// Replaces `name` with `put` and restores it, `rounds` times.
 fn edit_often(
     alloc: Global,
     text: &mut LexedText,
@@ -96,7 +99,7 @@ fn edit_often(
     Ok(sum)
 }
 
-/// An argument that is a number.
+/// Returns the argument at `index` as a number.
 fn number_at(words: &[String], index: usize) -> anyhow::Result<usize> {
     let word = words.get(index).context("an argument is missing")?;
     Ok(word.as_str().parse::<usize>()?)

@@ -1,9 +1,11 @@
-//! Prints what the parser reads of texts: the leaves of each, what is wrong with them, and the tokens that the parser sees.
+//! Prints the leaves of texts, their errors, and the input of the parser.
 //!
-//! Standard input is a list of records: the last character of an edition's name, the text, and the character U+001E. For each text
-//! there is a line for each leaf, with its kind and its end in bytes. A leaf that the parser sees has more: the kind of its token if
-//! that is another one, its contextual kind if that is a keyword's or an operator's, and `joint`. The number of tokens follows, then the
-//! numbers of the leaves with a message and the messages, and an empty line.
+//! Standard input is a list of records: the last character of an edition's name, the text, and the
+//! character U+001E. For each text there is a line for each leaf, with its kind and its end in
+//! bytes. For a leaf in the parser's input the line has more: the kind of its token if that is
+//! another one, its contextual kind if that is a keyword's or an operator's, and `joint`. The
+//! number of tokens follows, then the indices of the leaves with an error and the errors, and an
+//! empty line.
 #![tactic(auto)]
 
 use parser_input::{Edition, Input, LexedStr, SyntaxKind};
@@ -14,7 +16,7 @@ use std::io::{BufWriter, Write};
 #[cfg(test)]
 mod tests;
 
-// Writes what is particular of the token of a leaf.
+// Writes what the token of a leaf has beyond the kind of the leaf.
 fn dump_token<W: Write>(out: &mut W, leaf: SyntaxKind, input: &Input, n: usize) -> io::Result<()> {
     let kind = input.kind(n);
     if kind != leaf {

@@ -1,4 +1,5 @@
-//! What no clause says: that the tables are the ones that were meant, by values written by hand.
+//! Tests what contracts leave open: that the tables are the intended ones, by values written by
+//! hand.
 
 mod inputs;
 mod known;

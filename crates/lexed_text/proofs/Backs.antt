@@ -100,7 +100,7 @@ left-shared e k j wk wj low same =
       shifted = omega arith;
     }
 
--- the tokens of what stands after the front
+-- the tokens of the text after the front
 pub list-after : (k : ℕ) (text : List ℕ) → token_list (drop (end_of k text) text) ≡ drop k (token_list text)
 unfolding token_list
 list-after k text = ap (λ z. map token z) (tokens-after k text) ∙ sym (drop-map token k (tokens text))

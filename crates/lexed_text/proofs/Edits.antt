@@ -19,7 +19,7 @@ use Rattle.lexed_text.proofs.Fronts.{front-found, front-none, front-tokens}
 use Rattle.lexed_text.proofs.Backs.{kept-found, kept-list, list-after}
 use Rattle.lexed_text.proofs.Texts.{place, old-chars, new-chars, put-back, size-after}
 
--- the first k tokens are the front, and end after so many bytes
+-- the first `k` tokens are the front, and have `bytes` bytes
 pub record FrontAt (text : List ℕ) (start end : ℕ) (put : List ℕ) (k bytes : ℕ) : Type 0 where
   pub front : IsFront (edit_of text start end put) k
   pub is_taken : bytes ≡ taken k (token_list (chars text))
@@ -74,7 +74,7 @@ counts_kept e front lexed back kept is k =
     let H : ℕ → Kept = λ n. record { front = n; lexed = kept.lexed; back = kept.back } in
     subst (λ n. IsKept e (H n)) (sym is) k
 
--- the tokens of what stands after the front in the new text
+-- the tokens of the new text after the front
 rest_list : (e : Edit) (new rest : List ℕ) (k : ℕ) → new_text e ≡ chars new → chars rest ≡ drop (end_of k (chars new)) (chars new) → token_list (chars rest) ≡ token_list (drop (end_of k (new_text e)) (new_text e))
 rest_list e new rest k news is = ap token_list is ∙ ap (λ z. token_list (drop (end_of k z) z)) (sym news)
 
@@ -123,7 +123,7 @@ renewed-list e text new rest k most list kept olds news f is left_is r =
     ∙ ap (λ z. map token z) all
     ∙ ap token_list news
 
--- both ends of what was put in are boundaries of the new text
+-- both ends of the inserted text are character boundaries of the new text
 pub cut-start : (text : List ℕ) (start end : ℕ) (put new : List ℕ) → IsUtf8 text → IsUtf8 put → CanEdit text start end (length put) → new ≡ edited text start end put → IsCharBoundary new start
 cut-start text start end put new u v can is =
     let len = length-take-le start text can.cuts_start.0 in

@@ -20,7 +20,7 @@ last-char text rest c u v is =
     ap chars (sym (take-append-drop (length rest) text) ∙ ap (λ z. z ++ drop (length rest) text) front)
     ∙ chars-append rest (drop (length rest) text) v ∙ ap (λ z. chars rest ++ z) (one ∙ ap (λ z. c ∷ z) chars-nil)
 
--- the place of so many characters
+-- the byte offset after `m` characters
 pub place : (bs : List ℕ) (m : ℕ) → IsUtf8 bs → Seam bs (size (take m (chars bs))) m
 place bs m u =
     let cs = chars bs in

@@ -1,8 +1,8 @@
--- An edit of a text: some of its bytes give way to others.
+-- An edit of a text: some of its bytes are replaced.
 use Rattle.std.specs.Prelude.{ℕ, ◌+◌, ◌-◌, ◌<◌, ◌≤◌, ◌^◌, List, ◌++◌, take, drop, length}
 use Rattle.std.specs.Str.{chars, IsCharBoundary}
 
--- a text with other bytes in the place of those from `start` to just before `end`
+-- the text after `put` replaced the bytes from `start` to just before `end`
 abbrev pub edited : List ℕ → ℕ → ℕ → List ℕ → List ℕ
 edited text start end put = take start text ++ (put ++ drop end text)
 

@@ -10,7 +10,7 @@ abbrev pub FrontStays : Type 0
 FrontStays =
     (e : Edit) (kept : Kept) → IsKept e kept → take kept.front (tokens (new_text e)) ≡ take kept.front (tokens (old_text e))
 
--- the back tokens are the new text's last ones: what stands after the front and the lexed ones
+-- the back tokens are the new text's last ones: those after the front and the lexed tokens
 abbrev pub BackStays : Type 0
 BackStays =
     (e : Edit) (kept : Kept) → IsKept e kept →

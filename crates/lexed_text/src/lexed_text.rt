@@ -35,7 +35,7 @@ impl Model for LexedText {
     ghost invariant = { λ l. (l.tokens.items ≡ token_list (chars (string_bytes l.text))) × RunsFrom 0 0 l.runs.items l.tokens.items };
 }
 
-/// The tokens of a text.
+/// Returns the tokens of `text`.
 fn lexed(alloc: Global, text: &str) -> Result<Vec<Token>, AllocError>
     ensures { IfOk result (λ tokens. tokens.items ≡ token_list (chars text.now)) }
 {
@@ -50,7 +50,7 @@ fn lexed(alloc: Global, text: &str) -> Result<Vec<Token>, AllocError>
 }
 
 impl LexedText {
-    /// Copies a text, and lexes it. Fails only when out of memory.
+    /// Copies `text` and lexes it. Fails only when out of memory.
     pub fn new(alloc: Global, text: &str) -> Result<LexedText, AllocError>
         ensures { IfOk result (λ lexed. lexed ≡ text.now) }
     {
@@ -65,22 +65,22 @@ impl LexedText {
         })
     }
 
-    /// The text.
+    /// Returns the text.
     pub fn text(&self) -> &str
         ensures { result.now ≡ self.now }
     {
         &self.text
     }
 
-    /// The tokens of the text, from front to end.
+    /// Returns the tokens of the text, in source order.
     pub fn tokens(&self) -> &[Token]
         ensures { result.now ≡ token_list (chars self.now) }
     {
         &self.tokens
     }
 
-    /// Whether a text of so many bytes can be put in the place of a range of bytes: the range is in
-    /// order, within the text, and cuts no character, and the new length fits a `usize`.
+    /// Returns `true` if a text of `new_len` bytes can replace the byte range `range`: the range is
+    /// in order, within the text, and cuts no character, and the new length fits a `usize`.
     pub fn can_edit(&self, range: Range<usize>, new_len: usize) -> bool
         ensures { IsTrue result ↔ CanEdit self.now range.start range.end new_len }
     {
@@ -95,8 +95,10 @@ impl LexedText {
         new_len <= usize::MAX - kept
     }
 
-    /// Puts a text in the place of a range of bytes, and lexes what has to be lexed again; how many
-    /// tokens were kept and lexed. Fails only when out of memory, and then changes nothing.
+    /// Replaces the byte range `range` with `replacement` and lexes what has to be lexed again;
+    /// returns how many tokens were kept and lexed.
+    ///
+    /// Fails only when out of memory. On error, the text and its tokens are unchanged.
     pub fn edit(&mut self, range: Range<usize>, replacement: &str) -> Result<Kept, AllocError>
         requires { CanEdit self.old range.start range.end (length replacement.now) }
         ensures text { OnOk result (self.new ≡ edited self.old range.start range.end replacement.now) }
@@ -135,7 +137,7 @@ impl LexedText {
         }
     }
 
-    /// Equal to this one. Fails only when out of memory.
+    /// Returns an equal text. Fails only when out of memory.
     pub fn try_clone(&self, alloc: Global) -> Result<LexedText, AllocError>
         ensures { IfOk result (λ copy. copy ≡ self.now) }
     {

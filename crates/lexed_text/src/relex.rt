@@ -21,7 +21,7 @@ pub(crate) struct Place {
     pub(crate) bytes: usize,
 }
 
-/// A text without its last character; None where it has none.
+/// Returns `text` without its last character, or `None` if it is empty.
 fn without_last(text: &str) -> Option<&str>
     ensures { MatchOption result (chars text.now ≡ []) (λ rest. LacksLast text.now rest.now) }
 {
@@ -32,7 +32,7 @@ fn without_last(text: &str) -> Option<&str>
     }
 }
 
-/// The bytes of a text without its last two characters; None where it has fewer.
+/// Returns the bytes of `text` without its last two characters, or `None` if it has fewer.
 fn without_two(text: &str) -> Option<usize>
     ensures { MatchOption result (length (chars text.now) < 2) (LacksTwo text.now) }
 {
@@ -45,8 +45,8 @@ fn without_two(text: &str) -> Option<usize>
     }
 }
 
-/// The last boundary that has no more than so many bytes before it: run by run, and then token by
-/// token.
+/// Returns the last token boundary with at most `limit` bytes before it; searches run by run, then
+/// token by token.
 fn ends_within(runs: &[Run], tokens: &[Token], limit: usize) -> Place
     requires { RunsFrom 0 0 runs.now tokens.now }
     ensures { EndsWithin tokens.now limit result.count result.bytes }
@@ -70,7 +70,7 @@ fn ends_within(runs: &[Run], tokens: &[Token], limit: usize) -> Place
     end
 }
 
-/// The front of an edit after these characters, and the bytes before its end.
+/// Returns the front of an edit that follows the text `before`, with the bytes before its end.
 pub(crate) fn find_front(runs: &[Run], tokens: &[Token], before: &str) -> Place
     requires { RunsFrom 0 0 runs.now tokens.now }
     ensures { FrontFound tokens.now (chars before.now) result.count result.bytes }
@@ -81,8 +81,8 @@ pub(crate) fn find_front(runs: &[Run], tokens: &[Token], before: &str) -> Place
     }
 }
 
-/// The first boundary from `from` on that has no more than `most` bytes after it; a place counts
-/// the bytes after it.
+/// Returns the first token boundary from `from` on with at most `most` bytes after it. A [`Place`]
+/// counts the bytes after it here.
 fn pass(tokens: &[Token], from: Place, most: usize) -> Place
     requires within { from.count ≤ length tokens.now }
     requires is_left { from.bytes ≡ left from.count tokens.now }
@@ -101,15 +101,15 @@ fn pass(tokens: &[Token], from: Place, most: usize) -> Place
 struct Lexing {
     tokens: Vec<Token>,
 
-    /// How many of them were taken from the cursor.
+    /// The number of tokens that were lexed.
     lexed: usize,
 
-    /// The old tokens before the boundary at which it meets.
+    /// The number of old tokens before the boundary at which the two texts meet.
     stop: usize,
 }
 
-/// Lexes a text up to the first boundary with no more than `most` bytes after it that has as many
-/// as one of the old tokens, from the front's end on.
+/// Lexes `text` up to the first boundary with at most `most` bytes after it that matches a boundary
+/// of `old` from `front` on: as many bytes follow both.
 fn lex(
     alloc: Global,
     old: &[Token],
@@ -144,9 +144,11 @@ fn lex(
     })
 }
 
-/// Lexes a new text from the front's end on, and puts its tokens into the place of those that it
-/// has no more. The front's end and the edit's count the bytes after them. A refusal leaves tokens
-/// and runs as they are.
+/// Lexes `text`, the new text after the front, up to where it meets the old tokens, and replaces
+/// the old tokens before that. `front.bytes` and `most` count the old text's bytes after the front
+/// and after the edit.
+///
+/// Fails only when out of memory. On error, `tokens` and `runs` are unchanged.
 pub(crate) fn renew(
     alloc: Global,
     tokens: &mut Vec<Token>,

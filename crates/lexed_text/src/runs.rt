@@ -32,7 +32,7 @@ pub(crate) struct RunPlace {
     pub(crate) count: usize,
 }
 
-/// The last boundary between runs before which no more than so many tokens stand.
+/// Returns the last run boundary with at most `most` tokens before it.
 pub(crate) fn last_within(runs: &[Run], most: usize) -> RunPlace
     ensures within { result.run ≤ length runs.now }
     ensures is_count { result.count ≡ run_tokens result.run runs.now }
@@ -49,7 +49,8 @@ pub(crate) fn last_within(runs: &[Run], most: usize) -> RunPlace
     at
 }
 
-/// The first boundary from `from` on before which so many tokens stand, or the last one.
+/// Returns the first run boundary from `from` on with at least `least` tokens before it, or the
+/// last boundary if there is none.
 pub(crate) fn first_past(runs: &[Run], from: RunPlace, least: usize) -> RunPlace
     requires within { from.run ≤ length runs.now }
     requires is_count { from.count ≡ run_tokens from.run runs.now }
@@ -67,7 +68,7 @@ pub(crate) fn first_past(runs: &[Run], from: RunPlace, least: usize) -> RunPlace
     at
 }
 
-/// The bytes of some tokens.
+/// Returns the sum of the lengths of `tokens`, in bytes.
 fn bytes_of(tokens: &[Token]) -> usize
     requires { sum_by (λ t. t.len) tokens.now < 2 ^ 64 }
     ensures { result ≡ sum_by (λ t. t.len) tokens.now }
@@ -75,8 +76,8 @@ fn bytes_of(tokens: &[Token]) -> usize
     tokens.iter().map(|token| token.len).sum()
 }
 
-/// Room for the runs of so many lexed tokens and of those around them, among the runs and beside
-/// them.
+/// Reserves room, in `runs` and in the list that it returns, for the runs of `lexed` tokens and of
+/// the tokens around them.
 pub(crate) fn room_for(
     alloc: Global,
     runs: &mut Vec<Run>,
@@ -92,7 +93,7 @@ pub(crate) fn room_for(
     Ok(room)
 }
 
-/// Runs of the tokens of a range, in a list without any.
+/// Returns the runs of the tokens from `from` up to `to`, in the empty list `room`.
 pub(crate) fn cut_runs(
     room: Vec<Run>,
     tokens: &[Token],
@@ -122,9 +123,9 @@ pub(crate) fn cut_runs(
     Ok(runs)
 }
 
-/// Puts new runs of the tokens from `first` up to `to` in the place of those from `first` to
-/// `next`. Where `room_for` made no room for them, and memory is refused, it drops the runs from
-/// `first` on: what has no run is looked at token by token.
+/// Replaces the runs from `first` to `next` with new runs of the tokens from `first` up to `to`. If
+/// `room_for` reserved no room for them and an allocation fails, drops the runs from `first` on:
+/// tokens without a run are searched one by one.
 pub(crate) fn renew_runs(
     room: Vec<Run>,
     runs: &mut Vec<Run>,

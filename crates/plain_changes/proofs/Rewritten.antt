@@ -162,7 +162,7 @@ slot-is c (g ∷ gs) w = by_test (slot-is c gs w) (covers g.up 0 w) refl
     by_test more true e = ap (λ (b : Bool). Some (if b then c (plain g) else nothing)) (ap (λ (v : Way). same_way v w) (covers-own g.up w e) ∙ same_way-own w)
     by_test more false e = more
 
--- what the jobs put in
+-- each planned change inserts its new leaf
 Values : (Job → Marked) → List LeafChange → Type 0
 Values c [] = Unit {0}
 Values c (g ∷ gs) = ((m : Mark) × (c (plain g) ≡ token m g.new nothing)) × Values c gs
@@ -225,7 +225,7 @@ module _ (t : Tree) (c : Job → Marked) (gs : List LeafChange) (a : AreLeafChan
       ∙ ap (λ (x : Option Marked). forest_in (or_own x (inner (record { origin = e; put = false }) t.kind (filled (written c (map plain gs) None) e [] 0 t.forest) nothing))) (slot-is c gs [] ∙ slot-none gs a [] refl)
       ∙ ap (λ (g : Forest). node t.kind g empty) (fill [] 0 t.forest refl)
 
--- ---- what is put in
+-- ---- the inserted leaves
 
 one-value : (js : List Job) (n : ℕ) (t : Tree) (g : LeafChange) → IsLeafChange t g → terms_within (suc n) js (plain g) ≡ token (record { origin = g.element; put = true }) g.new nothing
 unfolding plain

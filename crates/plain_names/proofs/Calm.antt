@@ -76,7 +76,7 @@ module _ (w : ℕ) (rest : List ℕ) (white : is_whitespace w ≡ true) where
   unfolding skip
   skip-same n u h = let H : ℕ → Taken ℕ = λ k. record { value = k; taken = k } in ap H (skipped n u h)
 
-  -- after so many characters, which are there
+  -- after the first `n` characters of a text that has as many
   pub skip-then : {A : Type 0} (n : ℕ) (g : ℕ → Scan A) (ok : A → Bool) → ((k : ℕ) → Calm (g k) ok) → (u : List ℕ) → n ≤ length u → ok ((skip n ▸ g) u).value ≡ true → (skip n ▸ g) (u ++ w ∷ rest) ≡ (skip n ▸ g) u
   skip-then n g ok q u le h = next-at (skip n) g ok u (skip-same n u le) ((fits-skip n).at u) (q (skip n u).value) h
 

@@ -261,7 +261,7 @@ module _ (enc : ℕ → List ℕ) (tag : ℕ) (fresh : (c : ℕ) → has tag (en
   ]
 
   module _ (f : forest.Forest) (before after : List Leaf) (l : Leaf) (solid : is_trivia l ≡ false) (plain_before : has tag (joined before) ≡ false) (plain_after : has tag (joined after) ≡ false) where
-    -- the leaves with a tag in the place of one
+    -- the leaves, with a tag as the text of `l`
     tagged_leaves : List Leaf
     tagged_leaves = before ++ of_kind l.kind (tag ∷ []) ∷ after
 

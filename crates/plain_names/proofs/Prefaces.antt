@@ -352,7 +352,7 @@ module _ (x y : ℕ) (nm om s : List ℕ) (sx : is_id_start x ≡ true) (sy : is
   long-other : (u : List ℕ) → length (u ++ (y ∷ om ++ s)) ≡ length u + suc (length om + length s)
   long-other u = length-append u (y ∷ om ++ s) ∙ ap (λ n. length u + n) (let z : length (y ∷ om ++ s) ≡ suc (length om + length s) = ap suc (length-append om s) in z)
 
-  -- so much of what is left is the frontmatter
+  -- the frontmatter is the same in both texts
   front-same : (g l : List ℕ) → length l ≤ length g
       → take (length (g ++ (y ∷ om ++ s)) - length (l ++ (y ∷ om ++ s))) (g ++ (y ∷ om ++ s)) ≡ take (length (g ++ (x ∷ nm ++ s)) - length (l ++ (x ∷ nm ++ s))) (g ++ (x ∷ nm ++ s))
   front-same g l le =

@@ -1,4 +1,4 @@
--- Several names renamed at once in the tree: tags one after another, and then the names in the place of the tags.
+-- Several names renamed at once in the tree: tags replace them one after another, and then the new names replace the tags.
 use Rattle.std.proofs.Common.{◌≡◌, ℕ, zero, suc, ◌+◌, ◌-◌, ◌<◌, ◌≤◌, Bool, true, false, not, ◌||◌, ◌==◌, ltb, List, [], ◌∷◌, ◌++◌, length, take, drop, map, slice_get, Option, Some, None, append-nil, refl, sym, ◌∙◌, ap, subst, arith, inl, inr, if◌then◌else◌}
 use Rattle.std.specs.List.{flat_map, list_any, list_all}
 use Rattle.std.proofs.lemmas.Bool.{cases_Bool, eq-eqb, eqb-true, ne_eqb, ltb-true, ltb-false, or_parts}
@@ -303,7 +303,7 @@ module _ (enc : ℕ → List ℕ) (limit : ℕ) (some : (c : ℕ) → enc c ≡ 
       }
       all-tags (r ∷ rs) a apart is = one-tag r rs a.0 a.1 (sym (apart-up r rs) ∙ apart.0) (all-tags rs a.1 apart.1 is) r.up refl
 
-      -- ---- the names in the place of the tags
+      -- ---- the names replace the tags
 
       abbrev H : List Rename → ℕ → List ℕ
       H = tags.named enc limit some low dots

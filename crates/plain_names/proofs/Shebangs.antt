@@ -43,7 +43,7 @@ opens-told : (c : ℕ) (cs : List ℕ) → is_passed_over (lexeme (c ∷ cs)).va
 unfolding token_list first_lexeme
 opens-told c cs h = ap (λ l. opens_attribute (map token l)) (tokens-cons c cs) ∙ attribute-told (token (first_lexeme (c ∷ cs))) (token_list (drop (lexeme (c ∷ cs)).taken (c ∷ cs))) h
 
--- Kinds that are neither passed over nor `[`.
+-- Kinds that are neither skipped nor `[`.
 unfoldable plain : TokenKind → Bool
 plain k = not (is_passed_over k) && not (is_open_bracket k)
 

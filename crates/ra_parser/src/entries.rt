@@ -91,7 +91,7 @@ fn begins(p: &mut Parser<'_>, single: Single) -> bool
     ensures some { IsTrue result → 1 ≤ tokens p.old }
     ensures same { Does (λ s. s) p.old p.new }
     ensures left { tokens p.new ≡ tokens p.old }
-    ensures looks { spent p.new ≤ spent p.old + 16 }
+    ensures looks { spent p.new ≤ spent p.old + 19 }
 {
     match single {
         Single::Expression => at_expression(p, false),
@@ -120,7 +120,7 @@ fn read(p: &mut Parser<'_>, single: Single)
 fn read_single(p: &mut Parser<'_>, single: Single)
     requires nodes { p.old.nodes ≡ Some (End ∷ []) }
     ensures tree { Holds p.new.nodes (marked (entry whole (single_of single) (left p.old)) ∷ []) }
-    ensures looks { spent p.new ≤ spent p.old + 18 }
+    ensures looks { spent p.new ≤ spent p.old + 21 }
 {
     let frame = start(p);
     if !begins(p, single) {

@@ -1,7 +1,8 @@
-//! Puts white space and comments between the steps of a parser's output of a million tokens.
+//! Adds the trivia of a text to the steps of a parser's output of a million tokens.
 //!
-//! Before every third token stands a comment. For each round a line goes to standard error: the steps, the leaves that the parser
-//! did not see, the bytes, and the microseconds that recording the output took, looking whether it fits, and putting it.
+//! A comment precedes every third token. For each round a line goes to standard error: the steps,
+//! the trivia leaves, the bytes, and the microseconds it took to record the output, to check that
+//! it fits, and to add the trivia.
 
 ghost use Rattle.std.specs.Prelude.{◌≡◌, ◌≤◌, ◌+◌, ℕ, length, IfOk};
 ghost use Rattle.parser_events.specs.Stack.{IsInnermost};
@@ -19,10 +20,10 @@ use std::alloc::{AllocError, Global};
 use std::io;
 use std::time::Instant;
 
-/// How many structs the text has, of three tokens each.
+/// The number of structs of the text, of three tokens each.
 const STRUCTS: u32 = 333_334;
 
-/// Counts what it takes.
+/// A sink that counts the steps, the trivia and the bytes.
 #[derive(Clone, Copy, PartialEq, Eq)]
 struct Counts {
     steps: usize,
@@ -30,7 +31,7 @@ struct Counts {
     bytes: usize,
 }
 
-/// No step is refused.
+/// The error of a sink that refuses no step.
 #[derive(Drop)]
 enum Never {}
 
@@ -53,7 +54,7 @@ impl StrSink for Counts {
     }
 }
 
-/// A text of so many structs with a comment before each.
+/// Returns a text of `STRUCTS` structs with a comment before each.
 fn source(alloc: Global) -> Result<String, AllocError> {
     let mut text = String::new(alloc);
     for _ in 0..STRUCTS {
@@ -62,7 +63,7 @@ fn source(alloc: Global) -> Result<String, AllocError> {
     Ok(text)
 }
 
-/// Takes the three tokens of a struct.
+/// Parses the three tokens of a struct.
 fn item(parser: &mut Parser<'_>)
     requires { parser.old.position + 3 ≤ length parser.old.input }
     ensures open { (around : ℕ) → IsInnermost around parser.old.nodes → IsInnermost around parser.new.nodes }
@@ -76,7 +77,7 @@ fn item(parser: &mut Parser<'_>)
     let _node = node.complete(parser, SyntaxKind::STRUCT);
 }
 
-/// A file of structs.
+/// Parses a file of structs.
 fn parse(alloc: Global, input: &Input) -> Result<Output, AllocError> {
     let mut parser = Parser::new(alloc, input);
     let root = parser.start();
@@ -90,7 +91,7 @@ fn parse(alloc: Global, input: &Input) -> Result<Output, AllocError> {
     parser.finish()
 }
 
-/// Puts the text once, and prints how long that took.
+/// Parses the input and adds the trivia once, and prints how long that took.
 fn measure(rt: &HostRuntime, lexed: &LexedStr<'_>, input: &Input) -> io::Result<Counts> {
     let start = Instant::now(rt)?;
     let output = parse(rt.alloc(), input)?;
@@ -117,7 +118,7 @@ fn measure(rt: &HostRuntime, lexed: &LexedStr<'_>, input: &Input) -> io::Result<
     Ok(counts)
 }
 
-/// Puts the text so often, and prints the counts of steps, of leaves that the parser did not see, and of bytes.
+/// Measures `rounds` times, and prints the numbers of steps, of trivia leaves, and of bytes.
 pub(crate) fn measure_events(rt: &HostRuntime, rounds: u32) -> io::Result<()> {
     let text = source(rt.alloc())?;
     let lexed = LexedStr::new(rt.alloc(), Edition::Edition2021, text.as_str())?;

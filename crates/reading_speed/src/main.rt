@@ -1,8 +1,9 @@
-//! Reads texts over and over, stage by stage, and prints how many tokens the parser sees.
+//! Lexes texts over and over, stage by stage, and prints the number of tokens of the parser's
+//! input.
 //!
-//! Standard input is a list of texts, each ended by the character U+001E; the edition is 2021. With no text, white space and
-//! comments are put between the steps of an output of a million tokens instead. What is printed for each round, [`stages`] and
-//! [`events`] say.
+//! Standard input is a list of texts, each ended by the character U+001E; the edition is 2021. With
+//! no text, trivia is added to the steps of an output of a million tokens instead. [`stages`] and
+//! [`events`] describe the output of each round.
 #![tactic(auto)]
 
 use events::measure_events;
@@ -13,7 +14,7 @@ use std::io;
 mod events;
 mod stages;
 
-/// The rounds that are timed.
+/// The number of rounds.
 const ROUNDS: u32 = 5;
 
 fn split(alloc: Global, texts: &str) -> Result<Vec<&str>, AllocError> {

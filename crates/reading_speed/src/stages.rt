@@ -1,7 +1,8 @@
-//! Reads texts stage by stage.
+//! Lexes texts stage by stage.
 //!
-//! For each round a line goes to standard error: the bytes; the raw tokens and the time that cutting them took; the leaves, the
-//! tokens that the parser sees, and the time that both took. What is made of a text is dropped outside of the time.
+//! For each round a line goes to standard error: the bytes; the raw tokens and the time that lexing
+//! them took; the leaves, the tokens of the parser's input, and the time that both took. Dropping
+//! the leaves and the input is not timed.
 
 use parser_input::edition::Edition;
 use parser_input::lexed_str::LexedStr;
@@ -9,7 +10,7 @@ use rustc_lexer::tokenize;
 use std::io;
 use std::time::Instant;
 
-// What was read so far.
+// The counts and times so far.
 #[derive(Clone, Copy)]
 struct Sum {
     bytes: usize,
@@ -32,7 +33,7 @@ impl Sum {
         }
     }
 
-    // This and the text, which is read here.
+    // Lexes `text`, and returns these sums with its counts and times added.
     fn with(self, rt: &HostRuntime, text: &str) -> io::Result<Sum> {
         let start = Instant::now(rt)?;
         let (raw_tokens, bytes) = lexed(text);
@@ -65,7 +66,7 @@ impl Sum {
     }
 }
 
-// The raw tokens of a text, and the sum of their lengths.
+// Returns the number of raw tokens of a text, and the sum of their lengths.
 fn lexed(text: &str) -> (usize, usize) {
     let mut count: usize = 0;
     let mut sum: usize = 0;
@@ -84,7 +85,7 @@ fn measure(rt: &HostRuntime, texts: &[&str]) -> io::Result<Sum> {
     Ok(sum)
 }
 
-/// Reads the texts so often, and prints how many tokens the parser sees.
+/// Lexes the texts `rounds` times, and prints the number of tokens of the parser's input.
 pub(crate) fn measure_stages(rt: &HostRuntime, texts: &[&str], rounds: u32) -> io::Result<()> {
     let mut last = 0;
     for _ in 0..rounds {

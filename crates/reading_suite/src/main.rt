@@ -1,8 +1,10 @@
-//! Reads cases: each line of the input is a JSON object with an edition, what the text is read as, the text, the lines of its tree, and
-//! the messages, each as its offset and its words; the grammar `whole`, if it is not read by the profile. Prints the cases that are read otherwise, and how many there are of both.
+//! Parses the texts of cases: each line of the input is a JSON object with an edition, an entry
+//! point, a text, the lines of its tree, and the messages, each with its offset and its text; and
+//! with the grammar `whole` if it is not the profile. Prints the cases with another result, and the
+//! numbers of passed and failed cases.
 //!
-//! Of the cases that lie beside it, those with a name were worked by hand; the others were computed by a slow, plain reader of the rules
-//! that shares no code with these crates.
+//! Of the cases next to it, those with a name were worked by hand; the others were computed by a
+//! slow, plain reference implementation that shares no code with these crates.
 #![tactic(auto)]
 
 use anyhow::{Context, bail};
@@ -16,14 +18,14 @@ use tree_lines::{Reading, names};
 #[cfg(test)]
 mod tests;
 
-/// A text of a case.
+/// Returns the text member `name` of a case.
 fn text_at<'a>(case: &'a Value, name: &str) -> anyhow::Result<&'a str> {
     case.get(name)
         .and_then(Value::as_str)
         .context("a case lacks a text")
 }
 
-/// The grammar that a case is read by: the profile, if it names none.
+/// Returns the grammar that a case names, or the profile if it names none.
 fn grammar_of(case: &Value) -> anyhow::Result<Grammar> {
     let Some(name) = case.get("grammar") else {
         return Ok(Grammar::Profile);
@@ -35,14 +37,14 @@ fn grammar_of(case: &Value) -> anyhow::Result<Grammar> {
     }
 }
 
-/// A list of a case.
+/// Returns the list member `name` of a case.
 fn list_at<'a>(case: &'a Value, name: &str) -> anyhow::Result<&'a [Value]> {
     let list = case.get(name).and_then(Value::as_array);
     let list = list.context("a case lacks a list")?;
     Ok(list.as_slice())
 }
 
-/// Writes the lines that a case says.
+/// Writes the lines that a case expects.
 fn write_expected<W: Write>(out: &mut W, case: &Value) -> anyhow::Result<()> {
     for line in list_at(case, "tree")? {
         let line = line.as_str().context("a line is no text")?;
@@ -58,7 +60,7 @@ fn write_expected<W: Write>(out: &mut W, case: &Value) -> anyhow::Result<()> {
     Ok(())
 }
 
-/// Whether a case is read as it says.
+/// Returns `true` if the case on `line` has the expected tree and messages.
 fn is_met(alloc: Global, line: &str) -> anyhow::Result<bool> {
     let case = Value::from_str(alloc, line)?;
     let edition = names::edition(text_at(&case, "edition")?).context("no such edition")?;

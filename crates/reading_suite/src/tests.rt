@@ -1,4 +1,5 @@
-//! What no contract says: that a case that is read otherwise than it says is told from one that is read as it says.
+//! Tests what contracts leave open: that a case with the expected result passes, and that one with
+//! another result fails.
 
 use crate::is_met;
 

@@ -1,8 +1,8 @@
-//! What no contract says: that calls succeed where memory is ample, and that a language of one's own
-//! can be given. Each call of the surface stands here once.
+//! Tests what contracts leave open: that calls succeed while allocations do, and that a custom
+//! language can be used. Each public function is called once.
 //!
-//! A row asks a question of a tree, and says what must be written for the answer. What holds cursors
-//! is dropped in small helpers, with few ways out: each way out of a function is proved.
+//! A row has a question about a tree and the expected answer. Values with cursors are dropped in
+//! small helpers with few exits: each exit of a function is proved.
 ghost use Rattle.std.specs.Iterator.{IsFinite};
 
 mod deep;
@@ -28,7 +28,7 @@ type Element = SyntaxElement<Lists>;
 /// `ab`, a list of `,`, an empty list and `cd`, then `;`, a list of `e`, an empty list.
 const SAMPLE: &str = "{ ab ( , ( ) cd ) ; ( e ) ( ) }";
 
-/// The elements that the words stand for, put after those of a builder.
+/// Adds the elements that `words` stand for to `builder`.
 fn put_all(builder: &mut GreenNodeBuilder<'_>, words: &str) -> Result<(), GreenError> {
     for word in words.split(' ') {
         put(builder, word)?;
@@ -36,8 +36,8 @@ fn put_all(builder: &mut GreenNodeBuilder<'_>, words: &str) -> Result<(), GreenE
     Ok(())
 }
 
-/// What one word stands for: `{` and `(` open a root and a list, `}` and `)` close one, and all else
-/// is a token.
+/// Adds the element that one word stands for: `{` and `(` start a root and a list, `}` and `)` end
+/// one, and all else is a token.
 fn put(builder: &mut GreenNodeBuilder<'_>, word: &str) -> Result<(), GreenError> {
     if word == "{" {
         return builder.start_node(SyntaxKind(1));
@@ -54,7 +54,7 @@ fn put(builder: &mut GreenNodeBuilder<'_>, word: &str) -> Result<(), GreenError>
     builder.token(SyntaxKind(3), word)
 }
 
-/// The tree that words stand for.
+/// Returns the green tree that `words` stand for.
 fn green(alloc: Global, words: &str) -> Result<GreenNode, GreenError> {
     let mut builder = GreenNodeBuilder::new(alloc);
     put_all(&mut builder, words)?;
@@ -64,12 +64,12 @@ fn green(alloc: Global, words: &str) -> Result<GreenNode, GreenError> {
     }
 }
 
-/// The root of that tree.
+/// Returns the root of that tree.
 fn tree(alloc: Global, words: &str) -> Result<Node, GreenError> {
     Ok(Node::new_root(alloc, green(alloc, words)?)?)
 }
 
-/// The first list of the sample, `,` to `cd`.
+/// Returns the first list of the sample, `,` to `cd`.
 fn first_list(alloc: Global) -> Result<Node, Fail> {
     match tree(alloc, SAMPLE)?.first_child(alloc)? {
         Some(node) => Ok(node),
@@ -77,7 +77,7 @@ fn first_list(alloc: Global) -> Result<Node, Fail> {
     }
 }
 
-/// The `,` in that list.
+/// Returns the `,` in that list.
 fn comma(alloc: Global) -> Result<Token, Fail> {
     match first_list(alloc)?.first_token(alloc)? {
         Some(token) => Ok(token),
@@ -85,12 +85,12 @@ fn comma(alloc: Global) -> Result<Token, Fail> {
     }
 }
 
-/// What is written for an answer.
+/// Values that an answer can show.
 trait Shown {
     fn show(&self, alloc: Global, out: &mut String) -> Result<(), Fail>;
 }
 
-/// A kind and a range.
+/// Appends a kind and a range.
 fn show_at(alloc: Global, out: &mut String, kind: Kind, range: TextRange) -> Result<(), Fail> {
     let name = Lists::kind_name(kind);
     let word = format!(in alloc; "{name}@{}..{} ", range.start().0, range.end().0)?;
@@ -139,7 +139,7 @@ impl<T: Shown> Shown for WalkEvent<T> {
     }
 }
 
-/// All that an iterator gives, up to its first refusal.
+/// Appends all items of an iterator, up to its first error.
 fn show_all<T: Shown + Drop, I: Iterator<Item = Result<T, AllocError>> + Drop>(
     alloc: Global,
     out: &mut String,

@@ -69,7 +69,7 @@ unfoldable pub binary : (p q : ℕ) → Rule → Standing → Standing
 binary p q a (Operand r) = if has_power p a && fits_between p q r then Operand p else Unknown
 binary p q a r = Unknown
 
--- the same, of an operand and what stands after it
+-- the standing of a binary expression, from that of its left operand and the rule for the operator and the right operand
 unfoldable pub operated : Standing → Rule → Standing
 operated (Operand q) (Then a (Want (Call y) m)) = binary (first_power a) q a (ends y)
 operated p a = Unknown

@@ -119,14 +119,14 @@ is_paid g (Mode c a) = is_paid g a
 is_paid g (Lead a) = is_paid g a
 is_paid g r = true
 
--- no leaf was given, no token was taken, and so many steps
+-- no leaf was added, no token was consumed, and at most `steps` steps were added; `sure` is false
 pub record IsIdle (steps : ℕ) (sure : Bool) (s t : Reading) : Type 0 where
   pub leaves : leaf_count t.given ≡ leaf_count s.given
   pub rest : t.rest ≡ s.rest
   pub few : step_count t.given ≤ step_count s.given + steps
   pub unsure : sure ≡ false
 
--- a leaf was given and more, and so many steps
+-- `more` + 1 leaves were added, and at most 64 * `more` + `steps` steps
 pub record IsPaid (steps : ℕ) (s t : Reading) : Type 0 where
   pub more : ℕ
   pub leaves : leaf_count t.given ≡ leaf_count s.given + suc more

@@ -71,7 +71,7 @@ pub marks-plain : are_plain marks ≡ true
 unfolding are_plain no_float marks
 marks-plain = refl
 
--- so many leaves stand next unbroken, and the tokens of those after them are the rest
+-- the next `count` leaves are unbroken, and the tokens of the leaves after them are `ts`
 pub record Stands (wide : Bool) (edition : Edition) (count : ℕ) (ls : List Leaf) (ts : List Token) : Type 0 where
   pub unbroken : is_unbroken count ls ≡ true
   pub more : input wide edition (drop count ls) ≡ ts
@@ -156,7 +156,7 @@ leaf-stands wide edition kind count ls e = elim (or_cases ((count == 1) && (is_t
   | inr i ↦ marks-stand wide edition marks kind count ls marks-plain i
 ]
 
--- a float that stands next is split as its text says
+-- if the next token is a float, it is split as its text says
 pub float-stands : (wide : Bool) (edition : Edition) (e : Bool) (ls : List Leaf) (ts : List Token) → input wide edition ls ≡ ts → is_float e ts ≡ true → (is_split_at e (from_token ls) ≡ true) × (input wide edition (drop 1 (from_token ls)) ≡ drop 1 ts)
 unfolding is_float token_of is_joint
 float-stands wide edition e ls [] i f = absurd (true≢false (sym f))

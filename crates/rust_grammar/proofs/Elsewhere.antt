@@ -26,7 +26,7 @@ without g d (Either a b) = Either (without g d a) (without g d b)
 without g d (Not a) = if asks g d a then Always else Not a
 without g d l = l
 
--- a look from so many tokens further on
+-- a lookahead from `n` tokens further on
 unfoldable pub down : ℕ → Look → Look
 down n (Kind m k) = Kind (m - n) k
 down n (Contextual m k) = Contextual (m - n) k
@@ -40,7 +40,7 @@ down n l = l
 unfoldable pub all_down : ℕ → Look → Look
 all_down n l = let m = down n l in if same_look (shift n m) l && asks_tokens m then m else Always
 
--- what is left of a look after so many tokens
+-- the part of a lookahead that can still be asked after `n` tokens
 unfoldable pub back : ℕ → Look → Look
 back n (Both a b) = Both (back n a) (back n b)
 back n (Either a b) = Either (back n a) (back n b)
@@ -135,7 +135,7 @@ module _ (c d : Bool) (s t : Reading) (rest : t.rest ≡ s.rest) (g b : Bool) (g
   without-seen (Whole n) h = unasked (Whole n) refl ∙ h
   without-seen Left h = unasked Left refl ∙ h
 
--- From a place to the one so many tokens further on.
+-- From a place to the one `n` tokens further on.
 module _ (c : Bool) (s t : Reading) (n : ℕ) (rest : t.rest ≡ drop n s.rest) where
   further : (l : Look) → asks_tokens l ≡ true → sees c t l ≡ sees c (record { given = s.given; rest = drop n s.rest }) l
   unfolding sees asks_tokens

@@ -93,7 +93,7 @@ rules-cost call p q x c s =
 productions-cost : HoldOf Cost (meaning whole)
 productions-cost = meaning-holds Cost Anything lone lone-costs (λ y d t. tt) (λ y d t. tt) rules-cost
 
--- what a production gives anew
+-- the steps of a production that starts with an empty forest
 read-short : (x : Production) (c : Bool) (ts : List Token) → let s = meaning whole x c (record { given = forest.End; rest = ts }) in step_count s.given ≤ 64 * leaf_count s.given + 64
 read-short x c ts = elim (productions-cost x c (record { given = forest.End; rest = ts })) [
   | inl h ↦ let most = (priced x).idle_few in omega (arith, h.few, h.leaves, most)

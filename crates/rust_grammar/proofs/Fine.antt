@@ -65,7 +65,7 @@ fails (Both a b) = fails a || fails b
 fails (Either a b) = fails a && fails b
 fails (Not a) = false
 
--- the same where no token is left
+-- each production that is called where no token is left has a lower rank
 unfoldable pub ranked_at_end : (Production → Look) → (is_lower : Production → Bool) → Rule → Bool
 ranked_at_end l low Nothing = true
 ranked_at_end l low (One x) = true

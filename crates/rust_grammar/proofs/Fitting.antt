@@ -1,4 +1,4 @@
--- The steps of a node that stands in order over all tokens of a text fit its leaves.
+-- The steps of a node that covers all tokens of a text in order fit its leaves.
 use Rattle.std.proofs.Common.{◌≡◌, ℕ, suc, Bool, true, false, ◌&&◌, List, [], ◌∷◌, ◌++◌, drop, Some, refl, ap, sym, ◌∙◌, append_assoc}
 use Rattle.parser_input.specs.Input.{Token, input}
 use Rattle.parser_input.specs.Leaf.{Leaf}

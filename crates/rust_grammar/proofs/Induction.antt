@@ -8,7 +8,7 @@ use Rattle.rust_grammar.proofs.Plain.{IsFine, IsBelow, AgreesBelow, all_facts, p
 use Rattle.rust_grammar.proofs.WholeTable.{claim, all_fine}
 use Rattle.rust_grammar.proofs.Spelling.{both-true, or-first, or-second}
 
--- a call that a production makes which began with so many tokens
+-- a call that production `x` makes if `n` tokens were left where it began
 unfoldable is_made : Table → Production → ℕ → Production → Reading → Bool
 is_made g x n y t = nat_lt (length t.rest) n || (nat_le (length t.rest) n && nat_lt (g.rank y) (g.rank x))
 
@@ -70,7 +70,7 @@ module _ (g : Table) (f : Production → Bool) (ok : IsFine g f) (P : Fact) (E :
   pub meaning-holds-of : HoldOf P (meaning g)
   meaning-holds-of x c s = by-both (length s.rest) g.ranks x c s (omega arith) (fine-rank g f ok x)
 
--- the same of the whole grammar
+-- `meaning-holds-of` for the whole grammar
 pub meaning-holds : (P E : Fact) (other : Calls) (otherwise : HoldOf P other) (also : HoldOf E other) (plain : HoldOf E (meaning whole)) (step : (call : Calls) → HoldOf P call → HoldOf E call → (x : Production) (c : Bool) (s : Reading) → P x c s (read (look_of whole) call c (rule x) s)) → HoldOf P (meaning whole)
 unfolding whole
 meaning-holds = meaning-holds-of whole claim all_fine

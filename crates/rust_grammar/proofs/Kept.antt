@@ -5,7 +5,7 @@ use Rattle.parser_input.specs.Input.{input, token_of}
 use Rattle.parser_input.specs.Leaf.{Leaf, is_trivia}
 use Rattle.parser_input.specs.declared.edition.Edition.{Edition}
 use Rattle.parser_events.specs.Forest as forest
-use Rattle.rust_grammar.specs.Rule.{Production, Rule, Continue, source_file, macro_items, macro_statements, item, body, assoc_items, variants, record_fields, tuple_fields, visibility, attribute, meta, token_tree, use_tree, use_list, params, param, name, lifetime, name_ref, path, type_path, expr_path, generic_args, generic_arg, generic_params, generic_param, bounds, bound, where_clause, where_pred, any_type, ret_type, pattern, single_pattern, pattern_fields, pattern_field, literal, statement_list, block, statement, macro_statement, statement_end, macro_statement_end, expression, operation, operation_tail, pipe_tail, disjunction, conjunction, comparison, bit_or, bit_xor, bit_and, bit_shift, sum, product, cast, prefixed, postfix, after_dot, arguments, atom, field_values, field_value, block_like, if_expr, match_arms, match_arm, type_no_bounds, begins, passes, is_silent, shift, in_mode, anew, there_at, pattern_atom}
+use Rattle.rust_grammar.specs.Rule.{Production, Rule, Continue, source_file, macro_items, macro_statements, item, body, assoc_items, variants, record_fields, tuple_fields, visibility, attribute, meta, token_tree, use_tree, use_list, params, param, name, lifetime, name_ref, path, type_path, expr_path, generic_args, generic_arg, generic_params, generic_param, bounds, bound, where_clause, where_pred, any_type, ret_type, pattern, single_pattern, pattern_fields, pattern_field, literal, statement_list, block, statement, macro_statement, statement_end, macro_statement_end, expression, operation, operation_tail, pipe_tail, disjunction, conjunction, comparison, bit_or, bit_xor, bit_and, bit_shift, sum, product, cast, prefixed, postfix, after_dot, arguments, atom, field_values, field_value, block_like, if_expr, match_arms, match_arm, type_no_bounds, begins, passes, is_silent, shift, in_mode, anew, there_at, pattern_atom, arm_body}
 use Rattle.rust_grammar.specs.Notation.{row, one_of, any_of, is_longer, no_longer, longest}
 use Rattle.rust_grammar.specs.Meaning.{Reading, Calls, read, sees, meaning, look_of, begins_below}
 use Rattle.rust_grammar.specs.Paths.{paths}
@@ -100,6 +100,7 @@ all_alike match_arms = refl
 all_alike match_arm = refl
 all_alike type_no_bounds = refl
 all_alike pattern_atom = refl
+all_alike arm_body = refl
 
 -- the rule of the profile that each is compared with
 unfoldable old_rule : Production → Rule
@@ -181,6 +182,7 @@ all_kept match_arms = refl
 all_kept match_arm = refl
 all_kept type_no_bounds = refl
 all_kept pattern_atom = refl
+all_kept arm_body = refl
 
 chosen-test : (b t : Bool) → b ≡ true → (if b then t else true) ≡ true → t ≡ true
 chosen-test true t e h = h
@@ -238,6 +240,7 @@ own : (x : Production) → is_profile x ≡ true → (stands x ≡ true) × (sta
 unfolding is_profile stands stands_for
 own type_no_bounds e = absurd (true≢false (sym e))
 own pattern_atom e = absurd (true≢false (sym e))
+own arm_body e = absurd (true≢false (sym e))
 own x e = (refl, refl)
 
 -- THE laws.

@@ -3,7 +3,7 @@ use Rattle.std.proofs.Common.{◌≡◌, ℕ, zero, suc, Bool, true, false, not,
 use Rattle.std.proofs.lemmas.Bool.{cases_Bool, eqb-true}
 use Rattle.parser_events.specs.Forest as forest
 use Rattle.parser_events.specs.Forest.{Forest, Message}
-use Rattle.rust_grammar.specs.Rule.{Production, type_no_bounds, any_type, Look, Spelling, Rule, Nothing, One, Any, Then, Near, Or, Opt, Star, Node, Wrap, Want, Say, Skip, Split, When, Unless, Call, Continue, Mode, Lead, begins, pattern_atom, single_pattern}
+use Rattle.rust_grammar.specs.Rule.{Production, type_no_bounds, any_type, Look, Spelling, Rule, Nothing, One, Any, Then, Near, Or, Opt, Star, Node, Wrap, Want, Say, Skip, Split, When, Unless, Call, Continue, Mode, Lead, begins, pattern_atom, arm_body, single_pattern}
 use Rattle.rust_grammar.specs.Meaning.{Reading, Calls, read, sees, fresh, leaf, say, skip, split, node, wrapped, led, after, turns}
 use Rattle.rust_grammar.specs.Kept.{say_nothing}
 use Rattle.rust_grammar.proofs.Plain.{and_l, and_r}
@@ -13,13 +13,14 @@ use Rattle.rust_grammar.proofs.Spelled.{chosen}
 use Rattle.rust_grammar.proofs.Spelling.{same_parts, same-parts}
 use Rattle.rust_grammar.proofs.Quiet.{dropped-nothing, alike, alike-seen, is_new, new-unseen}
 
--- the production of the profile that a new one stands for; each stands for one as yet
+-- the production of the profile that a new production replaces; `arm_body` replaces none
 unfoldable pub stands_for : Production → Production
 stands_for type_no_bounds = any_type
 stands_for pattern_atom = single_pattern
 stands_for x = x
 
 unfoldable pub stands : Production → Bool
+stands arm_body = false
 stands x = true
 
 unfoldable pub same_message : Message → Message → Bool

@@ -1,7 +1,7 @@
 -- What a lead of the whole grammar reads is one node.
 use Rattle.std.proofs.Common.{◌≡◌, Bool, true, false, refl, sym, true≢false}
 use Rattle.parser_events.specs.Fits.{IsRooted}
-use Rattle.rust_grammar.specs.Rule.{Production, source_file, macro_items, macro_statements, item, body, assoc_items, variants, record_fields, tuple_fields, visibility, attribute, meta, token_tree, use_tree, use_list, params, param, name, lifetime, name_ref, path, type_path, expr_path, generic_args, generic_arg, generic_params, generic_param, bounds, bound, where_clause, where_pred, any_type, ret_type, pattern, single_pattern, pattern_fields, pattern_field, literal, statement_list, block, statement, macro_statement, statement_end, macro_statement_end, expression, operation, operation_tail, pipe_tail, disjunction, conjunction, comparison, bit_or, bit_xor, bit_and, bit_shift, sum, product, cast, prefixed, postfix, after_dot, arguments, atom, field_values, field_value, block_like, if_expr, match_arms, match_arm, type_no_bounds, Rule, begins, passes, is_silent, shift, in_mode, anew, there_at, pattern_atom}
+use Rattle.rust_grammar.specs.Rule.{Production, source_file, macro_items, macro_statements, item, body, assoc_items, variants, record_fields, tuple_fields, visibility, attribute, meta, token_tree, use_tree, use_list, params, param, name, lifetime, name_ref, path, type_path, expr_path, generic_args, generic_arg, generic_params, generic_param, bounds, bound, where_clause, where_pred, any_type, ret_type, pattern, single_pattern, pattern_fields, pattern_field, literal, statement_list, block, statement, macro_statement, statement_end, macro_statement_end, expression, operation, operation_tail, pipe_tail, disjunction, conjunction, comparison, bit_or, bit_xor, bit_and, bit_shift, sum, product, cast, prefixed, postfix, after_dot, arguments, atom, field_values, field_value, block_like, if_expr, match_arms, match_arm, type_no_bounds, Rule, begins, passes, is_silent, shift, in_mode, anew, there_at, pattern_atom, arm_body}
 use Rattle.rust_grammar.specs.Notation.{row, one_of, any_of, is_longer, no_longer, longest}
 use Rattle.rust_grammar.specs.Meaning.{Reading, fresh, meaning, look_of, begins_below}
 use Rattle.rust_grammar.specs.Paths.{paths}
@@ -95,6 +95,7 @@ all_lead match_arms = refl
 all_lead match_arm = refl
 all_lead type_no_bounds = refl
 all_lead pattern_atom = refl
+all_lead arm_body = refl
 
 node-given : (a : Rule) → gives_node a ≡ true → (in_condition : Bool) (s : Reading) → IsRooted (reads in_condition a (fresh s)).given
 unfolding gives_node rooting fresh

@@ -1,6 +1,6 @@
 -- The rules of the whole grammar pass the test of tokens that are taken.
 use Rattle.std.proofs.Common.{◌≡◌, None, Bool, true, refl, if◌then◌else◌}
-use Rattle.rust_grammar.specs.Rule.{Production, source_file, macro_items, macro_statements, item, body, assoc_items, variants, record_fields, tuple_fields, visibility, attribute, meta, token_tree, use_tree, use_list, params, param, name, lifetime, name_ref, path, type_path, expr_path, generic_args, generic_arg, generic_params, generic_param, bounds, bound, where_clause, where_pred, any_type, ret_type, pattern, single_pattern, pattern_fields, pattern_field, literal, statement_list, block, statement, macro_statement, statement_end, macro_statement_end, expression, operation, operation_tail, pipe_tail, disjunction, conjunction, comparison, bit_or, bit_xor, bit_and, bit_shift, sum, product, cast, prefixed, postfix, after_dot, arguments, atom, field_values, field_value, block_like, if_expr, match_arms, match_arm, type_no_bounds, Look, Never, Left, Given, Both, Not, begins, passes, is_silent, shift, in_mode, anew, there_at, pattern_atom}
+use Rattle.rust_grammar.specs.Rule.{Production, source_file, macro_items, macro_statements, item, body, assoc_items, variants, record_fields, tuple_fields, visibility, attribute, meta, token_tree, use_tree, use_list, params, param, name, lifetime, name_ref, path, type_path, expr_path, generic_args, generic_arg, generic_params, generic_param, bounds, bound, where_clause, where_pred, any_type, ret_type, pattern, single_pattern, pattern_fields, pattern_field, literal, statement_list, block, statement, macro_statement, statement_end, macro_statement_end, expression, operation, operation_tail, pipe_tail, disjunction, conjunction, comparison, bit_or, bit_xor, bit_and, bit_shift, sum, product, cast, prefixed, postfix, after_dot, arguments, atom, field_values, field_value, block_like, if_expr, match_arms, match_arm, type_no_bounds, Look, Never, Left, Given, Both, Not, begins, passes, is_silent, shift, in_mode, anew, there_at, pattern_atom, arm_body}
 use Rattle.rust_grammar.specs.Notation.{row, one_of, any_of, is_longer, no_longer, longest}
 use Rattle.rust_grammar.specs.Meaning.{look_of, begins_below}
 use Rattle.rust_grammar.specs.Paths.{paths}
@@ -121,3 +121,4 @@ all_move match_arms = refl
 all_move match_arm = refl
 all_move type_no_bounds = refl
 all_move pattern_atom = refl
+all_move arm_body = refl

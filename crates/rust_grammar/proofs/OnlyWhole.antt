@@ -1,7 +1,7 @@
 -- Where the productions of the whole grammar begin, and what they give, is settled by their rules.
 use Rattle.std.proofs.Common.{◌≡◌, ℕ, ◌<◌, true, refl, subst, arith}
 use mathlib.Core.Path.{fun_ext}
-use Rattle.rust_grammar.specs.Rule.{Production, Look, source_file, macro_items, macro_statements, item, body, assoc_items, variants, record_fields, tuple_fields, visibility, attribute, meta, token_tree, use_tree, use_list, params, param, name, lifetime, name_ref, path, type_path, expr_path, generic_args, generic_arg, generic_params, generic_param, bounds, bound, where_clause, where_pred, any_type, ret_type, pattern, single_pattern, pattern_fields, pattern_field, literal, statement_list, block, statement, macro_statement, statement_end, macro_statement_end, expression, operation, operation_tail, pipe_tail, disjunction, conjunction, comparison, bit_or, bit_xor, bit_and, bit_shift, sum, product, cast, prefixed, postfix, after_dot, arguments, atom, field_values, field_value, block_like, if_expr, match_arms, match_arm, type_no_bounds, passes, is_silent, pattern_atom}
+use Rattle.rust_grammar.specs.Rule.{Production, Look, source_file, macro_items, macro_statements, item, body, assoc_items, variants, record_fields, tuple_fields, visibility, attribute, meta, token_tree, use_tree, use_list, params, param, name, lifetime, name_ref, path, type_path, expr_path, generic_args, generic_arg, generic_params, generic_param, bounds, bound, where_clause, where_pred, any_type, ret_type, pattern, single_pattern, pattern_fields, pattern_field, literal, statement_list, block, statement, macro_statement, statement_end, macro_statement_end, expression, operation, operation_tail, pipe_tail, disjunction, conjunction, comparison, bit_or, bit_xor, bit_and, bit_shift, sum, product, cast, prefixed, postfix, after_dot, arguments, atom, field_values, field_value, block_like, if_expr, match_arms, match_arm, type_no_bounds, passes, is_silent, pattern_atom, arm_body}
 use Rattle.rust_grammar.specs.Notation.{row, one_of, any_of, is_longer, no_longer, longest}
 use Rattle.rust_grammar.specs.Meaning.{look_of}
 use Rattle.rust_grammar.specs.Paths.{paths}
@@ -17,7 +17,7 @@ use Rattle.rust_grammar.proofs.WholeTable.{claim, all_fine}
 use Rattle.rust_grammar.proofs.Only.{only-meaning}
 use Rattle.rust_grammar.proofs.OnlyLooks.{asks_less, asks_only, reaches_second, only-looks}
 
--- A rank will do, but after the mark of a range the looks of an operand are asked.
+-- The rank, except that `operation_tail` asks the lookaheads of an operand after a range operator.
 unfoldable pub depth : Production → ℕ
 depth operation_tail = 15
 depth x = rank x
@@ -100,6 +100,7 @@ all_asked match_arms = refl
 all_asked match_arm = refl
 all_asked type_no_bounds = refl
 all_asked pattern_atom = refl
+all_asked arm_body = refl
 
 pub one-beginning : OnlyOneBeginning
 unfolding whole

@@ -38,7 +38,7 @@ fits-so p q r e =
       right = and_r (nat_le r 13) _ e4;
     }
 
--- The children of a binary expression: the left operand, the operator, and what stands after it
+-- The children of a binary expression: the left operand, the operator, and the trees after it
 abbrev pub around : Forest → (kind count : ℕ) → Forest → Forest
 around f k n g = (f then forest.Leaf k n forest.End) then g
 
@@ -91,7 +91,7 @@ operator-placed p q r f k n g is fit e i =
     rw (operator-around q f k n g e) (rw is (rw (right-around q f k n g e)
     (both-true (nat_lt 0 p && (nat_le p (left_level tree) && nat_lt 1 (left_level tree))) (p == 1 || nat_lt p (right_level g)) own right)))
 
--- a binary expression holds together as its operator's power says
+-- the binding power of a binary expression is at least that of its operator
 pub binary-is : (p q r : ℕ) (f : Forest) (k n : ℕ) (g : Forest)
     → power k ≡ p → Fits p q r → is_of (Operand q) f ≡ true → r ≤ right_level g → are_operators_placed g ≡ true
     → is_of (Operand p) (forest.Node BIN_EXPR (around f k n g) forest.End) ≡ true
@@ -103,7 +103,7 @@ binary-is p q r f k n g is fit e i h =
     let own = operator-placed p q r f k n g is fit operand i in
     rw own (rw inner (rw (operator-around q f k n g operand) (rw is (rw (le-leb p p (omega arith)) refl))))
 
--- what stands after the operator: an operand, or the message that it is missing
+-- after the operator: an operand, or the error for a missing one
 pub said-only : (m : Message) → are_operators_placed (forest.Said m forest.End) ≡ true
 unfolding are_operators_placed
 said-only m = refl

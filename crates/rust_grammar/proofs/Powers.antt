@@ -9,8 +9,8 @@ use Rattle.rust_grammar.specs.Powers.{level, is_operator_placed, are_operators_p
 use Rattle.rust_grammar.proofs.Plain.{and_l, and_r}
 use Rattle.rust_grammar.proofs.Spelling.{both-true}
 
--- What is known of the trees that the present production gave so far: there are none; there is at most one, a node or a float
--- that holds together so tightly at least; operators are placed in them; nothing.
+-- What is known of the trees that the current production has added so far: there are none; there is at most one, a node or a
+-- float of binding power `least` or more; operators are placed in them; nothing.
 pub data Standing : Type 0 where
   Empty : Standing
   Operand : (least : ℕ) → Standing
@@ -38,7 +38,7 @@ is_within (Operand p) Placed = true
 is_within Placed Placed = true
 is_within p q = false
 
--- the same of trees of which no more is asked than that operators are placed in them
+-- forgets all but that operators are placed in the trees
 unfoldable pub placed : Standing → Standing
 placed Unknown = Unknown
 placed p = Placed
@@ -60,7 +60,7 @@ beside Unknown q = Unknown
 beside (Operand p) q = placed q
 beside Placed q = placed q
 
--- in a tree of their own, which is no binary expression
+-- what is known of a node around the trees that is no binary expression
 unfoldable pub inside : Standing → Standing
 inside Unknown = Unknown
 inside p = Operand 13

@@ -1,10 +1,10 @@
 -- Productions by number, so that they can be compared.
 use Rattle.std.proofs.Common.{◌≡◌, ℕ, Bool, true, List, [], ◌∷◌, nat_eq, refl, sym, ap, ◌∙◌, get_or}
 use Rattle.std.proofs.lemmas.Bool.{eqb-true}
-use Rattle.rust_grammar.specs.Rule.{Production, source_file, macro_items, macro_statements, item, body, assoc_items, variants, record_fields, tuple_fields, visibility, attribute, meta, token_tree, use_tree, use_list, params, param, name, lifetime, name_ref, path, type_path, expr_path, generic_args, generic_arg, generic_params, generic_param, bounds, bound, where_clause, where_pred, any_type, ret_type, pattern, single_pattern, pattern_fields, pattern_field, literal, statement_list, block, statement, macro_statement, statement_end, macro_statement_end, expression, operation, operation_tail, pipe_tail, disjunction, conjunction, comparison, bit_or, bit_xor, bit_and, bit_shift, sum, product, cast, prefixed, postfix, after_dot, arguments, atom, field_values, field_value, block_like, if_expr, match_arms, match_arm, type_no_bounds, pattern_atom}
+use Rattle.rust_grammar.specs.Rule.{Production, source_file, macro_items, macro_statements, item, body, assoc_items, variants, record_fields, tuple_fields, visibility, attribute, meta, token_tree, use_tree, use_list, params, param, name, lifetime, name_ref, path, type_path, expr_path, generic_args, generic_arg, generic_params, generic_param, bounds, bound, where_clause, where_pred, any_type, ret_type, pattern, single_pattern, pattern_fields, pattern_field, literal, statement_list, block, statement, macro_statement, statement_end, macro_statement_end, expression, operation, operation_tail, pipe_tail, disjunction, conjunction, comparison, bit_or, bit_xor, bit_and, bit_shift, sum, product, cast, prefixed, postfix, after_dot, arguments, atom, field_values, field_value, block_like, if_expr, match_arms, match_arm, type_no_bounds, pattern_atom, arm_body}
 
 all : List Production
-all = source_file ∷ macro_items ∷ macro_statements ∷ item ∷ body ∷ assoc_items ∷ variants ∷ record_fields ∷ tuple_fields ∷ visibility ∷ attribute ∷ meta ∷ token_tree ∷ use_tree ∷ use_list ∷ params ∷ param ∷ name ∷ lifetime ∷ name_ref ∷ path ∷ type_path ∷ expr_path ∷ generic_args ∷ generic_arg ∷ generic_params ∷ generic_param ∷ bounds ∷ bound ∷ where_clause ∷ where_pred ∷ any_type ∷ ret_type ∷ pattern ∷ single_pattern ∷ pattern_fields ∷ pattern_field ∷ literal ∷ statement_list ∷ block ∷ statement ∷ macro_statement ∷ statement_end ∷ macro_statement_end ∷ expression ∷ operation ∷ operation_tail ∷ pipe_tail ∷ disjunction ∷ conjunction ∷ comparison ∷ bit_or ∷ bit_xor ∷ bit_and ∷ bit_shift ∷ sum ∷ product ∷ cast ∷ prefixed ∷ postfix ∷ after_dot ∷ arguments ∷ atom ∷ field_values ∷ field_value ∷ block_like ∷ if_expr ∷ match_arms ∷ match_arm ∷ type_no_bounds ∷ pattern_atom ∷ []
+all = source_file ∷ macro_items ∷ macro_statements ∷ item ∷ body ∷ assoc_items ∷ variants ∷ record_fields ∷ tuple_fields ∷ visibility ∷ attribute ∷ meta ∷ token_tree ∷ use_tree ∷ use_list ∷ params ∷ param ∷ name ∷ lifetime ∷ name_ref ∷ path ∷ type_path ∷ expr_path ∷ generic_args ∷ generic_arg ∷ generic_params ∷ generic_param ∷ bounds ∷ bound ∷ where_clause ∷ where_pred ∷ any_type ∷ ret_type ∷ pattern ∷ single_pattern ∷ pattern_fields ∷ pattern_field ∷ literal ∷ statement_list ∷ block ∷ statement ∷ macro_statement ∷ statement_end ∷ macro_statement_end ∷ expression ∷ operation ∷ operation_tail ∷ pipe_tail ∷ disjunction ∷ conjunction ∷ comparison ∷ bit_or ∷ bit_xor ∷ bit_and ∷ bit_shift ∷ sum ∷ product ∷ cast ∷ prefixed ∷ postfix ∷ after_dot ∷ arguments ∷ atom ∷ field_values ∷ field_value ∷ block_like ∷ if_expr ∷ match_arms ∷ match_arm ∷ type_no_bounds ∷ pattern_atom ∷ arm_body ∷ []
 
 abbrev number : Production → ℕ
 number source_file = 0
@@ -78,6 +78,7 @@ number match_arms = 67
 number match_arm = 68
 number type_no_bounds = 69
 number pattern_atom = 70
+number arm_body = 71
 
 numbered : (x : Production) → get_or all (number x) source_file ≡ x
 unfolding all
@@ -152,6 +153,7 @@ numbered match_arms = refl
 numbered match_arm = refl
 numbered type_no_bounds = refl
 numbered pattern_atom = refl
+numbered arm_body = refl
 
 abbrev pub same_production : Production → Production → Bool
 same_production x y = nat_eq (number x) (number y)

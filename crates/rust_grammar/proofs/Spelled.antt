@@ -182,7 +182,7 @@ at-seen k l m c s mode h i =
     let there = asked-seen c s m l mode ∙ i in
     if-both (sees c s (sift k (asked m l))) (sees c s (asked m l)) (sift-seen c s k (asked m l) there h) there
 
--- a rule that takes so many tokens takes them
+-- a rule that counts `n` tokens consumes `n` tokens
 module _ (looks : Production → Look) (call : Calls) where
   pub counted : (a : Rule) (n : ℕ) (c : Bool) (s : Reading) → counts n a ≡ true → (read looks call c a s).rest ≡ drop n s.rest
   unfolding counts read leaf node wrapped fresh

@@ -25,7 +25,7 @@ pub record Claims : Type 0 where
   -- this is seen after it
   pub ends : Production → Look
 
--- a rule that takes so many tokens
+-- a rule that consumes exactly `n` tokens
 unfoldable pub counts : ℕ → Rule → Bool
 counts n Nothing = nat_eq 0 n
 counts n (One x) = nat_eq (length x.parts) n
@@ -105,7 +105,7 @@ same_parts [] [] = true
 same_parts (k ∷ ks) (l ∷ ls) = nat_eq k l && same_parts ks ls
 same_parts ks ls = false
 
--- the same contextual kind, or none in both
+-- equal contextual kinds, or none in both
 unfoldable pub same_contextual : Option ℕ → Option ℕ → Bool
 same_contextual None None = true
 same_contextual (Some k) (Some l) = nat_eq k l

@@ -1,6 +1,6 @@
 -- The table of the whole grammar passes the test, so its productions mean what their rules say.
 use Rattle.std.proofs.Common.{◌≡◌, Bool, true, false, refl}
-use Rattle.rust_grammar.specs.Rule.{Production, source_file, macro_items, macro_statements, item, body, assoc_items, variants, record_fields, tuple_fields, visibility, attribute, meta, token_tree, use_tree, use_list, params, param, name, lifetime, name_ref, path, type_path, expr_path, generic_args, generic_arg, generic_params, generic_param, bounds, bound, where_clause, where_pred, any_type, ret_type, pattern, single_pattern, pattern_fields, pattern_field, literal, statement_list, block, statement, macro_statement, statement_end, macro_statement_end, expression, operation, operation_tail, pipe_tail, disjunction, conjunction, comparison, bit_or, bit_xor, bit_and, bit_shift, sum, product, cast, prefixed, postfix, after_dot, arguments, atom, field_values, field_value, block_like, if_expr, match_arms, match_arm, type_no_bounds, begins, passes, is_silent, shift, in_mode, anew, there_at, pattern_atom}
+use Rattle.rust_grammar.specs.Rule.{Production, source_file, macro_items, macro_statements, item, body, assoc_items, variants, record_fields, tuple_fields, visibility, attribute, meta, token_tree, use_tree, use_list, params, param, name, lifetime, name_ref, path, type_path, expr_path, generic_args, generic_arg, generic_params, generic_param, bounds, bound, where_clause, where_pred, any_type, ret_type, pattern, single_pattern, pattern_fields, pattern_field, literal, statement_list, block, statement, macro_statement, statement_end, macro_statement_end, expression, operation, operation_tail, pipe_tail, disjunction, conjunction, comparison, bit_or, bit_xor, bit_and, bit_shift, sum, product, cast, prefixed, postfix, after_dot, arguments, atom, field_values, field_value, block_like, if_expr, match_arms, match_arm, type_no_bounds, begins, passes, is_silent, shift, in_mode, anew, there_at, pattern_atom, arm_body}
 use Rattle.rust_grammar.specs.Notation.{row, one_of, any_of, is_longer, no_longer, longest}
 use Rattle.rust_grammar.specs.Meaning.{Reading, read, meaning, look_of, begins_below}
 use Rattle.rust_grammar.proofs.Fine.{fine, ranked, ranked_at_end, fails, takes}
@@ -118,6 +118,7 @@ all_fine match_arms = refl
 all_fine match_arm = refl
 all_fine type_no_bounds = refl
 all_fine pattern_atom = refl
+all_fine arm_body = refl
 
 pub whole-means :
     (x : Production) (c : Bool) (s : Reading) → meaning whole x c s ≡ read (look_of whole) (meaning whole) c (rule x) s
@@ -197,6 +198,7 @@ all_have_rules match_arms = refl
 all_have_rules match_arm = refl
 all_have_rules type_no_bounds = refl
 all_have_rules pattern_atom = refl
+all_have_rules arm_body = refl
 
 pub whole-begins : (x : Production) → look_of whole x ≡ begins (look_of whole) (rule x)
 unfolding look_of begins_below begins passes is_silent shift in_mode anew there_at rule rank whole row one_of any_of is_longer no_longer longest paths types patterns expressions statements items
@@ -271,3 +273,4 @@ whole-begins match_arms = refl
 whole-begins match_arm = refl
 whole-begins type_no_bounds = refl
 whole-begins pattern_atom = refl
+whole-begins arm_body = refl

@@ -1,6 +1,6 @@
 -- Where a production can be read.
 use Rattle.std.specs.Prelude.{◌≡◌, Bool, true, false, if◌then◌else◌}
-use Rattle.rust_grammar.specs.Rule.{Production, source_file, macro_items, macro_statements, meta, use_tree, param, path, type_path, expr_path, generic_arg, bounds, bound, where_pred, any_type, pattern, single_pattern, pattern_field, statement_end, macro_statement_end, operation_tail, pipe_tail, after_dot, match_arm, type_no_bounds, pattern_atom}
+use Rattle.rust_grammar.specs.Rule.{Production, source_file, macro_items, macro_statements, meta, use_tree, param, path, type_path, expr_path, generic_arg, bounds, bound, where_pred, any_type, pattern, single_pattern, pattern_field, statement_end, macro_statement_end, operation_tail, pipe_tail, after_dot, match_arm, type_no_bounds, pattern_atom, arm_body}
 use Rattle.rust_grammar.specs.Meaning.{Reading, sees, look_of}
 use Rattle.rust_grammar.specs.Whole.{whole}
 
@@ -31,6 +31,7 @@ asks_nothing after_dot = true
 asks_nothing match_arm = true
 asks_nothing type_no_bounds = true
 asks_nothing pattern_atom = true
+asks_nothing arm_body = true
 asks_nothing x = false
 
 -- A production can be read here: it begins here, or asks nothing.

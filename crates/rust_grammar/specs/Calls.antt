@@ -1,5 +1,5 @@
 -- Productions that others call, each as the rule that it is there: nothing was given in it before.
-use Rattle.rust_grammar.specs.Rule.{Rule, Call, item, assoc_items, variants, record_fields, tuple_fields, visibility, attribute, meta, token_tree, use_tree, use_list, name, lifetime, name_ref, path, type_path, expr_path, generic_args, generic_arg, generic_params, generic_param, bounds, bound, where_clause, where_pred, params, param, ret_type, any_type, pattern, single_pattern, pattern_fields, pattern_field, literal, statement_list, block, macro_statement, expression, operation, disjunction, comparison, product, cast, prefixed, arguments, atom, field_values, field_value, block_like, if_expr, match_arms, match_arm, type_no_bounds, pattern_atom}
+use Rattle.rust_grammar.specs.Rule.{Rule, Call, item, assoc_items, variants, record_fields, tuple_fields, visibility, attribute, meta, token_tree, use_tree, use_list, name, lifetime, name_ref, path, type_path, expr_path, generic_args, generic_arg, generic_params, generic_param, bounds, bound, where_clause, where_pred, params, param, ret_type, any_type, pattern, single_pattern, pattern_fields, pattern_field, literal, statement_list, block, macro_statement, expression, operation, disjunction, comparison, product, cast, prefixed, arguments, atom, field_values, field_value, block_like, if_expr, match_arms, match_arm, type_no_bounds, pattern_atom, arm_body}
 
 abbrev pub Item : Rule
 Item = Call item
@@ -162,3 +162,6 @@ TypeNoBounds = Call type_no_bounds
 
 abbrev pub PatternAtom : Rule
 PatternAtom = Call pattern_atom
+
+abbrev pub ArmBody : Rule
+ArmBody = Call arm_body

@@ -370,7 +370,7 @@ examples =
       tokens = apart FN_KW ∷ touching IDENT ∷ touching L_PAREN ∷ apart R_PAREN ∷ apart L_CURLY ∷ apart IDENT ∷ pipe (touching IDENT ∷ apart SEMICOLON ∷ apart R_CURLY ∷ []);
       tree = SOURCE_FILE ⟪ FN ⟪ leaf FN_KW · a_name · no_params · BLOCK_EXPR ⟪ STMT_LIST ⟪ leaf L_CURLY · EXPR_STMT ⟪ BIN_EXPR ⟪ a_path_expr · joined PIPE_GT 2 · a_path_expr ⟫ · leaf SEMICOLON ⟫ · leaf R_CURLY ⟫ ⟫ ⟫ ⟫;
     }
-    -- the same file, of an earlier one
+    -- that file, of an edition before `next`
     ∷ record {
       asked = source_file;
       tokens = apart FN_KW ∷ touching IDENT ∷ touching L_PAREN ∷ apart R_PAREN ∷ apart L_CURLY ∷ apart IDENT ∷ touching PIPE ∷ apart R_ANGLE ∷ touching IDENT ∷ apart SEMICOLON ∷ apart R_CURLY ∷ [];

@@ -3,7 +3,7 @@ use Rattle.std.specs.Prelude.{◌≡◌, Bool, true, false, not, ◌&&◌, List,
 use Rattle.parser_input.specs.Input.{Token, input}
 use Rattle.parser_input.specs.Leaf.{Leaf}
 use Rattle.parser_input.specs.declared.edition.Edition.{Edition}
-use Rattle.rust_grammar.specs.Rule.{Production, type_no_bounds, pattern_atom}
+use Rattle.rust_grammar.specs.Rule.{Production, type_no_bounds, pattern_atom, arm_body}
 use Rattle.rust_grammar.specs.Meaning.{Reading, sees, look_of, meaning}
 use Rattle.rust_grammar.specs.Entry.{entry}
 use Rattle.rust_grammar.specs.Profile.{profile}
@@ -19,6 +19,7 @@ say_nothing (t ∷ ts) = not t.whole && say_nothing ts
 unfoldable pub is_profile : Production → Bool
 is_profile type_no_bounds = false
 is_profile pattern_atom = false
+is_profile arm_body = false
 is_profile x = true
 
 -- Over such tokens each production of the profile begins where it does in the profile's table, and gives the same.

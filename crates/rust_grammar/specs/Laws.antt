@@ -134,8 +134,8 @@ EntriesFit =
     (x : Production) (whole : Bool) (edition : Edition) (leaves : List Leaf)
     → is_entry x ≡ true → fits (steps (entry_of x whole edition leaves)) leaves ≡ true
 
--- In the tree of an entry each token tree begins with an opening bracket, and ends with its partner or the message that it is
--- missing.
+-- In the tree of an entry each token tree starts with an opening delimiter, and ends with the closing one or the error for a
+-- missing one.
 abbrev pub TokenTreesAreBracketed : Type 0
 TokenTreesAreBracketed = (x : Production) (tokens : List Token) → are_token_trees_bracketed (entry all.whole x tokens) ≡ true
 

@@ -11,7 +11,7 @@ pub record Reading : Type 0 where
   pub given : Forest
   pub rest : List Token
 
--- the n-th token ahead; past the last one stands the end of the input, which says nothing of the whole language
+-- the n-th token ahead; past the last token it is the end of the input, whose flag `whole` is false
 unfoldable pub ahead : ℕ → List Token → Token
 ahead n [] = record { kind = EOF; contextual = EOF; joint = false; whole = false }
 ahead zero (t ∷ ts) = t

@@ -28,7 +28,7 @@ misplaced =
     ∷ Node PATH_EXPR (binary_expression (binary_expression operand PLUS operand) STAR operand) End
     ∷ []
 
--- Each of these trees is told from one whose operators are placed.
+-- In each of these trees an operator is misplaced.
 abbrev pub AreMisplaced : List Forest → Type 0
 AreMisplaced [] = Unit {0}
 AreMisplaced (f ∷ fs) = (are_operators_placed f ≡ false) × AreMisplaced fs

@@ -6,7 +6,7 @@
 use Rattle.std.specs.Prelude.{ℕ, ◌+◌, ◌==◌, Bool, true, false, ◌&&◌, List, [], ◌∷◌, length, Option, Some, None, if◌then◌else◌}
 use Rattle.parser_input.specs.Kinds.{COMMA, GENERIC_PARAM_LIST, ASSOC_ITEM_LIST, VARIANT_LIST, META, TOKEN_TREE, USE_TREE, PARAM_LIST, NAME, NAME_REF, PATH, LITERAL, STMT_LIST, BLOCK_EXPR, ARG_LIST, MATCH_ARM_LIST, RECORD_FIELD_LIST}
 use Rattle.parser_events.specs.Forest.{Message, Expected, UnexpectedIn, ExpectedType, ExpectedPattern, ExpectedExpression}
-use Rattle.rust_grammar.specs.Rule.{type_no_bounds, generic_params, assoc_items, variants, meta, token_tree, use_tree, params, name, name_ref, path, any_type, pattern, single_pattern, literal, statement_list, block, expression, operation, disjunction, comparison, prefixed, arguments, match_arms, Production, Look, Always, Never, Left, Both, Either, Not, Spelling, Rule, Nothing, One, Then, Near, Or, Opt, Star, Node, Wrap, Want, Say, Skip, When, Unless, Call, Continue, Mode, spelled_at, Whole, Lead, record_fields}
+use Rattle.rust_grammar.specs.Rule.{type_no_bounds, arm_body, generic_params, assoc_items, variants, meta, token_tree, use_tree, params, name, name_ref, path, any_type, pattern, single_pattern, literal, statement_list, block, expression, operation, disjunction, comparison, prefixed, arguments, match_arms, Production, Look, Always, Never, Left, Both, Either, Not, Spelling, Rule, Nothing, One, Then, Near, Or, Opt, Star, Node, Wrap, Want, Say, Skip, When, Unless, Call, Continue, Mode, spelled_at, Whole, Lead, record_fields}
 use Rattle.rust_grammar.specs.Words.{'dots', 'dots_eq', '==', '=>', '!=', '<=', '>=', '&&', '||', '|>', '<<', '>>', '+=', '-=', '*=', '/=', '%=', '&=', '|=', '^=', '<<=', '>>=', 'semi', 'comma', 'r_paren', 'l_curly', 'r_curly', ']', '=', '<', '>', '-', '&', '|', '+', '*', '/', '^', '%'}
 
 infixr 40 ◌or◌
@@ -105,6 +105,7 @@ wanted match_arms = Some (Expected MATCH_ARM_LIST)
 wanted generic_params = Some (Expected GENERIC_PARAM_LIST)
 wanted type_no_bounds = Some ExpectedType
 wanted record_fields = Some (Expected RECORD_FIELD_LIST)
+wanted arm_body = Some ExpectedExpression
 wanted x = None
 
 -- the message of a part that is missing, if it can be: a leaf, a node, a production that has one

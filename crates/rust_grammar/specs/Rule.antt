@@ -75,6 +75,7 @@ pub data Production : Type 0 where
   match_arm : Production
   type_no_bounds : Production
   pattern_atom : Production
+  arm_body : Production
 
 -- What a choice asks of the place: the n-th token ahead is of a kind, of a contextual kind, touches the next, says that the
 -- whole language is read; a token is left; condition mode is on; the present production has given something.

@@ -2,11 +2,12 @@
 use Rattle.std.specs.Prelude.{[], ◌∷◌}
 use Rattle.parser_input.specs.Kinds.{MACRO_STMTS, STMT_LIST, LET_STMT, LET_ELSE, EXPR_STMT, BLOCK_EXPR, DEFER_STMT}
 use Rattle.parser_events.specs.Forest.{ExpectedStatement}
-use Rattle.rust_grammar.specs.Rule.{macro_statements, statement_list, block, statement, macro_statement, statement_end, macro_statement_end, postfix, Production, Look, Both, Either, Not, Rule, Nothing, One, Skip, When, Unless, Call}
-use Rattle.rust_grammar.specs.Words.{'dots', 'semi', 'dot', 'l_curly', 'r_curly', '#', '?', '!', 'const', 'defer', 'else', 'enum', 'fn', 'impl', 'let', 'mod', 'pub', 'static', 'struct', 'trait', 'type', 'unsafe', 'use'}
+use Rattle.rust_grammar.specs.Rule.{macro_statements, statement_list, block, statement, macro_statement, statement_end, macro_statement_end, postfix, Production, Look, Rule, Nothing, One, Skip, When, Unless, Call}
+use Rattle.rust_grammar.specs.Words.{'semi', 'l_curly', 'r_curly', '#', '!', 'const', 'defer', 'else', 'enum', 'fn', 'impl', 'let', 'mod', 'pub', 'static', 'struct', 'trait', 'type', 'unsafe', 'use'}
 use Rattle.rust_grammar.specs.Calls.{Item, Attribute, Pattern, StatementList, Block, Expression, BlockLike}
-use Rattle.rust_grammar.specs.Notation.{◌or◌, ◌▸◌, ⁅◌⁆, ◌*, ◌⁺, ◌!, ◌⟨◌⟩, ◌<⟨◌⟩, more, off, at_end, next, ◌before◌, ◌before_any◌, any_of, one_of, until}
+use Rattle.rust_grammar.specs.Notation.{◌or◌, ◌▸◌, ⁅◌⁆, ◌*, ◌⁺, ◌!, ◌⟨◌⟩, ◌<⟨◌⟩, more, off, at_end, ◌before◌, ◌before_any◌, any_of, one_of, until}
 use Rattle.rust_grammar.specs.Shared.{type_annotation, initializer}
+use Rattle.rust_grammar.specs.Expressions.{goes_on}
 
 -- where an item begins among statements; other items begin like expressions
 abbrev pub item_begins : Look
@@ -15,10 +16,6 @@ item_begins =
     (one_of 0 ('#' ∷ 'pub' ∷ 'mod' ∷ 'use' ∷ 'struct' ∷ 'enum' ∷ 'fn' ∷ 'const' ∷ 'static' ∷ 'type' ∷ 'impl' ∷ 'trait' ∷ [])
     ∷ 'unsafe' before_any ('fn' ∷ 'impl' ∷ 'trait' ∷ [])
     ∷ [])
-
--- a `?`, or a dot that begins no range: an expression that ends in a block goes on
-abbrev pub goes_on : Look
-goes_on = Either (next '?') (Both (next 'dot') (Not (next 'dots')))
 
 -- A list of statements: where it ends, one of its statements, and the end of an expression in it.
 pub record Listing : Type 0 where

@@ -15,7 +15,7 @@ unfoldable pub is_missing : ℕ → Message → Bool
 is_missing kind (Expected k) = k == kind
 is_missing kind message = false
 
--- the last tree is a token of this kind, or the message that it is missing
+-- the last tree is a token of this kind, or the error for a missing one
 unfoldable pub ends_with : ℕ → Forest → Bool
 ends_with kind forest.End = false
 ends_with kind (forest.Leaf k n forest.End) = k == kind && n == 1
@@ -26,12 +26,12 @@ ends_with kind (forest.ErrorLeaf message k f) = ends_with kind f
 ends_with kind (forest.Node k c f) = ends_with kind f
 ends_with kind (forest.Float e c f) = ends_with kind f
 
--- an opening bracket, and at the end its partner, or the message that it is missing
+-- an opening delimiter first, and last the closing one, or the error for a missing one
 unfoldable pub is_bracketed : Forest → Bool
 is_bracketed (forest.Leaf k n f) = is_opening k && n == 1 && ends_with (partner k) f
 is_bracketed f = false
 
--- Each token tree begins with an opening bracket, and ends with its partner or the message that it is missing.
+-- Each token tree starts with an opening delimiter, and ends with the closing one or the error for a missing one.
 unfoldable pub are_token_trees_bracketed : Forest → Bool
 are_token_trees_bracketed forest.End = true
 are_token_trees_bracketed (forest.Leaf k n f) = are_token_trees_bracketed f

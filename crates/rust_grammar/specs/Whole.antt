@@ -1,6 +1,6 @@
 -- The whole grammar: the rows of all subjects, and the order in which productions call each other.
 use Rattle.std.specs.Prelude.{ℕ}
-use Rattle.rust_grammar.specs.Rule.{source_file, macro_items, macro_statements, item, body, meta, use_tree, param, path, type_path, expr_path, generic_arg, generic_param, bounds, bound, where_pred, any_type, pattern, single_pattern, pattern_field, block, statement, macro_statement, expression, operation, operation_tail, disjunction, conjunction, comparison, bit_or, bit_xor, bit_and, bit_shift, sum, product, cast, prefixed, postfix, atom, field_value, block_like, match_arm, type_no_bounds, Production, Rule, Nothing, pattern_atom}
+use Rattle.rust_grammar.specs.Rule.{source_file, macro_items, macro_statements, item, body, meta, use_tree, param, path, type_path, expr_path, generic_arg, generic_param, bounds, bound, where_pred, any_type, pattern, single_pattern, pattern_field, block, statement, macro_statement, expression, operation, operation_tail, disjunction, conjunction, comparison, bit_or, bit_xor, bit_and, bit_shift, sum, product, cast, prefixed, postfix, atom, field_value, block_like, match_arm, type_no_bounds, Production, Rule, Nothing, pattern_atom, arm_body}
 use Rattle.rust_grammar.specs.Meaning.{Table}
 use Rattle.rust_grammar.specs.Items.{items}
 use Rattle.rust_grammar.specs.Statements.{statements}
@@ -52,9 +52,10 @@ rank postfix = 1
 rank atom = 3
 rank field_value = 2
 rank block_like = 2
-rank match_arm = 17
+rank match_arm = 18
 rank type_no_bounds = 5
 rank pattern_atom = 2
+rank arm_body = 17
 rank x = 0
 
 -- the rows of all subjects; each production stands in one of them

@@ -52,8 +52,8 @@ pub fn leads_give_one_node()
     ensures { LeadsGiveOneNode }
 {}
 
-/// Each token tree begins with an opening bracket, and ends with its partner or the message that it
-/// is missing.
+/// Each token tree starts with an opening delimiter, and ends with the closing one or the error for
+/// a missing one.
 pub fn token_trees_are_bracketed()
     ensures { TokenTreesAreBracketed }
 {}

@@ -26,7 +26,7 @@ does-then {f} p q = record {
   innermost = λ around i. q.innermost around (p.innermost around i);
 }
 
--- the same by another name
+-- an equal function does what this one does
 pub does-as : {f g : Reading → Reading} {old new : View} → ((s : Reading) → left old ≡ s.rest → f s ≡ g s) → Does f old new → Does g old new
 does-as {f} {g} {old} {new} same p = record {
   input = p.input;

@@ -9,7 +9,7 @@ use Rattle.rust_productions.specs.Reads.{looks, Saw}
 use Rattle.rust_grammar.proofs.Elsewhere.{anew-seen}
 use Rattle.rust_grammar.proofs.Productions.{same_production, same_production-true}
 
--- A look answers so; a production that is called anew begins, or does not.
+-- The answer of a lookahead; whether a production begins here, with nothing given before it.
 pub data Fact : Type 0 where
   Answers : Look → Bool → Fact
   Begins : Production → Bool → Fact
@@ -155,7 +155,7 @@ of_production [] x = None
 of_production (Begins y b ∷ fs) x = if same_production y x then Some b else of_production fs x
 of_production (f ∷ fs) x = of_production fs x
 
--- whether a production that is called anew begins here
+-- whether a production begins here, with nothing given before it
 abbrev pub or_look : Option Bool → List Fact → Production → Option Bool
 or_look (Some b) fs x = Some b
 or_look None fs x = tells fs (anew (looks x))

@@ -5,13 +5,13 @@ use Rattle.parser_input.specs.Kinds.{BIN_EXPR, CAST_EXPR}
 use Rattle.parser_events.specs.Forest.{ExpectedExpression}
 use Rattle.parser_events.specs.View.{View}
 use Rattle.rust_grammar.specs.Calls.{TypeNoBounds}
-use Rattle.rust_grammar.specs.Expressions.{expressions}
+use Rattle.rust_grammar.specs.Expressions.{after_operand, expressions}
 use Rattle.rust_grammar.specs.Items.{items}
 use Rattle.rust_grammar.specs.Meaning.{Reading, after, begins_below, fresh, look_of, meaning, read, sees}
 use Rattle.rust_grammar.specs.Notation.{◌!, any_of, is_longer, no_longer, longest, one_of, row}
 use Rattle.rust_grammar.specs.Paths.{paths}
 use Rattle.rust_grammar.specs.Patterns.{patterns}
-use Rattle.rust_grammar.specs.Rule.{disjunction, prefixed, Look, Rule, Call, One, Star, Then, Want, Wrap, begins, in_mode, anew, is_silent, passes, shift, there_at}
+use Rattle.rust_grammar.specs.Rule.{disjunction, operation_tail, prefixed, Look, Rule, Call, Continue, One, Star, Then, Want, Wrap, begins, in_mode, anew, is_silent, passes, shift, there_at}
 use Rattle.rust_grammar.specs.Statements.{statements}
 use Rattle.rust_grammar.specs.Types.{types}
 use Rattle.rust_grammar.specs.Whole.{rule, whole}
@@ -23,7 +23,7 @@ use Rattle.rust_productions.specs.Reads.{looks, Anew, Completes, Does, Gives, Le
 use Rattle.rust_productions.specs.Stands.{left}
 use Rattle.rust_productions.specs.declared.grammar.operators.Operator.{Operator}
 use Rattle.rust_productions.proofs.Powers.{AllEnd, Layered, LayersFrom, NoTurns, gives-layers, last-layers, more-layers, next-layers}
-use Rattle.rust_productions.proofs.ByHand.{does-as}
+use Rattle.rust_productions.proofs.ByHand.{does-as, does-then}
 use Rattle.rust_productions.proofs.Choices.{anew-completes, anew-inside}
 use Rattle.rust_productions.proofs.Seen.{ends-at-end}
 use Rattle.rust_productions.proofs.Facts.{saw-so}
@@ -182,7 +182,7 @@ last-turn-of {o} {all} {entry} {now} {end} c lowest top some low high apart at i
     whole (inl x) = inl x
     whole (inr x) = inr (omega (arith, x, low))
 
--- An operand with the turns after it stands first, as what its layer gives.
+-- At the start of a rule, an operand and the turns after it read as the production of layer `h`.
 pub anew-layers :
     {b : Rule} {old mid new : View} (c : Bool) (h : ℕ) → h ≤ 10 → Opens old mid → Completes c (Then (Then (Call prefixed) (repeated (turns_from h 1))) b) mid new
     → Anew c (Then (Call (layer_at h)) b) old new
@@ -205,3 +205,9 @@ binary-turn (suc (suc h)) some e = ap (λ (m : ℕ). Wrap BIN_EXPR (Then (operat
 pub cast-turn : turn_at 1 ≡ Wrap CAST_EXPR (Then (One 'as') (TypeNoBounds !))
 unfolding turn_at operators_at operators
 cast-turn = refl
+
+-- After an operand that was read: the turns of all layers, and what follows these.
+pub reads-after-operand :
+    {c : Bool} {old mid new : View} → Reads c (repeated (turns_from 10 1)) old mid → Reads c (Continue operation_tail) mid new → Reads c after_operand old new
+unfolding turns_from turn_at operators_at operators layer_at layers read
+reads-after-operand p q = record { does = does-as (λ s e. refl) (does-then p.does q.does) }

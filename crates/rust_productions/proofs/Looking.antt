@@ -37,7 +37,7 @@ saw-next c n v kind answer is = record {
   at = λ s e. ap (λ (ts : List Token). (ahead n ts).kind == kind) (sym e) ∙ ap (λ (k : ℕ). nat_eq k kind) (sym (kind-ahead v n)) ∙ sym is;
 }
 
--- the same, by raw numbers
+-- `saw-next` for raw kinds
 pub saw-kind : (c : Bool) (n : ℕ) (v : View) (seen_kind raw kind : ℕ) → seen_kind ≡ (token_at v.input (v.position + n)).kind → raw ≡ kind → Saw c (Kind n kind) v (nat_eq seen_kind raw)
 saw-kind c n v seen_kind raw kind is same = saw-next c n v kind _ (ap (λ (n : ℕ). nat_eq seen_kind n) same ∙ ap (λ (n : ℕ). nat_eq n kind) is)
 
@@ -70,14 +70,17 @@ saw-contextual c n v seen_kind raw kind is same = record {
       ∙ sym (ap (λ (n : ℕ). nat_eq seen_kind n) same ∙ ap (λ (n : ℕ). nat_eq n kind) is);
 }
 
-pub some-contextual : (v : View) (seen_kind kind raw : ℕ) → seen_kind ≡ (token_at v.input (v.position + 0)).contextual → nat_eq seen_kind raw ≡ true → raw ≡ kind → kind ≢ EOF → 1 ≤ tokens v
-unfolding tokens ahead
-some-contextual v seen_kind kind raw is same e some =
-    some-word (left v) (sym (is ∙ ap (λ (t : Token). t.contextual) (seen-token v 0))) (λ z. some (sym e ∙ sym (eqb-true seen_kind raw same) ∙ z))
-  where
-    some-word : (ts : List Token) → (ahead 0 ts).contextual ≡ seen_kind → seen_kind ≢ EOF → 1 ≤ length ts
-    some-word [] e some = absurd (some (sym e))
-    some-word (t ∷ ts) e some = omega arith
+few-words : (n : ℕ) (ts : List Token) (k : ℕ) → (ahead n ts).contextual ≡ k → k ≢ EOF → n + 1 ≤ length ts
+unfolding ahead
+few-words n [] k e some = absurd (some (sym e))
+few-words zero (t ∷ ts) k e some = omega arith
+few-words (suc n) (t ∷ ts) k e some = omega (arith, few-words n ts k e some)
+
+-- at least `n` + 1 tokens are left if a contextual keyword is `n` tokens ahead
+pub some-contextual : (n : ℕ) (v : View) (seen_kind kind raw : ℕ) → seen_kind ≡ (token_at v.input (v.position + n)).contextual → nat_eq seen_kind raw ≡ true → raw ≡ kind → kind ≢ EOF → n + 1 ≤ tokens v
+unfolding tokens
+some-contextual n v seen_kind kind raw is same e some =
+    few-words n (left v) seen_kind (sym (is ∙ ap (λ (t : Token). t.contextual) (seen-token v n))) (λ z. some (sym e ∙ sym (eqb-true seen_kind raw same) ∙ z))
 
 -- a token of a kind is next
 pub saw-arm : {c : Bool} {n : ℕ} {v : View} {result kind : SyntaxKind} → result ≡ kind → ((k : ℕ) → Saw c (Kind n k) v (raw_of result == k)) → Saw c (Kind n (raw_of kind)) v true
@@ -100,7 +103,7 @@ few-left n [] k e some = absurd (some (sym e))
 few-left zero (t ∷ ts) k e some = omega arith
 few-left (suc n) (t ∷ ts) k e some = omega (arith, few-left n ts k e some)
 
--- so many tokens are left where one is ahead
+-- at least one token is left if the next kind is not `EOF`
 pub left-next : (v : View) (kind : ℕ) → kind ≡ (token_at v.input (v.position + 0)).kind → kind ≢ EOF → 1 ≤ tokens v
 unfolding tokens
 left-next v kind is some = few-left 0 (left v) kind (sym (is ∙ kind-ahead v 0)) some

@@ -14,7 +14,7 @@ use Rattle.rust_productions.specs.Stands.{left, Holds}
 use Rattle.rust_grammar.specs.Meaning.{leaf, say, wrapped}
 use Rattle.rust_productions.specs.Moves.{Opens, Closes, Leaves, Does}
 
--- what a call makes of the open nodes, unless a growth is refused
+-- how a call changes the open nodes, unless an allocation fails
 pub becomes : (f : List Marked → List Marked) (old new : Option (List Marked)) (nodes : List Marked) → Becomes f old new → Holds old nodes → Holds new (f nodes)
 becomes f None None nodes b h = tt
 becomes f None (Some new) nodes b h = absurd b

@@ -30,7 +30,7 @@ so-told (Some true) b e = ap (λ (d : Bool). Some d) (sym e)
 so-told (Some false) true e = absurd (let z : false ≡ true = e in cc)
 so-told (Some false) false e = refl
 
--- of the lowest so many layers, that of this height has an operator here and no other one
+-- of layers 1 to the last argument, only that of height `height` has an operator here
 abbrev pub are_told : List Fact → (height : ℕ) → ℕ → Bool
 are_told fs h zero = true
 are_told fs h (suc k) = is_so (starts fs (operators_at (suc k))) (h == suc k) && are_told fs h k
@@ -49,7 +49,7 @@ one-told fs h (suc n) t k p q =
     or-below fs h n k (one-told fs h n (and_r (is_so (starts fs (operators_at (suc n))) (h == suc n)) (are_told fs h n) t) k p)
     (so-told (starts fs (operators_at (suc n))) (h == suc n) (and_l (is_so (starts fs (operators_at (suc n))) (h == suc n)) (are_told fs h n) t)) q (nat_eq k (suc n)) refl
 
--- a rule is one leaf of this kind over so many tokens
+-- a rule is one leaf of kind `k` over `w` tokens
 abbrev pub is_leaf : Rule → ℕ → ℕ → Bool
 is_leaf (One x) k w = nat_eq x.kind k && nat_eq (length x.parts) w
 is_leaf r k w = false
@@ -61,7 +61,7 @@ reads-leaf c (One x) k w s e =
     ∙ ap (λ (n : ℕ). leaf k n s) (eqb-true (length x.parts) w (and_r (nat_eq x.kind k) (nat_eq (length x.parts) w) e))
 reads-leaf c r k w s e = absurd (let z : false ≡ true = e in cc)
 
--- an operator is told by what is known
+-- the known facts determine the next operator
 pub operator-next :
     {o : Operator} {fs : List Fact} {v : View} (h : ℕ) (k : SyntaxKind) (w : ℕ) → o ≡ record { height = h; kind = k; width = w } → h ≤ 12 → 1 ≤ w → w ≤ tokens v
     → ((c : Bool) → Known c fs v) → are_told fs h 12 ≡ true → is_leaf (simple fs (operators_at h)) (raw_of k) w ≡ true → IsNext o v

@@ -72,7 +72,7 @@ module _ (c : Bool) where
       → AllEnd c allowed → LayersFrom c all allowed entry now → NoTurns c now allowed → Does (λ s. s) now end → Reads c (repeated all) entry end
   last-layers all allowed entry now end ends at none p = at.rest end (record { does = does-as (λ s e. sym (nothing-left allowed now ends none s e)) p })
 
-  -- A production that is these layers around a base: what it gives anew.
+  -- A production that is these layers around a base: what it gives, with nothing given before it.
   abbrev pub Layered : Production → Production → List Rule → Type 0
   Layered x base xs = (s : Reading) → meaning whole x c (fresh s) ≡ does (Then (Call base) (repeated xs)) (fresh s)
 

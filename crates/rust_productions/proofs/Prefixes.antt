@@ -48,7 +48,7 @@ and_r : (x y : Bool) → (x && y) ≡ true → y ≡ true
 and_r true y e = e
 and_r false y e = absurd (let z : false ≡ true = e in cc)
 
--- the same with more given before
+-- a reading with `g` given before its own trees
 abbrev onto : Forest → Reading → Reading
 onto g s = record { given = g then s.given; rest = s.rest }
 

@@ -1,15 +1,15 @@
--- Operations begin with the mark of a range, or with an operand.
+-- Operations begin with a range operator or an operand.
 use Rattle.std.proofs.Common.{◌≡◌, ℕ, ◌≤◌, Bool, true, false, length, Option, Some, None, IfSome, refl, subst, sym, ap, ◌∙◌, arith}
 use Rattle.parser_input.specs.Kinds.{BIN_EXPR, RANGE_EXPR}
 use Rattle.parser_events.specs.View.{View}
 use Rattle.rust_grammar.specs.Calls.{Disjunction, Operation}
-use Rattle.rust_grammar.specs.Expressions.{assignment, body_begins, expressions, range_mark, range_to}
+use Rattle.rust_grammar.specs.Expressions.{assignment, expressions, open_range, range_mark, range_operand, range_to}
 use Rattle.rust_grammar.specs.Items.{items}
 use Rattle.rust_grammar.specs.Meaning.{begins_below, fresh, look_of}
 use Rattle.rust_grammar.specs.Notation.{◌!, any_of, is_longer, no_longer, longest, one_of, row}
 use Rattle.rust_grammar.specs.Paths.{paths}
 use Rattle.rust_grammar.specs.Patterns.{patterns}
-use Rattle.rust_grammar.specs.Rule.{Production, disjunction, expression, operation, operation_tail, pipe_tail, prefixed, Look, Rule, Nothing, One, Then, Or, Node, Wrap, Unless, Continue, Call, begins, in_mode, anew, is_silent, passes, shift, there_at}
+use Rattle.rust_grammar.specs.Rule.{Production, disjunction, expression, operation, operation_tail, pipe_tail, prefixed, Look, Rule, Nothing, One, Then, Or, Node, Wrap, Continue, Call, begins, in_mode, anew, is_silent, passes, shift, there_at}
 use Rattle.rust_grammar.specs.Statements.{statements}
 use Rattle.rust_grammar.specs.Types.{types}
 use Rattle.rust_grammar.specs.Whole.{rule, whole}
@@ -65,9 +65,9 @@ mark-next {c} Inclusive next = next.dots_eq c
 -- the mark and an operand are both there
 pub range-near :
     {c d b : Bool} {old mid : View} (mark : RangeMark) → IsMark (Some mark) old → Reads d (One (spelling_of mark)) old mid
-    → Saw c (begins looks (Unless body_begins Disjunction)) mid b → Saw c (begins looks (range_to (spelling_of mark))) old b
+    → Saw c (begins looks range_operand) mid b → Saw c (begins looks (range_to (spelling_of mark))) old b
 unfolding look_of begins_below whole rule items statements expressions patterns types paths there_at shift passes is_silent begins in_mode anew row one_of any_of no_longer longest is_longer
-range-near mark next p saw = saw-both (mark-next mark next) (saw-ahead (begins looks (Unless body_begins Disjunction)) refl p saw)
+range-near mark next p saw = saw-both (mark-next mark next) (saw-ahead (begins looks range_operand) refl p saw)
 
 pub reads-mark : {c : Bool} {old new : View} (mark : RangeMark) → IsMark (Some mark) old → Reads c (One (spelling_of mark)) old new → Reads c range_mark old new
 unfolding look_of begins_below whole rule items statements expressions patterns types paths there_at shift passes is_silent begins in_mode anew row one_of any_of no_longer longest is_longer
@@ -77,7 +77,7 @@ reads-mark {c} Inclusive next p = reads-here (next.dots_eq c and (next.dots c an
 -- An operation that begins with a range, and the range alone.
 pub reads-range :
     {c : Bool} {old new : View} (mark : RangeMark) → IsMark (Some mark) old → Saw c (begins looks (range_to (spelling_of mark))) old true
-    → Reads c (Then (Node RANGE_EXPR (Then (One (spelling_of mark)) (Unless body_begins Disjunction))) (Continue operation_tail)) old new → Reads c (rule operation) old new
+    → Reads c (Then (Node RANGE_EXPR (Then (One (spelling_of mark)) range_operand)) (Continue operation_tail)) old new → Reads c (rule operation) old new
 unfolding look_of begins_below whole rule items statements expressions patterns types paths there_at shift passes is_silent begins in_mode anew row one_of any_of no_longer longest is_longer
 reads-range {c} Exclusive next near p = reads-here (next.dots_eq c and (next.dots c and (near and nothing))) p
 reads-range {c} Inclusive next near p = reads-here (next.dots_eq c and (next.dots c and (near and nothing))) p
@@ -89,10 +89,25 @@ unfolding look_of begins_below whole rule items statements expressions patterns 
 reads-range-alone {c} Exclusive next near p = reads-here (next.dots_eq c and (next.dots c and (near and nothing))) p
 reads-range-alone {c} Inclusive next near p = reads-here (next.dots_eq c and (next.dots c and (near and nothing))) p
 
--- The same after an operand.
+-- A range without a start as an operand, and its mark alone.
+pub reads-open-range :
+    {c : Bool} {old new : View} (mark : RangeMark) → IsMark (Some mark) old → Saw c (begins looks (range_to (spelling_of mark))) old true
+    → Reads c (Then (One (spelling_of mark)) range_operand) old new → Reads c open_range old new
+unfolding look_of begins_below whole rule items statements expressions patterns types paths there_at shift passes is_silent begins in_mode anew row one_of any_of no_longer longest is_longer
+reads-open-range {c} Exclusive next near p = reads-here (next.dots_eq c and (next.dots c and (near and nothing))) p
+reads-open-range {c} Inclusive next near p = reads-here (next.dots_eq c and (next.dots c and (near and nothing))) p
+
+pub reads-open-range-alone :
+    {c : Bool} {old new : View} (mark : RangeMark) → IsMark (Some mark) old → Saw c (begins looks (range_to (spelling_of mark))) old false
+    → Reads c (One (spelling_of mark)) old new → Reads c open_range old new
+unfolding look_of begins_below whole rule items statements expressions patterns types paths there_at shift passes is_silent begins in_mode anew row one_of any_of no_longer longest is_longer
+reads-open-range-alone {c} Exclusive next near p = reads-here (next.dots_eq c and (next.dots c and (near and nothing))) p
+reads-open-range-alone {c} Inclusive next near p = reads-here (next.dots_eq c and (next.dots c and (near and nothing))) p
+
+-- A range operator after an operand, with an end and alone.
 pub reads-range-on :
     {c : Bool} {old new : View} (mark : RangeMark) → IsMark (Some mark) old → Saw c (begins looks (range_to (spelling_of mark))) old true
-    → Reads c (Then (Wrap RANGE_EXPR (Then (One (spelling_of mark)) (Unless body_begins Disjunction))) (Continue operation_tail)) old new → Reads c (rule operation_tail) old new
+    → Reads c (Then (Wrap RANGE_EXPR (Then (One (spelling_of mark)) range_operand)) (Continue operation_tail)) old new → Reads c (rule operation_tail) old new
 unfolding look_of begins_below whole rule items statements expressions patterns types paths there_at shift passes is_silent begins in_mode anew row one_of any_of no_longer longest is_longer
 reads-range-on {c} Exclusive next near p = reads-here (next.dots_eq c and (next.dots c and (near and nothing))) p
 reads-range-on {c} Inclusive next near p = reads-here (next.dots_eq c and (next.dots c and (near and nothing))) p
@@ -123,7 +138,7 @@ pub reads-no-assignment :
 unfolding begins passes is_silent operators_at operators
 reads-no-assignment {c} saw p = reads-else c saw (reads-nothing c p)
 
--- One more operand after `|>`, and what stands after that.
+-- One more operand after `|>`, and the tail after it.
 pub reads-pipe :
     {c : Bool} {old new : View} → Saw c (begins looks (operators_at 11)) old true → Reads c (Then (Wrap BIN_EXPR (Then (operators_at 11) (Disjunction !))) (Continue pipe_tail)) old new → Reads c (rule pipe_tail) old new
 unfolding rule items statements expressions patterns types paths begins passes is_silent operators_at operators
@@ -170,7 +185,7 @@ pub gives-expression : {c : Bool} {old new : View} → Gives operation c old new
 unfolding rule items statements expressions patterns types paths
 gives-expression {c} p = gives-anew (anew-after refl (reads-call c p))
 
--- An operation of operands: one, the turns of all layers after it, and what stands after those.
+-- An operation that begins with an operand: the operand, the turns of all layers after it, and the tail.
 pub gives-operands :
     {c : Bool} {old mid now next end new : View} → IsMark None old → Saw c (looks prefixed) old true → Opens old mid → Reads c (Call prefixed) mid now
     → Reads c (repeated (turns_from 10 1)) now next → Reads c (Continue operation_tail) next end → Leaves end new → Gives operation c old new

@@ -97,7 +97,7 @@ ends-at-end c a is t none = subst (λ (o : Option Bool). Right c t (begins looks
     known [] e = (refl, (refl, tt))
     known (x ∷ ts) e = absurd (let z : suc (length ts) ≡ 0 = e in cc)
 
--- the same, by its row
+-- whether a production begins here, if the known facts tell whether its rule does
 pub begins-row : (x : Production) {c : Bool} {fs : List Fact} {b : Bool} {v : View} → Known c fs v → starts fs (rule x) ≡ Some b → Saw c (looks x) v b
 unfolding fresh
 begins-row x {c} {fs} {b} {v} known is = record {

@@ -6,8 +6,8 @@ use Rattle.parser_events.specs.View.{View}
 use Rattle.rust_grammar.specs.Meaning.{Reading}
 use Rattle.rust_productions.specs.Stands.{left, Holds}
 
--- The tokens left, and the trees of the innermost node unless a growth was refused, become what this makes of them. The node
--- that was the innermost is so again.
+-- `f` maps the remaining tokens, and the trees of the innermost node unless an allocation failed, to the new ones. The
+-- innermost node stays the innermost.
 pub record Does (f : Reading → Reading) (old new : View) : Type 0 where
   pub input : new.input ≡ old.input
   pub rest : (s : Reading) → left old ≡ s.rest → left new ≡ (f s).rest

@@ -8,7 +8,7 @@ use Rattle.parser_events.specs.View.{View}
 abbrev pub left : View → List Token
 left v = drop v.position v.input
 
--- These are the open nodes, unless a growth was refused.
+-- The open nodes are `nodes`, unless an allocation failed.
 abbrev pub Holds : Option (List Marked) → List Marked → Type 0
 Holds None nodes = Unit {0}
 Holds (Some open_nodes) nodes = open_nodes ≡ nodes

@@ -26,6 +26,7 @@ use parser_input::syntax_kind::SyntaxKind;
 
 pub mod attributes;
 pub mod const_args;
+pub mod expression_words;
 pub mod expressions;
 pub mod fields;
 pub mod generic_args;
@@ -34,7 +35,9 @@ pub mod item_words;
 pub mod items;
 pub mod lists;
 pub mod macros;
+pub mod match_arms;
 pub mod names;
+pub mod operands;
 pub mod operators;
 pub mod params;
 pub mod paths;
@@ -111,6 +114,7 @@ pub fn at_contextual(p: &mut Parser<'_>, kind: SyntaxKind) -> bool
 /// keyword.
 pub(crate) fn at_second_contextual(p: &mut Parser<'_>, kind: SyntaxKind) -> bool
     ensures sees { (c : Bool) → Saw c (Contextual 1 (raw_of kind)) p.old result }
+    ensures some { IsTrue result → raw_of kind ≢ kinds.EOF → 2 ≤ tokens p.old }
     ensures same { Does (λ s. s) p.old p.new }
     ensures stays { Stays p.old p.new }
 {

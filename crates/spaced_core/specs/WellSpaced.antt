@@ -61,7 +61,7 @@ abbrev pub AreSpaced : Edition → List Leaf → Type 0
 AreSpaced edition [] = Unit {0}
 AreSpaced edition (l ∷ ls) = IsWritten edition l × (is_parted l ls ≡ true) × AreSpaced edition ls
 
--- the leaves of a forest, from front to end
+-- the leaves of a forest, from left to right
 abbrev pub leaves_of : Forest → List Leaf
 leaves_of empty = []
 leaves_of (node k f r) = leaves_of f ++ leaves_of r

@@ -10,8 +10,8 @@ use Rattle.tree_rewrite.proofs.OrderLemmas.{same_way-sound, same_way-own}
 use Rattle.syntax_editor.specs.Calls.{is_one_gap, is_one_way}
 use Rattle.syntax_editor.specs.Recording.{is_empty, is_single_at, over, with_single}
 
--- what a call asks for, where it is not refused: elements come into a gap; a row of siblings, told by its first and by how many more there
--- are, becomes these; an element, named alone, becomes these
+-- what a call asks for, if it is not refused: elements are inserted into a gap; a range of siblings, by its first and by the number of
+-- those after it, becomes these; an element, named alone, becomes these
 pub data Asked : Type 0 where
   into_gap : (parent : Way) → (index : ℕ) → (new : List Element) → Asked
   for_row : (first : Way) → (more : ℕ) → (new : List Element) → Asked
@@ -89,7 +89,7 @@ near-back cs ds (inr s) = inr (record {
   single = λ w x y. s.single w y x;
 })
 
--- ---- what stands in the place of a change of an element named alone
+-- ---- what replaces a change of an element named alone
 over_case : (P : Change → Type 0) (c r : Change) → P c → P r → P (over c r)
 over_case P c r h g = by_test (is_empty (payload_of c))
   where
@@ -195,7 +195,7 @@ two_pushed cs c d far single = inr (record {
   single = single;
 })
 
--- a change last of all, which is not of one element named alone
+-- a change at the end, which is not of one element named alone
 push_single : (cs : List Change) (c : Change) (w : Way) (new : List Element) → ((v : Way) → is_single_at v c ≡ false) → Near (with_single (cs ++ c ∷ []) w new) (with_single cs w new ++ c ∷ [])
 push_single [] c w new h = by_test (is_single_at w c) (h w)
   where

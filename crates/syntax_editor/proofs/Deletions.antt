@@ -1,16 +1,15 @@
--- Attributes and comments, one child after another; changes recorded again, and deletions, one after another.
-use Rattle.std.proofs.Common.{◌≡◌, List, [], ◌∷◌, ◌++◌, map, Bool, true, false, cond, refl, ap, sym, ◌∙◌, subst, append_assoc}
+-- Attributes and comments, one child after another; copies of changes; deletions, one after another.
+use Rattle.std.proofs.Common.{◌≡◌, List, [], ◌∷◌, ◌++◌, Bool, true, false, cond, refl, ap, sym, ◌∙◌, subst, append_assoc}
 use Rattle.syntax_tree.specs.Element.{Element}
 use Rattle.syntax_tree.specs.declared.element.SyntaxElement.{SyntaxElement}
 use Rattle.tree_rewrite.specs.Change as seen
 use Rattle.tree_rewrite.specs.Recorded.{recorded, IsOrdered}
 use Rattle.tree_rewrite.specs.declared.change.Change.{Change}
-use Rattle.syntax_tree.specs.Handle.{element_of}
-use Rattle.syntax_editor.specs.Attrs.{is_attr_or_doc, goes, going, attrs_and_docs, and_next, deleting_each, removing_attrs}
+use Rattle.syntax_editor.specs.Attrs.{is_attr_or_doc, goes, going, and_next, deleting_each}
 use Rattle.syntax_editor.specs.Between.{kind_of}
-use Rattle.syntax_editor.specs.Editing.{Editing, untouched, with_changes}
+use Rattle.syntax_editor.specs.Editing.{Editing, with_changes}
 use Rattle.syntax_editor.specs.Inside.{IsSound, IsOwn}
-use Rattle.syntax_editor.specs.Recording.{Recording, Foreign, Recorded, is_target, replacing}
+use Rattle.syntax_editor.specs.Recording.{Recorded, replacing}
 use Rattle.syntax_editor.specs.Refusal.{RefusesRecord}
 use Rattle.syntax_editor.specs.declared.error.RecordError.{RecordError}
 use Rattle.syntax_editor.specs.declared.error.RecordError.TheVariants as records
@@ -32,18 +31,13 @@ going-next done more left rest all e after own it first is_own is_it pushed so_f
     by_test true = append_assoc done (e ∷ []) (going (is_attr_or_doc (kind_of e)) rest)
     by_test false = refl
 
--- ---- a change recorded again
+-- ---- a copy of a change
 pub sound-again : (top : Element) (c d : Change) → recorded d ≡ recorded c → (IsOrdered c → IsOrdered d) → (IsOwn top c → IsOwn top d) → IsSound top c → IsSound top d
 sound-again top c d same ordered own h = record {
   own = own h.own;
   ordered = ordered h.ordered;
   keeps = subst seen.KeepsRoot (sym same) h.keeps;
 }
-
-pub pushed-next : (e f g : Editing) (cs ds : List seen.Change) (c : seen.Change) → f ≡ with_changes e (cs ++ ds) → g ≡ with_changes f (f.changes ++ c ∷ [])
-    → g ≡ with_changes e (cs ++ (ds ++ c ∷ []))
-pushed-next e f g cs ds c h k =
-    k ∙ ap (λ (x : Editing). with_changes x (x.changes ++ c ∷ [])) h ∙ ap (with_changes e) (append_assoc cs ds (c ∷ []))
 
 -- ---- one deletion more
 pub deleted-next : (e f : Editing) (x : Element) (xs : List Element) → replacing e x [] ≡ Recorded f.changes → f ≡ with_changes e f.changes
@@ -54,30 +48,9 @@ deleted-next e f x xs h k =
 pub deleted-rest : (e f g : Editing) → f ≡ with_changes e f.changes → g ≡ with_changes f g.changes → g ≡ with_changes e g.changes
 deleted-rest e f g h k = k ∙ ap (λ (v : Editing). with_changes v g.changes) h
 
--- a refusal of one refuses all
+-- if one is refused, all are
 pub refused-next : (e : Editing) (x : Element) (xs : List Element) (r : RecordError) → RefusesRecord (replacing e x []) r → RefusesRecord (deleting_each e (x ∷ xs)) r
 refused-next e x xs records.Foreign h = ap (λ r. and_next r (λ cs. deleting_each (with_changes e cs) xs)) h
 refused-next e x xs records.BadRange h = ap (λ r. and_next r (λ cs. deleting_each (with_changes e cs) xs)) h
 refused-next e x xs records.BadTarget h = ap (λ r. and_next r (λ cs. deleting_each (with_changes e cs) xs)) h
 refused-next e x xs records.NoMemory h = tt
-
--- what is deleted goes by the root and the changes alone
-pub draft-same : (e : Editing) (xs : List Element) → deleting_each (with_changes (untouched e.top) e.changes) xs ≡ deleting_each e xs
-draft-same e [] = refl
-draft-same e (x ∷ xs) = ap (and_next (replacing e x [])) (λ i cs. draft-same (with_changes e cs) xs i)
-
-pub draft-recorded : (e d f : Editing) (xs : List Element) → d ≡ with_changes (untouched e.top) e.changes → deleting_each d xs ≡ Recorded f.changes → deleting_each e xs ≡ Recorded f.changes
-draft-recorded e d f xs is h = sym (draft-same e xs) ∙ ap (λ v. deleting_each v xs) (sym is) ∙ h
-
-pub draft-refused : (e d : Editing) (xs : List Element) (r : RecordError) → d ≡ with_changes (untouched e.top) e.changes → RefusesRecord (deleting_each d xs) r → RefusesRecord (deleting_each e xs) r
-draft-refused e d xs r is h = subst (λ o. RefusesRecord o r) (ap (λ v. deleting_each v xs) is ∙ draft-same e xs) h
-
-pub draft-top : (e d f : Editing) → d ≡ with_changes (untouched e.top) e.changes → f ≡ with_changes d f.changes → f.top ≡ e.top
-draft-top e d f is h = ap (λ (v : Editing). v.top) h ∙ ap (λ (v : Editing). v.top) is
-
--- a node of the tree
-pub removed-own : (e : Editing) (n : Element) (r : Recording) → is_target e.top n ≡ true → deleting_each e (map element_of (attrs_and_docs n)) ≡ r → removing_attrs e n ≡ r
-removed-own e n r own h = ap (λ b. cond b (deleting_each e (map element_of (attrs_and_docs n))) Foreign) own ∙ h
-
-pub removed-foreign : (e : Editing) (n : Element) → is_target e.top n ≡ false → removing_attrs e n ≡ Foreign
-removed-foreign e n own = ap (λ b. cond b (deleting_each e (map element_of (attrs_and_docs n))) Foreign) own

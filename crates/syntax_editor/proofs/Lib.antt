@@ -8,6 +8,7 @@ pub mod Spaces
 pub mod FoundAgain
 pub mod GroupLemmas
 pub mod Deletions
+pub mod UndoLemmas
 pub mod Swaps
 pub mod Asked
 pub mod CallLemmas

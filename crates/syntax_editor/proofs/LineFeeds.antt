@@ -5,7 +5,7 @@ use Rattle.std.proofs.lemmas.Bool.Decides.{nat_tests}
 use Rattle.std.proofs.lemmas.List.{at_drop_more, at_drop_all}
 use Rattle.syntax_editor.specs.Indent.{after_line_feed}
 
--- what stands after the last line feed, where before these characters one was found, or none, and so many after it
+-- the characters after the last line feed, if before `cs` one was found, with `k` characters after it, or none
 abbrev pub since : Bool → ℕ → List ℕ → Option ℕ
 since found k cs = option_or (after_line_feed cs) (cond found (Some (k + length cs)) None)
 

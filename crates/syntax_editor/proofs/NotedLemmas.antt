@@ -24,7 +24,7 @@ single-of v (replace f n new s) h w =
     let parts = and_parts s (same_way f v) h in
     ap (λ b. b && same_way f w) parts.0 ∙ nat_list_eq_equiv.congr f v w parts.1
 
--- a single change of the element at a way
+-- a single change of the element at a path
 pub single-own : (s : Bool) (f v : Way) → s ≡ true → v ≡ f → (s && same_way f v) ≡ true
 single-own s f v h is = ap (λ b. b && same_way f v) h ∙ (bytes_decides f v).1 (sym is)
 

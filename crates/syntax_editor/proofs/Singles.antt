@@ -14,7 +14,7 @@ use Rattle.syntax_editor.specs.Recording.{is_single_at, is_empty, over, with_sin
 use Rattle.syntax_editor.specs.Noted.{first_single}
 use Rattle.syntax_editor.proofs.NotedLemmas.{single-of, first-there}
 
--- where none is there, one more comes last of all
+-- if there is none, one more is appended
 pub with_single-none : (cs : List Change) (w : Way) (new : List Element) → first_single w cs ≡ None → with_single cs w new ≡ cs ++ replace w 0 new true ∷ []
 with_single-none [] w new h = refl
 with_single-none (c ∷ cs) w new h = by_test (is_single_at w c) (first_single w cs) (λ e. with_single-none cs w new e) refl h
@@ -40,7 +40,7 @@ with_single-some (c ∷ cs) w new n d h = by_test (is_single_at w c) (first_sing
         let z : suc k ≡ n = cc in
         subst (λ j. c ∷ with_single cs w new ≡ set (c ∷ cs) j (over (get_or (c ∷ cs) j d) (replace w 0 new true))) z (ap (λ l. c ∷ l) (rest k e))
 
--- a change in the place of one that puts in something
+-- a change that replaces one that inserts something
 pub over_new :
     (items : List declared.Change) (cs : List Change) (n : ℕ) (old new : declared.Change) → map recorded items ≡ cs → old ≡ get_or items n old → n < length items → is_empty (payload_of (recorded old)) ≡ false
     → map recorded (set items n new) ≡ set cs n (over (get_or cs n (recorded new)) (recorded new))

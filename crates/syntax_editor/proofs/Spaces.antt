@@ -1,4 +1,4 @@
--- White space by what stands before a gap.
+-- Whitespace by the child before a gap.
 use Rattle.std.proofs.Common.{◌≡◌, ◌≢◌, ℕ, zero, suc, ◌-◌, false, cond, Some, refl, ap, ◌∙◌, arith}
 use Rattle.std.specs.Option.{option_map_or}
 use Rattle.rowan.specs.Place.{kind_at}

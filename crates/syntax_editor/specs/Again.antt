@@ -9,10 +9,11 @@ use Rattle.syntax_editor.specs.Rewriting.{rewriting}
 abbrev pub numbered : Annotated → Element × ℕ
 numbered a = (a.element, a.annotation)
 
--- the ways in the rewritten tree of the elements that come from annotated ones, with the numbers of the annotations; by order of annotation, then of the tree
+-- the paths in the rewritten tree of the elements that come from annotated ones, with the numbers of the annotations; by order of
+-- annotation, then of the tree
 abbrev pub found_again : Editing → List (Way × ℕ)
 found_again e = annotated e.mapping (map numbered e.annotations) (rewriting e)
 
--- the element at such a way of a root's tree, with its annotation
+-- the element at such a path of a root's tree, with its annotation
 abbrev pub annotated_at : Element → Way × ℕ → Annotated
 annotated_at root x = record { annotation = x.1; element = element_at root.number root.place.root x.0 }

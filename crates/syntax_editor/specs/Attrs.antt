@@ -14,11 +14,11 @@ use Rattle.syntax_editor.specs.Recording.{Recording, Foreign, BadRange, BadTarge
 abbrev pub is_attr_or_doc : ℕ → Bool
 is_attr_or_doc kind = kind == ATTR || kind == COMMENT
 
--- an element of a kind goes: an attribute, a comment, or white space `after` one of those
+-- an element of a kind goes: an attribute, a comment, or whitespace `after` one of those
 abbrev pub goes : Bool → ℕ → Bool
 goes after kind = is_attr_or_doc kind || (after && kind == WHITESPACE)
 
--- those of some neighbours that go; `after`: an attribute or a comment stands right before the first of them
+-- those of some neighbours that go; `after`: an attribute or a comment is right before the first of them
 abbrev pub going : Bool → List SyntaxElement → List SyntaxElement
 going after [] = []
 going after (e ∷ es) =
@@ -40,6 +40,6 @@ abbrev pub deleting_each : Editing → List Element → Recording
 deleting_each e [] = Recorded e.changes
 deleting_each e (x ∷ xs) = and_next (replacing e x []) (λ cs. deleting_each (with_changes e cs) xs)
 
--- the attributes and comments of a node of the edited tree are deleted, and the white space right after them
+-- the attributes and comments of a node of the edited tree are deleted, and the whitespace right after them
 abbrev pub removing_attrs : Editing → Element → Recording
 removing_attrs e n = if is_target e.top n then deleting_each e (map element_of (attrs_and_docs n)) else Foreign

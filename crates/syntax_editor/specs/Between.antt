@@ -1,4 +1,4 @@
--- The white space between two neighbours.
+-- The whitespace between two neighbours.
 use Rattle.std.specs.Prelude.{ℕ, max, Bool, ◌&&◌, ◌||◌, ◌==◌, if◌then◌else◌}
 use Rattle.parser_input.specs.Kinds.{WHITESPACE, SEMICOLON, COMMA, L_ANGLE, R_ANGLE, AMP, LIFETIME, GENERIC_ARG_LIST, USE, ATTR}
 use Rattle.rowan.specs.Place.{kind_at}

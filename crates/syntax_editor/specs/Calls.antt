@@ -12,12 +12,12 @@ pub data Call : Type 0 where
   replacement : (old : Element) → (new : List Element) → Call
   -- an element becomes as many as there are
   replacement_by_many : (old : Element) → (new : List Element) → Call
-  -- a row of siblings, by its ends, becomes these
+  -- a range of siblings, by its ends, becomes these
   row_replacement : (first : Element) → (last : Element) → (new : List Element) → Call
-  -- a row of siblings, by its ends, is deleted
+  -- a range of siblings, by its ends, is deleted
   row_deletion : (first : Element) → (last : Element) → Call
 
--- what becomes of it
+-- the result of a call on an editor
 abbrev pub becomes : Editing → Call → Recording
 becomes e (insertion p i new) = inserting e p i new
 becomes e (replacement old new) = replacing e old new

@@ -4,8 +4,8 @@ use Rattle.std.specs.List.{filter}
 use Rattle.syntax_tree.specs.Element.{Element}
 use Rattle.syntax_editor.specs.Editing.{Annotated}
 
--- The roots of the old tree and of the new one; where what was put in begins and ends; where each element of the new tree came from;
--- the elements of it that were put in; and those that come from annotated ones, with the annotations.
+-- The roots of the old tree and of the new one; the ranges of inserted elements; the origin of each element of the new tree; its inserted
+-- elements; and those that come from annotated ones, with the annotations.
 pub record Edit : Type 0 where
   pub old_root : Element
   pub new_root : Element

@@ -31,7 +31,7 @@ untouched top = record { top = top; changes = []; mapping = []; annotations = []
 abbrev pub with_changes : Editing → List Change → Editing
 with_changes e cs = record { top = e.top; changes = cs; mapping = e.mapping; annotations = e.annotations }
 
--- a root is edited itself; of an inner node a copy is, as a tree of its own of this number
+-- a root is edited itself; of an inner node a copy is, as a new tree of this number
 abbrev pub IsEdited : Element → ℕ → Element → Type 0
 IsEdited e n top = is_edited e.place.up
   where

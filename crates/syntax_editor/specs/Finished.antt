@@ -1,4 +1,4 @@
--- What an edit tells of the edited tree with all changes made.
+-- The edit that belongs to the edited tree with all changes applied.
 use Rattle.std.specs.Prelude.{◌≡◌, ℕ, [], map}
 use Rattle.rowan_green.specs.Forest.{Tree}
 use Rattle.syntax_tree.specs.Element.{element_at}

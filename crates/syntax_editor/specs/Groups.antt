@@ -1,4 +1,4 @@
--- Elements by the numbers of their annotations, as the code has them.
+-- Elements by the numbers of their annotations: a model of the code.
 use Rattle.std.specs.Prelude.{ℕ, nat_eq, List, [], Option, None, Some, Vec}
 use Rattle.std.specs.HashMap.{get, HashMap}
 

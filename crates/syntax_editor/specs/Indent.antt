@@ -1,4 +1,4 @@
--- How far lines are set in.
+-- The indentation of lines.
 use Rattle.std.specs.Prelude.{ℕ, ◌*◌, ◌/◌, ◌==◌, min, List, [], ◌∷◌, length, replicate, chars, Option, Some, None, option_map, unwrap_or, if◌then◌else◌}
 use Rattle.std.specs.Option.{option_or}
 use Rattle.parser_input.specs.Kinds.{WHITESPACE}
@@ -28,7 +28,7 @@ after_line_feed (c ∷ cs) = option_or (after_line_feed cs) (if c == line_feed t
 abbrev pub steps_of : ℕ → ℕ
 steps_of n = min (n / 4) 255
 
--- white space with a line feed has the level of the characters after the last
+-- whitespace with a line feed has the level of the characters after the last
 abbrev pub own_level : Place → Option ℕ
 own_level p = if kind_at p == WHITESPACE then option_map steps_of (after_line_feed (chars (text_at p))) else None
 

@@ -1,4 +1,4 @@
--- Recorded changes, as the code has them.
+-- Recorded changes: a model of the code.
 use Rattle.std.specs.Prelude.{◌≡◌, List, [], map, Option, option_map, true}
 use Rattle.syntax_tree.specs.Element.{Element, term_of}
 use Rattle.syntax_tree.specs.Mapping.{Mapping}
@@ -29,17 +29,17 @@ pub record IsSound (top : Element) (c : declared.Change) : Type 0 where
 abbrev pub annotated : SyntaxElement × SyntaxAnnotation → Annotated
 annotated a = record { annotation = a.1.number; element = element_of a.0 }
 
--- the element, if anything stands there
+-- the element, if there is one
 abbrev pub standing : Element → Option Element
 standing e = option_map (λ _. e) (term_of e)
 
--- the ends of a row of siblings of this tree
+-- the ends of a range of siblings of this tree
 pub record IsOwnRow (top first last : Element) : Type 0 where
   pub first_own : IsOf top first
   pub last_own : IsOf top last
   pub in_order : are_in_order first.place.up last.place.up ≡ true
 
--- these are the ends, in the edited tree, of the row that two handles name
+-- these are the ends, in the edited tree, of the range that two handles name
 pub record IsRow (e : Editing) (a b first last : Element) : Type 0 where
   pub own : IsOwnRow e.top first last
   pub becomes : (new : List Element) (alone : Recording) → ranging e a b new alone ≡ and_then e (row_becomes first last new)

@@ -1,4 +1,4 @@
--- What an editor lends.
+-- What an editor returns a reference to.
 use Rattle.std.specs.Borrow.{Lends, MutBor, Fml}
 use Rattle.syntax_tree.specs.Mapping.{Mapping}
 use Rattle.syntax_tree.specs.contracts.mapping.SyntaxMapping.{the_row as mapping_row}

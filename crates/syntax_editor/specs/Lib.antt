@@ -4,6 +4,7 @@ pub mod Rewriting
 pub mod Refusal
 pub mod Inside
 pub mod Noted
+pub mod Undo
 pub mod Lending
 pub mod Making
 pub mod Indent

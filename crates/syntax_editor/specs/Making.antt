@@ -6,7 +6,7 @@ use Rattle.syntax_tree.specs.declared.error.TreeError.TheVariants as trees
 use Rattle.syntax_editor.specs.declared.make_error.MakeError.{MakeError}
 use Rattle.syntax_editor.specs.declared.make_error.MakeError.TheVariants.{NoMemory, NoTreeNumber, TooLong}
 
--- too long only where the text is; then for want of a number only where none is left; out of memory at any point
+-- `TooLong` only if the text is; then `NoTreeNumber` only if no number is left; `NoMemory` at any point
 abbrev pub RefusesMake : List ℕ → ℕ → MakeError → Type 0
 RefusesMake text number NoMemory = Unit {0}
 RefusesMake text number NoTreeNumber = FitsToken text × (number ≡ 2 ^ 32)

@@ -1,4 +1,4 @@
--- What becomes of a change that is asked for.
+-- The result of a call that records.
 use Rattle.std.specs.Prelude.{ℕ, ◌-◌, List, [], ◌∷◌, ◌++◌, Bool, true, false, ◌&&◌, not, nat_eq, nat_le, if◌then◌else◌}
 use Rattle.std.specs.List.{list_any}
 use Rattle.rowan.specs.Place.{index_of, term_by}
@@ -10,15 +10,15 @@ use Rattle.syntax_editor.specs.Editing.{Editing}
 
 -- ---- what is named
 
--- the element's way leads in the edited tree to an element of its kind
+-- the element's path leads in the edited tree to an element of its kind
 abbrev pub is_target : Element → Element → Bool
 is_target top x = nat_eq x.number top.number && same_kind (term_by top.place.root x.place.up) (term_of x)
 
--- the element that a gap of this number stands after; the node itself where that is the first gap
+-- the element before the gap with this index; the node itself if that is the first gap
 abbrev pub anchor : Element → ℕ → Element
 anchor p i = if nat_eq i 0 then p else element_at p.number p.place.root ((i - 1) ∷ p.place.up)
 
--- the gap is one of the edited tree
+-- the gap is in the edited tree
 abbrev pub is_gap : Element → Element → ℕ → Bool
 is_gap top p i = is_target top (anchor p i) && is_node (term_by top.place.root p.place.up)
 
@@ -53,16 +53,16 @@ is_single_at w (replace first n new single) = single && same_way first w
 abbrev pub is_deletion_at : Way → Change → Bool
 is_deletion_at w c = is_single_at w c && is_empty (payload_of c)
 
--- a change in the place of an earlier one; a deletion stays
+-- a change that replaces an earlier one; a deletion stays
 abbrev pub over : Change → Change → Change
 over old new = if is_empty (payload_of old) then old else new
 
--- the changes with one more, of an element named alone: in the place of the first that is one of that element, else last of all
+-- the changes with one more, of an element named alone: it replaces the first that is one of that element, else it is appended
 abbrev pub with_single : List Change → Way → List Element → List Change
 with_single [] w new = replace w 0 new true ∷ []
 with_single (c ∷ cs) w new = if is_single_at w c then over c (replace w 0 new true) ∷ cs else c ∷ with_single cs w new
 
--- ---- what becomes of a call: the first case that fits
+-- ---- the result of a call: the first case that fits
 
 pub data Recording : Type 0 where
   -- an element or a gap is not one of the edited tree
@@ -95,11 +95,11 @@ replacing_many e old new =
     else if is_root old.place.up then BadTarget
     else and_then e (replace old.place.up 0 new false)
 
--- a row of siblings, by its ends, becomes these
+-- a range of siblings, by its ends, becomes these
 abbrev pub row_becomes : Element → Element → List Element → Change
 row_becomes first last new = replace first.place.up (index_of last.place - index_of first.place) new false
 
--- a row of siblings by its ends; where both are one element, that alone
+-- a range of siblings by its ends; if both are one element, that alone
 abbrev pub ranging : Editing → Element → Element → List Element → Recording → Recording
 ranging e first last new alone =
     if not (is_target e.top first && is_target e.top last) then Foreign

@@ -31,7 +31,7 @@ record_message records.BadRange = codes "the ends are not children of one parent
 record_message records.BadTarget = codes "the root can only be replaced by one node"
 record_message records.NoMemory = codes "out of memory"
 
--- only an editor of this tree, by number and by what stands there, is merged; out of memory only after that
+-- only an editor of this tree, by number and by green tree, is merged; out of memory only after that
 abbrev pub RefusesMerge : Element → Element → MergeError → Type 0
 RefusesMerge top other merges.Foreign = IsOf top other → ⊥
 RefusesMerge top other merges.NoMemory = IsOf top other
@@ -58,7 +58,7 @@ finish_message finishes.TooLong = codes "too long"
 finish_message finishes.NoTreeNumber = codes "no tree number is left"
 finish_message finishes.NoMemory = codes "out of memory"
 
--- a refusal of a plan, of a tree, of a rewriting, as a later call tells it
+-- the error of a plan, of a tree, of a rewriting, as a later call returns it
 abbrev pub of_plan : PlanError → RewriteError
 of_plan plans.Intersecting = rewrites.Intersecting
 of_plan plans.MissingMapping = rewrites.MissingMapping

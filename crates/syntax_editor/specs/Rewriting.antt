@@ -1,4 +1,4 @@
--- The edited tree with all recorded changes made, and why it is refused.
+-- The edited tree with all recorded changes applied, and the errors if there is none.
 use Rattle.std.specs.Prelude.{◌≡◌, ℕ, ◌^◌, None, true, false}
 use Rattle.tree_rewrite.specs.Change.{has_collision}
 use Rattle.tree_rewrite.specs.Fits.{new_fits}
@@ -10,7 +10,7 @@ use Rattle.syntax_editor.specs.declared.error.RewriteError.TheVariants as rewrit
 use Rattle.syntax_editor.specs.declared.error.FinishError.{FinishError}
 use Rattle.syntax_editor.specs.declared.error.FinishError.TheVariants as finishes
 
--- the tree with all changes made at once
+-- the tree with all changes applied
 abbrev pub rewriting : Editing → Marked
 rewriting e = rewrite e.top e.changes e.mapping
 

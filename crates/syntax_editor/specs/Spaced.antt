@@ -1,4 +1,4 @@
--- White space around what is put into a gap.
+-- Whitespace around elements that are inserted into a gap.
 use Rattle.std.specs.Prelude.{◌≡◌, ℕ, zero, suc, ◌+◌, ◌-◌, ◌<◌, ◌^◌, min, List, [], ◌∷◌, ◌++◌, map, length, slice_get, Bool, true, false, ◌&&◌, ◌||◌, ◌==◌, Option, if◌then◌else◌}
 use Rattle.std.specs.List.{list_any}
 use Rattle.std.specs.Option.{option_map_or}
@@ -20,7 +20,7 @@ use Rattle.syntax_editor.specs.declared.error.WhitespaceError.TheVariants.{Forei
 use Rattle.syntax_editor.specs.declared.whitespace.Space.{Space}
 use Rattle.syntax_editor.specs.declared.whitespace.Space.TheVariants.{Nothing, Blank, Line}
 
--- ---- which white space
+-- ---- which whitespace
 
 abbrev pub statement_kinds : List ℕ
 statement_kinds =
@@ -43,7 +43,7 @@ child p i = slice_get (map (with_cursor p.number) (children p.place)) i
 abbrev pub inner_line : Element → Space
 inner_line p = Line (min (level_of (Node p) + 1) 255)
 
--- what comes between a child and an element that is put after it
+-- what comes between a child and an element that is inserted after it
 abbrev pub space_between : Element → SyntaxElement → SyntaxElement → Space
 space_between p previous e =
     if begins_line (kind_at p.place) (kind_of previous) (kind_of e) then inner_line p else between previous e
@@ -71,7 +71,7 @@ text_of Nothing = []
 text_of Blank = space ∷ []
 text_of (Line n) = line_feed ∷ spaces n
 
--- the token of white space of this text, in a tree of its own of this number
+-- the whitespace token of this text, in a new tree of this number
 abbrev pub white_space : ℕ → List ℕ → Element
 white_space n text = element_at n (tree_of TOMBSTONE (Token (record { kind = WHITESPACE; text = text }) ∷ [])) (0 ∷ [])
 
@@ -84,7 +84,7 @@ abbrev pub token_count : List ℕ → ℕ
 token_count [] = 0
 token_count (c ∷ cs) = 1
 
--- ---- what is put in
+-- ---- the inserted elements
 
 -- the elements with the tokens around them, whose trees have numbers from this one on
 abbrev pub spaced : Element → ℕ → ℕ → List SyntaxElement → List Element
@@ -96,11 +96,11 @@ spaced p i n es =
 abbrev pub spaced_count : Element → ℕ → List SyntaxElement → ℕ
 spaced_count p i es = token_count (text_of (space_before_all p i es)) + token_count (text_of (space_after_all p i es))
 
--- the node of this tree at the way of a position's parent
+-- the node of this tree at the path of a position's parent
 abbrev pub own : Element → Element → Element
 own top p = element_at top.number top.place.root p.place.up
 
--- what becomes of elements that are put into a gap with white space around them
+-- the result of inserting elements into a gap with whitespace around them
 abbrev pub inserting_spaced : Editing → Element → ℕ → ℕ → List SyntaxElement → Recording
 inserting_spaced e p i n es = inserting e p i (spaced (own e.top p) i n es)
 
@@ -110,8 +110,8 @@ number_after e p i n es = n + spaced_count (own e.top p) i es
 
 -- ---- when it is refused
 
--- as foreign only where the gap is none of this tree; for want of numbers only where it is one, and the number that is to be next lies
--- past the last; out of memory at any point
+-- `Foreign` only if the gap is not in this tree; `NoTreeNumber` only if it is, and the number that is to be next is past the last;
+-- `NoMemory` at any point
 abbrev pub RefusesSpaced : Bool → ℕ → WhitespaceError → Type 0
 RefusesSpaced has_gap next Foreign = has_gap ≡ false
 RefusesSpaced has_gap next NoTreeNumber = (has_gap ≡ true) × (2 ^ 32 < next)

@@ -1,4 +1,4 @@
-//! Annotated elements, found again in the rewritten tree.
+//! Annotated elements of a rewritten tree.
 ghost use Rattle.std.specs.Prelude.{◌≡◌, ◌↔◌, [], false, map, IfOk};
 ghost use Rattle.syntax_tree.specs.Handle.{element_of};
 ghost use Rattle.annotated_elements.specs.Found.{AreOrigins};
@@ -13,18 +13,20 @@ use std::alloc::{AllocError, Global};
 use syntax_tree::{SyntaxElement, SyntaxNode};
 
 impl SyntaxEditor {
-    /// Whether an element is annotated.
+    /// Returns `true` if an element is annotated.
     pub fn is_annotated(&self) -> bool
         ensures { (result ≡ false) ↔ (self.now.annotations ≡ []) }
     {
         !self.annotations.is_empty()
     }
 
-    /// The annotated elements that stand in the rewritten tree, each with its annotation: an
-    /// element is followed by the mapping to its end, and found at each element that was copied
-    /// from there; by order of annotation, then of the tree. The root is that of the edited tree
-    /// with all recorded changes made, as `rewritten` gives it, and these are the origins of its
-    /// elements in preorder, as `origins_of` tells them of its pieces.
+    /// Returns the elements of the rewritten tree that come from annotated ones, each with its
+    /// annotation: by order of annotation, then of the tree. An annotated element is followed by
+    /// the mapping to its end, and found at each element that was copied from there.
+    ///
+    /// `root` is the root of the edited tree with all recorded changes applied, as `rewritten`
+    /// returns it. `origins` are the origins of its elements in preorder, as `origins_of` returns
+    /// them for its pieces.
     pub fn annotated_in(
         &self,
         alloc: Global,

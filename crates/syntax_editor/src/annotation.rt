@@ -1,4 +1,4 @@
-//! Marks on elements, by which they are found again in a rewritten tree.
+//! Annotations, by which elements are found in a rewritten tree.
 ghost use Rattle.std.specs.Prelude.{◌≡◌, ◌+◌, ◌^◌, map, IfOk, IfErr};
 ghost use Rattle.syntax_tree.specs.Handle.{element_of};
 ghost use Rattle.syntax_editor.specs.Editing.{with_annotation};
@@ -8,14 +8,15 @@ use std::alloc::{AllocError, Global};
 use std::marker::Model;
 use syntax_tree::{Spent, SyntaxElement};
 
-/// A mark, told apart from others by its number, and before those that its source gives later.
+/// An annotation, identified by its number. It is less than those that its source returns later.
 #[derive(Clone, Copy, Debug, PartialEq, Eq, PartialOrd, Ord, Hash)]
 pub struct SyntaxAnnotation {
     pub(crate) number: u32,
 }
 
-/// A source of marks, which gives each number once, from 1 to 4,294,967,295. A contract sees the
-/// number that is next, 2^32 where none is left.
+/// A source of annotations, which returns each number from 1 to 4,294,967,295 once.
+///
+/// Model: the next number, 2^32 if none is left.
 #[derive(Debug, Drop)]
 pub struct Annotations {
     next: u64,
@@ -32,15 +33,20 @@ impl Model for Annotations {
 }
 
 impl Annotations {
-    /// All marks are left.
+    /// Returns a source whose next number is 1.
     pub fn new() -> Annotations
         ensures { result ≡ 1 }
     {
         Annotations { next: 1 }
     }
 
-    /// The next mark, which is never given again. Refuses where none is left, and changes nothing
-    /// then.
+    /// Returns the next annotation, which this source never returns again.
+    ///
+    /// # Errors
+    ///
+    /// - [`Spent`] if no number is left.
+    ///
+    /// On error, the source is unchanged.
     pub fn next(&mut self) -> Result<SyntaxAnnotation, Spent>
         ensures given { IfOk result (λ a. (a.number ≡ self.old) × (self.new ≡ self.old + 1)) }
         ensures spent { IfErr result (λ _. (self.old ≡ 2 ^ 32) × (self.new ≡ self.old)) }
@@ -54,7 +60,7 @@ impl Annotations {
     }
 }
 
-/// These elements, each with a mark.
+/// Returns copies of `elements`, each with `annotation`.
 pub(crate) fn marked(
     alloc: Global,
     elements: &[SyntaxElement],

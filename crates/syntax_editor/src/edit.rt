@@ -1,4 +1,4 @@
-//! An edited tree with all recorded changes made, and what is told of it.
+//! Finished edits: the new tree, and how its elements relate to the old one.
 ghost use Rattle.std.specs.Prelude.{◌≡◌, ◌+◌, ℕ, true, map, IfOk, IfErr, OnOk};
 ghost use Rattle.syntax_tree.specs.Element.{element_at};
 ghost use Rattle.syntax_tree.specs.Handle.{element_of};
@@ -28,7 +28,7 @@ use syntax_tree::{SyntaxElement, SyntaxMapping, SyntaxNode, TreeIds};
 use tree_rewrite::origins::{Origins, origins_of};
 use tree_rewrite::plan::Rewritten;
 
-/// A tree as it was, and with all recorded changes made.
+/// A tree before and after all recorded changes are applied.
 pub struct SyntaxEdit {
     old_root: SyntaxNode,
     new_root: SyntaxNode,
@@ -83,52 +83,52 @@ impl Model for SyntaxEdit {
 }
 
 impl SyntaxEdit {
-    /// The root of the tree as it was.
+    /// Returns the root of the old tree.
     pub fn old_root(&self) -> &SyntaxNode
         ensures { result.now ≡ self.now.old_root }
     {
         &self.old_root
     }
 
-    /// The root of the tree with all recorded changes made.
+    /// Returns the root of the new tree, with all recorded changes applied.
     pub fn new_root(&self) -> &SyntaxNode
         ensures { result.now ≡ self.now.new_root }
     {
         &self.new_root
     }
 
-    /// The bytes of the new text that were put in by changes that lie in no other, in the order of
-    /// the tree.
+    /// Returns the byte ranges of the new text that outermost changes inserted, in the order of the
+    /// tree.
     pub fn changed(&self) -> &[TextRange]
         ensures { map bounds result.now ≡ self.now.changed }
     {
         &self.changed
     }
 
-    /// Where each element of the new tree came from, in preorder.
+    /// Returns the origin of each element of the new tree, in preorder.
     pub fn origins(&self) -> &[SyntaxElement]
         ensures { map element_of result.now ≡ self.now.origins }
     {
         &self.origins
     }
 
-    /// The elements of the new tree that were put in by changes that lie in no other, in the order
-    /// of the tree. A deletion has none.
+    /// Returns the elements of the new tree that outermost changes inserted, in the order of the
+    /// tree. A deletion has none.
     pub fn changed_elements(&self) -> &[SyntaxElement]
         ensures { map element_of result.now ≡ self.now.changed_elements }
     {
         &self.changed_elements
     }
 
-    /// The elements of the new tree that come from annotated ones, each with its annotation: by
-    /// order of annotation, then of the tree.
+    /// Returns the elements of the new tree that come from annotated ones, each with its
+    /// annotation: by order of annotation, then of the tree.
     pub fn annotated(&self) -> &[(SyntaxElement, SyntaxAnnotation)]
         ensures { map inside.annotated result.now ≡ self.now.annotated }
     {
         &self.annotated
     }
 
-    /// Those of them with this annotation, in their order.
+    /// Returns the elements of [`SyntaxEdit::annotated`] with this annotation, in their order.
     pub fn find_annotation(&self, annotation: SyntaxAnnotation) -> &[SyntaxElement]
         ensures { map element_of result.now ≡ of_annotation annotation.number self.now.annotated }
     {
@@ -136,7 +136,7 @@ impl SyntaxEdit {
     }
 }
 
-/// What is told of the elements of a rewritten tree.
+/// The changed and the annotated elements of a rewritten tree.
 #[derive(Drop)]
 pub(crate) struct Told {
     changed_elements: Vec<SyntaxElement>,
@@ -145,8 +145,8 @@ pub(crate) struct Told {
 }
 
 impl Told {
-    /// What is told of the elements of the tree of a root, of which these are the origins, and
-    /// which were put in as told, in preorder.
+    /// Collects the changed and the annotated elements of the tree of `root`. In preorder,
+    /// `origins` are the origins of its elements, and `put` is `true` for each inserted one.
     pub(crate) fn of(
         alloc: Global,
         mapping: &SyntaxMapping,
@@ -175,12 +175,20 @@ impl Told {
 }
 
 impl SyntaxEditor {
-    /// The edit, whose new tree gets the next number of `ids`: with all recorded changes made at
-    /// once.
+    /// Applies all recorded changes, and returns the edit, whose new tree gets the next number of
+    /// `ids`.
     ///
-    /// Refuses, in this order, as `Intersecting` where two changes replace one element, as
-    /// `MissingMapping` where a change in a node that is replaced by a node has no place in that,
-    /// and as `TooLong`; and for want of a tree number. A refusal takes no number.
+    /// # Errors
+    ///
+    /// - [`FinishError::Intersecting`] if two changes replace one element.
+    /// - [`FinishError::MissingMapping`] if a change in a node that is replaced by a node has no
+    ///   place in that.
+    /// - [`FinishError::TooLong`] if a node of the new tree would have a text of 2^32 bytes or
+    ///   more, or 2^32 children or more.
+    /// - [`FinishError::NoTreeNumber`] if no tree number is left.
+    /// - [`FinishError::NoMemory`] if an allocation fails.
+    ///
+    /// On error, `ids` is unchanged.
     pub fn finish(self, alloc: Global, ids: &mut TreeIds) -> Result<SyntaxEdit, FinishError>
         ensures placeable { OnOk result (IsPlaceable self) }
         ensures finished { IfOk result (λ r. IsFinished self ids.old r) }
@@ -207,7 +215,7 @@ impl SyntaxEditor {
         } = origins_of(alloc, &pieces)?;
         let new_root = SyntaxNode::new_root(alloc, green, ids)?;
         let Ok(told) = Told::of(alloc, &mapping, &annotations, &new_root, &origins, &put) else {
-            // (the number is given back: nothing has it)
+            // (nothing has the number, so it is the next one again)
             *ids = TreeIds::starting_at(new_root.tree());
             return Err(FinishError::NoMemory);
         };

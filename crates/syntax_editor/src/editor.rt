@@ -1,4 +1,4 @@
-//! Editors: what is recorded on a tree.
+//! Editors, which record changes on a tree.
 ghost use Rattle.std.specs.Prelude.{◌≡◌, ◌≤◌, ◌<◌, ◌+◌, length, get_or, set, ◌++◌, ◌∷◌, [], map, IfOk, IfErr, OnOk, OnErr};
 ghost use Rattle.std.specs.Borrow.{sem};
 ghost use Rattle.syntax_tree.specs.Element.{Way, Element};
@@ -25,16 +25,18 @@ use syntax_tree::{SyntaxElement, SyntaxMapping, SyntaxNode, TreeIds};
 use tree_rewrite::change::Change;
 use tree_rewrite::way_map::{WayMap, number_at};
 
-/// What is recorded on a tree. A contract sees the root of the tree; and the changes, the mapped
-/// nodes and the annotated elements in the order in which they were recorded.
+/// The changes, mapped nodes and annotated elements that are recorded on a tree.
+///
+/// Model: the root of the tree; and the changes, the mapped nodes and the annotated elements in the
+/// order in which they were recorded.
 #[derive(Drop)]
 pub struct SyntaxEditor {
     pub(crate) root: SyntaxNode,
     pub(crate) changes: Vec<Change>,
     pub(crate) mapping: SyntaxMapping,
     pub(crate) annotations: Vec<(SyntaxElement, SyntaxAnnotation)>,
-    /// The numbers of the first changes of elements that were named alone, by the ways of these: of
-    /// the first `noted` changes.
+    /// Of the first `noted` changes: the index of the first change of each element that was named
+    /// alone, by the path of the element.
     pub(crate) singles: WayMap,
     pub(crate) noted: usize,
 }
@@ -67,7 +69,7 @@ impl Model for SyntaxEditor {
 }
 
 impl SyntaxEditor {
-    /// An editor of the tree of a root, with nothing recorded.
+    /// Returns an editor of the tree of `root`, with nothing recorded.
     pub fn of_root(alloc: Global, root: SyntaxNode) -> SyntaxEditor
         requires { root.place.up ≡ [] }
         ensures { result ≡ untouched root }
@@ -82,17 +84,17 @@ impl SyntaxEditor {
         }
     }
 
-    /// Returns an editor of the tree of a node, with nothing recorded, and the root of that tree. A
-    /// root is edited in its own tree; an inner node is cloned into a tree of its own, which gets
-    /// the next number of `ids`.
+    /// Returns an editor of the tree of `node`, with nothing recorded, and the root of that tree. A
+    /// root is edited in its own tree; an inner node is cloned into a new tree, which gets the next
+    /// number of `ids`.
     ///
     /// # Errors
     ///
     /// - [`MakeError::NoTreeNumber`] if `node` is not a root and no tree number is left.
     /// - [`MakeError::NoMemory`] if an allocation fails.
     ///
-    /// [`MakeError::TooLong`] is never returned. On error the number of the copy may be used up; for
-    /// a root, `ids` is unchanged.
+    /// [`MakeError::TooLong`] is never returned. On error the number of the copy may be used up;
+    /// for a root, `ids` is unchanged.
     pub fn new(
         alloc: Global,
         node: SyntaxNode,
@@ -113,7 +115,7 @@ impl SyntaxEditor {
         Ok((SyntaxEditor::of_root(alloc, root), copy))
     }
 
-    /// The root of the tree, which stays as it is.
+    /// Returns the root of the tree, which stays unchanged.
     pub fn root(&self) -> &SyntaxNode
         ensures root { result.now ≡ self.now.top }
         ensures top { result.now.place.up ≡ [] }
@@ -121,12 +123,12 @@ impl SyntaxEditor {
         &self.root
     }
 
-    /// What makes tokens to put in.
+    /// Returns the factory of tokens to be inserted.
     pub fn make(&self) -> &SyntaxFactory {
         &FACTORY
     }
 
-    /// What nodes of replaced trees are mapped to.
+    /// Returns the mapping of nodes of replaced trees.
     pub fn mappings(&mut self) -> &mut SyntaxMapping
         ensures* writes_back { sem 𝓛 (LendsMapping self.entry result) }
         ensures value { result.now ≡ self.old.mapping }
@@ -134,7 +136,7 @@ impl SyntaxEditor {
         &mut self.mapping
     }
 
-    /// Marks an element, of any tree. A refusal marks nothing.
+    /// Records that `element`, of any tree, is annotated. On error, the editor is unchanged.
     pub fn add_annotation(
         &mut self,
         element: &SyntaxElement,
@@ -151,7 +153,8 @@ impl SyntaxEditor {
         Ok(())
     }
 
-    /// Marks elements, of any tree, the first of these first. A refusal marks nothing.
+    /// Records that `elements`, of any tree, are annotated, in their order. On error, the editor is
+    /// unchanged.
     pub fn add_annotation_all(
         &mut self,
         alloc: Global,
@@ -169,7 +172,7 @@ impl SyntaxEditor {
         Ok(())
     }
 
-    /// Whether a deletion of just this element is recorded.
+    /// Returns `true` if a deletion of just this element is recorded.
     pub fn deleted(&self, alloc: Global, element: &SyntaxElement) -> Result<bool, AllocError>
         ensures { IfOk result (λ b. b ≡ is_deleted self.now (element_of element.now)) }
     {
@@ -180,7 +183,7 @@ impl SyntaxEditor {
         is_deleted(alloc, &way, &self.changes, self.noted, &self.singles)
     }
 
-    /// Adds a change last of all.
+    /// Appends a change. On error, the editor is unchanged.
     pub(crate) fn push(&mut self, change: Change) -> Result<(), AllocError>
         requires { IsSound self.old.top change }
         ensures ok { OnOk result (self.new
@@ -191,8 +194,12 @@ impl SyntaxEditor {
         Ok(())
     }
 
-    /// The number of the first change of the element at a way, named alone, if there is one.
-    fn first_single(&mut self, alloc: Global, way: &[usize]) -> Result<Option<usize>, AllocError>
+    /// Returns the index of the first change of the element at `way`, named alone, if any.
+    pub(crate) fn first_single(
+        &mut self,
+        alloc: Global,
+        way: &[usize],
+    ) -> Result<Option<usize>, AllocError>
         ensures number { IfOk result (λ n. n ≡ first_single way.now self.old.changes) }
         ensures same { self.new ≡ self.old }
     {
@@ -200,8 +207,8 @@ impl SyntaxEditor {
         Ok(number_at(&self.singles, way))
     }
 
-    /// An element of the tree, named alone, becomes these: in the place of what was recorded for it
-    /// alone, unless that is a deletion.
+    /// Records that an element of the tree, named alone, becomes `new`. This replaces a recorded
+    /// change of it alone, unless that is a deletion. On error, the editor is unchanged.
     pub(crate) fn put_alone(
         &mut self,
         alloc: Global,
@@ -231,7 +238,7 @@ impl SyntaxEditor {
         }
     }
 
-    /// Puts a change in the place of the one of a number, unless that deletes.
+    /// Replaces the change with this index by `change`, unless it is a deletion.
     fn put_over(&mut self, number: usize, change: Change)
         requires within { number < length self.old.changes }
         requires sound { IsSound self.old.top change }

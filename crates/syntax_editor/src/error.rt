@@ -1,21 +1,21 @@
-//! Why a call was refused.
+//! The error types of editors.
 use std::alloc::{AllocError, AllocFailed};
 use std::error::Error;
 use std::fmt;
 use syntax_tree::TreeError;
 use tree_rewrite::error::PlanError;
 
-/// Why a change was not recorded. The editor is as it was.
+/// The error of calls that record a change. The editor is unchanged.
 #[derive(Clone, Copy, Debug, PartialEq, Eq)]
 pub enum RecordError {
-    /// An element or a position is not one of the edited tree: another tree number, or no element
-    /// of that kind stands there.
+    /// An element or a position is not in the edited tree: the tree number differs, or no element
+    /// of that kind is there.
     Foreign = 1,
     /// The ends are not children of one parent in order.
     BadRange = 2,
     /// The root would be deleted, or become something else than one node.
     BadTarget = 3,
-    /// Memory was refused.
+    /// Out of memory.
     NoMemory = 4,
 }
 
@@ -59,12 +59,12 @@ impl<T: Drop> From<AllocFailed<T>> for RecordError {
     }
 }
 
-/// Why an editor was not merged.
+/// The error of merging editors.
 #[derive(Clone, Copy, Debug, PartialEq, Eq)]
 pub enum MergeError {
-    /// It is one of another tree: another tree number, or another tree under that.
+    /// The other editor is of another tree: the tree number or the tree differs.
     Foreign = 1,
-    /// Memory was refused.
+    /// Out of memory.
     NoMemory = 4,
 }
 
@@ -84,14 +84,14 @@ impl fmt::Display for MergeError {
 
 impl Error for MergeError {}
 
-/// Why elements with white space around them were not recorded. The editor is as it was.
+/// The error of inserting elements with whitespace around them. The editor is unchanged.
 #[derive(Clone, Copy, Debug, PartialEq, Eq)]
 pub enum WhitespaceError {
-    /// A position is none of the edited tree.
+    /// The position is not in the edited tree.
     Foreign = 1,
-    /// Memory was refused.
+    /// Out of memory.
     NoMemory = 4,
-    /// Each tree number was given.
+    /// No tree number is left.
     NoTreeNumber = 5,
 }
 
@@ -148,16 +148,16 @@ impl From<TreeError> for WhitespaceError {
     }
 }
 
-/// Why the recorded changes make no tree.
+/// The error of applying the recorded changes.
 #[derive(Clone, Copy, Debug, PartialEq, Eq)]
 pub enum RewriteError {
     /// Two changes replace one element.
     Intersecting = 1,
     /// A change in a replaced node has no place in what replaces it.
     MissingMapping = 2,
-    /// A node of the tree would have a text of 2^32 bytes or more, or so many children.
+    /// A node of the tree would have a text of 2^32 bytes or more, or 2^32 children or more.
     TooLong = 3,
-    /// Memory was refused.
+    /// Out of memory.
     NoMemory = 4,
 }
 
@@ -208,18 +208,18 @@ impl From<PlanError> for RewriteError {
     }
 }
 
-/// Why an editor was not finished.
+/// The error of finishing an editor.
 #[derive(Clone, Copy, Debug, PartialEq, Eq)]
 pub enum FinishError {
     /// Two changes replace one element.
     Intersecting = 1,
     /// A change in a replaced node has no place in what replaces it.
     MissingMapping = 2,
-    /// A node of the tree would have a text of 2^32 bytes or more, or so many children.
+    /// A node of the tree would have a text of 2^32 bytes or more, or 2^32 children or more.
     TooLong = 3,
-    /// Each tree number was given.
+    /// No tree number is left.
     NoTreeNumber = 4,
-    /// Memory was refused.
+    /// Out of memory.
     NoMemory = 5,
 }
 

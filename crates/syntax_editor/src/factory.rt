@@ -1,4 +1,4 @@
-//! Elements that have no place in a tree yet.
+//! New tokens, which are not in an edited tree yet.
 ghost use Rattle.std.specs.Prelude.{◌≡◌, ◌+◌, [], ◌∷◌, IfOk, IfErr, OnOk};
 ghost use Rattle.parser_input.specs.Kind.{raw_of};
 ghost use Rattle.parser_input.specs.Kinds.{TOMBSTONE, WHITESPACE};
@@ -13,16 +13,23 @@ use rowan_green::{GreenError, GreenToken};
 use std::alloc::Global;
 use syntax_tree::{SyntaxToken, TreeIds};
 
-/// Makes tokens to put into trees.
+/// A factory of tokens to be inserted into trees.
 #[derive(Debug, Drop)]
 pub struct SyntaxFactory;
 
-/// The factory that editors lend.
+/// The factory that editors return a reference to.
 pub(crate) static FACTORY: SyntaxFactory = SyntaxFactory;
 
 impl SyntaxFactory {
-    /// White space in a tree of its own, whose number is the next of `ids`. Refuses a text of 2^32
-    /// bytes or more as too long, then for want of a number. A refusal takes no number.
+    /// Returns a whitespace token in a new tree, whose number is the next of `ids`.
+    ///
+    /// # Errors
+    ///
+    /// - [`MakeError::TooLong`] if `text` has 2^32 bytes or more.
+    /// - [`MakeError::NoTreeNumber`] if no tree number is left.
+    /// - [`MakeError::NoMemory`] if an allocation fails.
+    ///
+    /// On error, `ids` is unchanged.
     pub fn whitespace(
         &self,
         alloc: Global,
@@ -38,8 +45,15 @@ impl SyntaxFactory {
         self.token(alloc, SyntaxKind::WHITESPACE, text, ids)
     }
 
-    /// A token in a tree of its own, whose number is the next of `ids`. Refuses a text of 2^32
-    /// bytes or more as too long, then for want of a number. A refusal takes no number.
+    /// Returns a token of this kind in a new tree, whose number is the next of `ids`.
+    ///
+    /// # Errors
+    ///
+    /// - [`MakeError::TooLong`] if `text` has 2^32 bytes or more.
+    /// - [`MakeError::NoTreeNumber`] if no tree number is left.
+    /// - [`MakeError::NoMemory`] if an allocation fails.
+    ///
+    /// On error, `ids` is unchanged.
     pub fn token(
         &self,
         alloc: Global,

@@ -1,4 +1,4 @@
-//! Nodes that are found again in the new tree.
+//! Search of the new tree for an old node.
 ghost use Rattle.std.specs.Prelude.{◌≡◌, ◌==◌, ◌&&◌, option_map, IfOk};
 ghost use Rattle.rowan.specs.Place.{kind_at, start_of};
 ghost use Rattle.syntax_tree.specs.declared.element.SyntaxElement.TheVariants.{Node};
@@ -8,7 +8,7 @@ use crate::edit::SyntaxEdit;
 use std::alloc::{AllocError, Global};
 use syntax_tree::{SyntaxElement, SyntaxNode};
 
-/// Whether two nodes have one kind and begin at one byte of their texts.
+/// Returns `true` if two nodes have the same kind and start at the same byte of their texts.
 fn is_like(node: &SyntaxNode, old: &SyntaxNode) -> bool
     ensures { result ≡ (kind_at node.now.place == kind_at old.now.place
         && start_of node.now.place == start_of old.now.place) }
@@ -18,8 +18,7 @@ fn is_like(node: &SyntaxNode, old: &SyntaxNode) -> bool
 }
 
 impl SyntaxEdit {
-    /// The first node of the new tree in preorder that has an old node's kind and begins where that
-    /// does.
+    /// Returns the first node of the new tree in preorder with the kind and the start of `old`.
     pub fn find_element(
         &self,
         alloc: Global,

@@ -13,7 +13,7 @@ use syntax_tree::SyntaxElement;
 /// The elements of each annotation, by its number.
 pub(crate) type Groups = HashMap<u32, Vec<SyntaxElement>>;
 
-/// The elements of the annotation of a number.
+/// Returns the elements of the annotation with this number.
 pub(crate) fn group_of(groups: &Groups, number: u32) -> &[SyntaxElement]
     ensures { result.now ≡ group_of groups.now number }
 {
@@ -23,7 +23,7 @@ pub(crate) fn group_of(groups: &Groups, number: u32) -> &[SyntaxElement]
     }
 }
 
-/// Adds an element after those of the annotation of a number.
+/// Appends an element to those of the annotation with this number.
 fn push_to(
     alloc: Global,
     number: u32,
@@ -39,7 +39,7 @@ fn push_to(
     Ok(())
 }
 
-/// Annotated elements by their annotations, those of one in their order.
+/// Groups annotated elements by their annotations; the elements of one keep their order.
 pub(crate) fn grouped(
     alloc: Global,
     found: &[(SyntaxElement, SyntaxAnnotation)],

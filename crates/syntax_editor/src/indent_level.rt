@@ -1,4 +1,4 @@
-//! How far lines are set in.
+//! The indentation of lines.
 ghost use Rattle.std.specs.Prelude.{◌≡◌, ◌==◌, chars, option_map, IfOk};
 ghost use Rattle.syntax_tree.specs.declared.element.SyntaxElement.TheVariants.{Node};
 ghost use Rattle.syntax_editor.specs.Indent.{after_line_feed, own_level, level_at, level_of};
@@ -9,35 +9,35 @@ use std::fmt;
 use std::ops::{Add, AddAssign};
 use syntax_tree::{RustLanguage, SyntaxElement, SyntaxNode, SyntaxToken};
 
-/// Steps of four spaces. Sums stop at 255.
+/// A number of steps of four spaces. Sums stop at 255.
 #[derive(Clone, Copy, Debug, PartialEq, Eq, PartialOrd, Ord)]
 pub struct IndentLevel(pub u8);
 
 impl IndentLevel {
-    /// No step.
+    /// Returns the level without steps.
     pub fn zero() -> IndentLevel
         ensures { result.0 ≡ 0 }
     {
         IndentLevel(0)
     }
 
-    /// Whether it is no step at all.
+    /// Returns `true` if the level has no steps.
     pub fn is_zero(&self) -> bool
         ensures { result ≡ (self.now.0 == 0) }
     {
         self.0 == 0
     }
 
-    /// How far the line is set in on which a token stands: the first white space with a line feed,
-    /// from the token itself backwards through the tree, has a step for every four characters after
-    /// its last line feed. Without such white space no step.
+    /// Returns the indentation of the line of `token`: a step for every four characters after the
+    /// last line feed of the first whitespace with a line feed, from the token itself backwards
+    /// through the tree. Without such whitespace there is no step.
     pub fn from_token(alloc: Global, token: &SyntaxToken) -> Result<IndentLevel, AllocError>
         ensures { IfOk result (λ level. level.0 ≡ level_at token.now.place) }
     {
         level_at(alloc, token.cursor().clone()?)
     }
 
-    /// The level of a node's first token, no step of a node without tokens.
+    /// Returns the level of a node's first token. A node without tokens has no step.
     pub fn from_node(alloc: Global, node: &SyntaxNode) -> Result<IndentLevel, AllocError>
         ensures { IfOk result (λ level. level.0 ≡ level_of (Node node.now)) }
     {
@@ -47,7 +47,7 @@ impl IndentLevel {
         }
     }
 
-    /// The level of a token, or of a node's first token.
+    /// Returns the level of a token, or of a node's first token.
     pub fn from_element(alloc: Global, element: &SyntaxElement) -> Result<IndentLevel, AllocError>
         ensures { IfOk result (λ level. level.0 ≡ level_of element.now) }
     {
@@ -58,7 +58,7 @@ impl IndentLevel {
     }
 }
 
-/// How many characters stand after the last line feed of a text, if it has one.
+/// Returns the number of characters after the last line feed of `text`, if it has one.
 fn after_line_feed(text: &str) -> Option<usize>
     ensures { result ≡ after_line_feed (chars text.now) }
 {
@@ -76,7 +76,7 @@ fn after_line_feed(text: &str) -> Option<usize>
     if found { Some(count) } else { None }
 }
 
-/// The level that a token of white space with a line feed has.
+/// Returns the level of a whitespace token with a line feed.
 fn own_level(token: &rowan::SyntaxToken<RustLanguage>) -> Option<IndentLevel>
     ensures { option_map (λ level. level.0) result ≡ own_level token.now }
 {
@@ -91,7 +91,8 @@ fn own_level(token: &rowan::SyntaxToken<RustLanguage>) -> Option<IndentLevel>
     }
 }
 
-/// The first level from a token backwards.
+/// Returns the level of the first whitespace token with a line feed, from `token` backwards; no
+/// step without one.
 fn level_at(
     alloc: Global,
     token: rowan::SyntaxToken<RustLanguage>,

@@ -1,7 +1,7 @@
-//! Changes recorded on a numbered tree, and the tree with all of them made at once.
+//! Changes recorded on a numbered tree, and the tree with all of them applied.
 //!
-//! An editor only records: its tree stays as it is. What is put in may be of any tree, and is taken
-//! as it stands there.
+//! An editor only records: its tree stays unchanged. An inserted element may be of any tree, and is
+//! copied as it is there.
 #![tactic(auto)]
 
 pub mod again;
@@ -25,6 +25,7 @@ pub mod rewriting;
 pub mod spaced;
 pub mod target;
 pub mod typed;
+mod undo;
 pub mod whitespace;
 
 pub use annotation::{Annotations, SyntaxAnnotation};

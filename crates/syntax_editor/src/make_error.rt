@@ -1,15 +1,15 @@
-//! Why a token or an editor was not made.
+//! The error of making a token or an editor.
 use std::alloc::AllocError;
 use std::error::Error;
 use std::fmt;
 use syntax_tree::TreeError;
 
-/// Why a token or an editor was not made. A token that was not made took no tree number.
+/// The error of making a token or an editor. Making a token uses up no tree number on error.
 #[derive(Clone, Copy, Debug, PartialEq, Eq)]
 pub enum MakeError {
-    /// Memory was refused.
+    /// Out of memory.
     NoMemory = 4,
-    /// Each tree number was given.
+    /// No tree number is left.
     NoTreeNumber = 5,
     /// The text has 2^32 bytes or more.
     TooLong = 6,

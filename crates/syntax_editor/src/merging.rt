@@ -1,4 +1,4 @@
-//! Editors of one tree, put together.
+//! Merging of editors of one tree.
 ghost use Rattle.std.specs.Prelude.{◌≡◌, ◌↔◌, IsTrue, IfErr, OnOk, OnErr};
 ghost use Rattle.syntax_editor.specs.Editing.{merged};
 ghost use Rattle.syntax_editor.specs.Inside.{IsOf};
@@ -8,7 +8,7 @@ use crate::editor::SyntaxEditor;
 use crate::error::MergeError;
 use std::alloc::AllocError;
 
-/// An editor that was not merged, as it was, and why.
+/// An editor that was not merged, unchanged, and the error.
 #[derive(Drop)]
 pub struct Unmerged {
     pub editor: SyntaxEditor,
@@ -16,7 +16,7 @@ pub struct Unmerged {
 }
 
 impl SyntaxEditor {
-    /// Whether another editor is one of the same tree, by its number and by all that stands in it.
+    /// Returns `true` if `other` is an editor of the same tree: same number, same green tree.
     fn has_tree_of(&self, other: &SyntaxEditor) -> bool
         ensures { IsTrue result ↔ IsOf self.now.top other.now.top }
     {
@@ -24,7 +24,8 @@ impl SyntaxEditor {
             && *other.root.cursor().green() == *self.root.cursor().green()
     }
 
-    /// Takes what another editor of the tree has recorded. A refusal changes neither.
+    /// Appends all that `other`, an editor of the same tree, has recorded. On error, both are
+    /// unchanged.
     fn take_all_of(&mut self, other: &mut SyntaxEditor) -> Result<(), AllocError>
         requires { IsOf self.old.top other.old.top }
         ensures ok { OnOk result (self.new ≡ merged self.old other.old) }
@@ -42,9 +43,15 @@ impl SyntaxEditor {
         Ok(())
     }
 
-    /// Takes over what another editor of the same tree has recorded, after all that this one has.
-    /// Refuses one of another tree, by its number or by what stands in it, as `Foreign`. A refusal
-    /// changes nothing, and hands the other editor back.
+    /// Appends all that `other`, an editor of the same tree, has recorded to what this editor has.
+    ///
+    /// # Errors
+    ///
+    /// - [`MergeError::Foreign`] if `other` is of another tree: the number or the green tree
+    ///   differs.
+    /// - [`MergeError::NoMemory`] if an allocation fails.
+    ///
+    /// On error, the editor is unchanged, and `other` is returned unchanged.
     pub fn merge(&mut self, other: SyntaxEditor) -> Result<(), Unmerged>
         ensures ok { OnOk result (self.new ≡ merged self.old other) }
         ensures same { OnOk result (IsOf self.old.top other.top) }

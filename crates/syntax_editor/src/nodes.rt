@@ -1,5 +1,5 @@
-//! Nodes of six kinds, each of a type of its own. Two are equal where they are one node of one tree;
-//! a clone takes no memory.
+//! Typed nodes of six kinds. Two are equal if they are one node of one tree. Cloning does not
+//! allocate.
 ghost use Rattle.std.specs.Prelude.{◌≡◌, ◌↔◌, ◌==◌, true, IsSome, IfSome};
 ghost use Rattle.parser_input.specs.Kind.{raw_of};
 ghost use Rattle.parser_input.specs.declared.syntax_kind.SyntaxKind.TheVariants.{SOURCE_FILE, STRUCT, FN, USE, ITEM_LIST, STMT_LIST};
@@ -24,7 +24,9 @@ pub struct SourceFile {
 impl Clone for SourceFile {
     ghost is_clone = { λ node copy. copy.syntax ≡ node.syntax };
 
-    /// Refuses only where as many clones stand as a `usize` can count.
+    /// # Errors
+    ///
+    /// Returns an error only if the reference count overflows.
     fn clone(&self) -> Result<SourceFile, AllocError> {
         let syntax = self.syntax.clone()?;
         Ok(SourceFile { syntax })
@@ -72,7 +74,9 @@ pub struct Struct {
 impl Clone for Struct {
     ghost is_clone = { λ node copy. copy.syntax ≡ node.syntax };
 
-    /// Refuses only where as many clones stand as a `usize` can count.
+    /// # Errors
+    ///
+    /// Returns an error only if the reference count overflows.
     fn clone(&self) -> Result<Struct, AllocError> {
         let syntax = self.syntax.clone()?;
         Ok(Struct { syntax })
@@ -120,7 +124,9 @@ pub struct Fn {
 impl Clone for Fn {
     ghost is_clone = { λ node copy. copy.syntax ≡ node.syntax };
 
-    /// Refuses only where as many clones stand as a `usize` can count.
+    /// # Errors
+    ///
+    /// Returns an error only if the reference count overflows.
     fn clone(&self) -> Result<Fn, AllocError> {
         let syntax = self.syntax.clone()?;
         Ok(Fn { syntax })
@@ -168,7 +174,9 @@ pub struct Use {
 impl Clone for Use {
     ghost is_clone = { λ node copy. copy.syntax ≡ node.syntax };
 
-    /// Refuses only where as many clones stand as a `usize` can count.
+    /// # Errors
+    ///
+    /// Returns an error only if the reference count overflows.
     fn clone(&self) -> Result<Use, AllocError> {
         let syntax = self.syntax.clone()?;
         Ok(Use { syntax })
@@ -216,7 +224,9 @@ pub struct ItemList {
 impl Clone for ItemList {
     ghost is_clone = { λ node copy. copy.syntax ≡ node.syntax };
 
-    /// Refuses only where as many clones stand as a `usize` can count.
+    /// # Errors
+    ///
+    /// Returns an error only if the reference count overflows.
     fn clone(&self) -> Result<ItemList, AllocError> {
         let syntax = self.syntax.clone()?;
         Ok(ItemList { syntax })
@@ -264,7 +274,9 @@ pub struct StmtList {
 impl Clone for StmtList {
     ghost is_clone = { λ node copy. copy.syntax ≡ node.syntax };
 
-    /// Refuses only where as many clones stand as a `usize` can count.
+    /// # Errors
+    ///
+    /// Returns an error only if the reference count overflows.
     fn clone(&self) -> Result<StmtList, AllocError> {
         let syntax = self.syntax.clone()?;
         Ok(StmtList { syntax })

@@ -13,8 +13,8 @@ use std::alloc::{AllocError, Global};
 use tree_rewrite::change::Change;
 use tree_rewrite::way_map::{WayMap, number_at, put};
 
-/// Whether a deletion of the element at a way, named alone, is among changes of which so many are
-/// noted.
+/// Returns `true` if a deletion of the element at `way`, named alone, is among `changes`. The first
+/// `noted` of these are noted in `singles`.
 pub(crate) fn is_deleted(
     alloc: Global,
     way: &[usize],
@@ -25,13 +25,13 @@ pub(crate) fn is_deleted(
     requires { AreNoted singles.now noted (map recorded changes.now) }
     ensures { IfOk result (λ b. b ≡ list_any (is_deletion_at way.now) (map recorded changes.now)) }
 {
-    // (none stands before the first change of that element alone)
+    // (there is none before the first change of that element alone)
     let start = number_at(singles, way).unwrap_or(noted);
     let (_, rest) = changes.split_at(start);
     has_deletion_at(alloc, way, rest)
 }
 
-/// Notes a change, which follows those that are noted.
+/// Notes the change with index `number`, which follows those that are noted.
 fn note(
     alloc: Global,
     change: &Change,
@@ -56,7 +56,7 @@ fn note(
     put(singles, way, number)
 }
 
-/// Notes those of the changes that are not noted. Those that were noted before a refusal stay so.
+/// Notes the changes that are not noted. On error, those that were noted so far stay noted.
 pub(crate) fn note_all(
     alloc: Global,
     changes: &[Change],

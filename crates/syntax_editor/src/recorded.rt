@@ -1,4 +1,4 @@
-//! Changes that were recorded before.
+//! Queries on recorded changes, and copies of them.
 ghost use Rattle.std.specs.Prelude.{◌≡◌, map, IfOk};
 ghost use Rattle.std.specs.List.{All, list_any};
 ghost use Rattle.syntax_tree.specs.Element.{Element};
@@ -12,7 +12,7 @@ use std::alloc::{AllocError, Global};
 use syntax_tree::{Position, SyntaxElement};
 use tree_rewrite::change::Change;
 
-/// Whether a change puts in nothing.
+/// Returns `true` if the change inserts no element.
 pub(crate) fn puts_nothing(change: &Change) -> bool
     ensures { result ≡ is_empty (payload_of (recorded change.now)) }
 {
@@ -22,7 +22,7 @@ pub(crate) fn puts_nothing(change: &Change) -> bool
     }
 }
 
-/// Whether a change is one of the element at a way, named alone.
+/// Returns `true` if the change is one of the element at `way`, named alone.
 pub(crate) fn is_single_at(
     alloc: Global,
     way: &[usize],
@@ -38,7 +38,7 @@ pub(crate) fn is_single_at(
     }
 }
 
-/// Whether a deletion of the element at a way, named alone, is among the changes.
+/// Returns `true` if a deletion of the element at `way`, named alone, is among `changes`.
 pub(crate) fn has_deletion_at(
     alloc: Global,
     way: &[usize],
@@ -54,7 +54,7 @@ pub(crate) fn has_deletion_at(
     Ok(false)
 }
 
-/// These elements again.
+/// Returns copies of `elements`.
 pub(crate) fn copies(
     alloc: Global,
     elements: &[SyntaxElement],
@@ -68,7 +68,7 @@ pub(crate) fn copies(
     Ok(copies)
 }
 
-/// The same change again.
+/// Returns a copy of `change`.
 pub(crate) fn copy(alloc: Global, change: &Change) -> Result<Change, AllocError>
     ensures same { IfOk result (λ c. recorded c ≡ recorded change.now) }
     ensures ordered { IfOk result (λ c. IsOrdered change.now → IsOrdered c) }
@@ -97,7 +97,7 @@ pub(crate) fn copy(alloc: Global, change: &Change) -> Result<Change, AllocError>
     }
 }
 
-/// The same changes again.
+/// Returns copies of `changes`.
 pub(crate) fn copied(alloc: Global, changes: &[Change]) -> Result<Vec<Change>, AllocError>
     requires { All IsOrdered changes.now }
     ensures same { IfOk result (λ v. map recorded v.items ≡ map recorded changes.now) }

@@ -1,4 +1,4 @@
-//! Changes that are asked for.
+//! Calls that record changes.
 ghost use Rattle.std.specs.Prelude.{◌≡◌, ◌++◌, [], ◌∷◌, List, map, None, IfOk, IfErr, OnOk, OnErr, IfSome};
 ghost use Rattle.syntax_tree.specs.Element.{Element};
 ghost use Rattle.syntax_tree.specs.Handle.{element_of};
@@ -14,7 +14,7 @@ use std::alloc::{AllocError, Global};
 use syntax_tree::{Position, SyntaxElement};
 use tree_rewrite::change::Change;
 
-/// A row of siblings of the edited tree.
+/// A range of siblings of the edited tree, by its ends.
 #[derive(Drop)]
 struct Row {
     first: SyntaxElement,
@@ -22,8 +22,15 @@ struct Row {
 }
 
 impl SyntaxEditor {
-    /// Records that an element comes into a gap, before what was put there earlier. Refuses a
-    /// position that is none of the edited tree as `Foreign`, and records nothing then.
+    /// Records that an element is inserted into a gap, before those that were inserted there
+    /// earlier.
+    ///
+    /// # Errors
+    ///
+    /// - [`RecordError::Foreign`] if `position` is not in the edited tree.
+    /// - [`RecordError::NoMemory`] if an allocation fails.
+    ///
+    /// On error, the editor is unchanged.
     pub fn insert(
         &mut self,
         alloc: Global,
@@ -42,8 +49,15 @@ impl SyntaxEditor {
         self.insert_all(alloc, position, new)
     }
 
-    /// Records that elements come into a gap, in this order, before what was put there earlier.
-    /// Refuses a position that is none of the edited tree as `Foreign`, and records nothing then.
+    /// Records that elements are inserted into a gap, in their order, before those that were
+    /// inserted there earlier.
+    ///
+    /// # Errors
+    ///
+    /// - [`RecordError::Foreign`] if `position` is not in the edited tree.
+    /// - [`RecordError::NoMemory`] if an allocation fails.
+    ///
+    /// On error, the editor is unchanged.
     pub fn insert_all(
         &mut self,
         alloc: Global,
@@ -69,9 +83,16 @@ impl SyntaxEditor {
         Ok(())
     }
 
-    /// Records that an element is deleted, in the place of its replacement by one element, if one
-    /// is recorded. Refuses an element of another tree as `Foreign`, then the root as `BadTarget`.
-    /// A refusal records nothing.
+    /// Records that an element is deleted. This replaces its recorded replacement by one element,
+    /// if any.
+    ///
+    /// # Errors
+    ///
+    /// - [`RecordError::Foreign`] if `element` is not in the edited tree.
+    /// - [`RecordError::BadTarget`] if `element` is the root.
+    /// - [`RecordError::NoMemory`] if an allocation fails.
+    ///
+    /// On error, the editor is unchanged.
     pub fn delete(&mut self, alloc: Global, element: &SyntaxElement) -> Result<(), RecordError>
         ensures recorded { OnOk result (replacing self.old (element_of element.now) []
             ≡ Recorded self.new.changes) }
@@ -82,9 +103,16 @@ impl SyntaxEditor {
         self.put_for(alloc, element, Vec::new(alloc))
     }
 
-    /// Records that an element is replaced by another one, in the place of its earlier replacement
-    /// by one element, if one is recorded; a recorded deletion stays. Refuses an element of another
-    /// tree as `Foreign`, then a token for the root as `BadTarget`. A refusal records nothing.
+    /// Records that an element is replaced by another one. This replaces its recorded replacement
+    /// by one element, if any; a recorded deletion stays.
+    ///
+    /// # Errors
+    ///
+    /// - [`RecordError::Foreign`] if `old` is not in the edited tree.
+    /// - [`RecordError::BadTarget`] if `old` is the root and `new` is a token.
+    /// - [`RecordError::NoMemory`] if an allocation fails.
+    ///
+    /// On error, the editor is unchanged.
     pub fn replace(
         &mut self,
         alloc: Global,
@@ -102,7 +130,8 @@ impl SyntaxEditor {
         self.put_for(alloc, old, new)
     }
 
-    /// Records that an element, named alone, becomes these, at most one.
+    /// Records that an element, named alone, becomes `new`, of at most one element. On error, the
+    /// editor is unchanged.
     fn put_for(
         &mut self,
         alloc: Global,
@@ -127,8 +156,15 @@ impl SyntaxEditor {
         Ok(())
     }
 
-    /// Records that an element is replaced by elements, or by none. Refuses an element of another
-    /// tree as `Foreign`, then the root as `BadTarget`. A refusal records nothing.
+    /// Records that an element is replaced by elements, or by none.
+    ///
+    /// # Errors
+    ///
+    /// - [`RecordError::Foreign`] if `old` is not in the edited tree.
+    /// - [`RecordError::BadTarget`] if `old` is the root.
+    /// - [`RecordError::NoMemory`] if an allocation fails.
+    ///
+    /// On error, the editor is unchanged.
     pub fn replace_with_many(
         &mut self,
         alloc: Global,
@@ -159,8 +195,14 @@ impl SyntaxEditor {
         Ok(())
     }
 
-    /// The row of siblings of the edited tree from one to another, none where both are one. Refuses
-    /// an element of another tree as `Foreign`, then what is no row as `BadRange`.
+    /// Returns the range of siblings of the edited tree from `first` to `last`; `None` if both are
+    /// one element.
+    ///
+    /// # Errors
+    ///
+    /// - [`RecordError::Foreign`] if `first` or `last` is not in the edited tree.
+    /// - [`RecordError::BadRange`] if they are not children of one parent in order.
+    /// - [`RecordError::NoMemory`] if an allocation fails.
     fn row(
         &self,
         alloc: Global,
@@ -194,7 +236,7 @@ impl SyntaxEditor {
         }))
     }
 
-    /// A row of siblings becomes these.
+    /// Records that a range of siblings becomes `new`. On error, the editor is unchanged.
     fn put_row(&mut self, row: Row, new: Vec<SyntaxElement>) -> Result<(), AllocError>
         requires { IsOwnRow self.old.top (element_of row.first) (element_of row.last) }
         ensures ok { OnOk result (self.new ≡ with_changes self.old
@@ -209,9 +251,17 @@ impl SyntaxEditor {
         })
     }
 
-    /// Records that a row of siblings is replaced by elements, or by none; where both ends are one,
-    /// as `replace_with_many` does. Refuses an element of another tree as `Foreign`, then what is
-    /// no row as `BadRange`. A refusal records nothing.
+    /// Records that a range of siblings is replaced by elements, or by none. If both ends are one
+    /// element, it is [`SyntaxEditor::replace_with_many`] of that.
+    ///
+    /// # Errors
+    ///
+    /// - [`RecordError::Foreign`] if `first` or `last` is not in the edited tree.
+    /// - [`RecordError::BadTarget`] if both are the root.
+    /// - [`RecordError::BadRange`] if they differ, and are not children of one parent in order.
+    /// - [`RecordError::NoMemory`] if an allocation fails.
+    ///
+    /// On error, the editor is unchanged.
     pub fn replace_all(
         &mut self,
         alloc: Global,
@@ -233,9 +283,17 @@ impl SyntaxEditor {
         }
     }
 
-    /// Records that a row of siblings is deleted; where both ends are one, as `delete` does.
-    /// Refuses an element of another tree as `Foreign`, then what is no row as `BadRange`. A
-    /// refusal records nothing.
+    /// Records that a range of siblings is deleted. If both ends are one element, it is
+    /// [`SyntaxEditor::delete`] of that.
+    ///
+    /// # Errors
+    ///
+    /// - [`RecordError::Foreign`] if `first` or `last` is not in the edited tree.
+    /// - [`RecordError::BadTarget`] if both are the root.
+    /// - [`RecordError::BadRange`] if they differ, and are not children of one parent in order.
+    /// - [`RecordError::NoMemory`] if an allocation fails.
+    ///
+    /// On error, the editor is unchanged.
     pub fn delete_all(
         &mut self,
         alloc: Global,

@@ -1,4 +1,4 @@
-//! The edited tree with all recorded changes made.
+//! The edited tree with all recorded changes applied.
 ghost use Rattle.std.specs.Prelude.{◌≡◌, ◌+◌, [], true, IfOk, IfErr, OnOk};
 ghost use Rattle.std.specs.List.{All};
 ghost use Rattle.tree_rewrite.specs.Changed.{AreChanged};
@@ -18,12 +18,17 @@ use tree_rewrite::error::ExecuteError;
 use tree_rewrite::plan::{Plan, Rewritten};
 
 impl SyntaxEditor {
-    /// The tree with all recorded changes made at once, what changed in it, and the pieces that it
-    /// was made of, which say where each of its elements came from.
+    /// Returns the tree with all recorded changes applied, the ranges that changed in it, and the
+    /// pieces that it was made of, from which the origin of each of its elements follows.
     ///
-    /// Refuses, in this order, as `Intersecting` where two changes replace one element, as
-    /// `MissingMapping` where a change in a node that is replaced by a node has no place in that,
-    /// and as `TooLong`.
+    /// # Errors
+    ///
+    /// - [`RewriteError::Intersecting`] if two changes replace one element.
+    /// - [`RewriteError::MissingMapping`] if a change in a node that is replaced by a node has no
+    ///   place in that.
+    /// - [`RewriteError::TooLong`] if a node of the new tree would have a text of 2^32 bytes or
+    ///   more, or 2^32 children or more.
+    /// - [`RewriteError::NoMemory`] if an allocation fails.
     pub fn rewritten(&self, alloc: Global) -> Result<Rewritten, RewriteError>
         ensures placeable { OnOk result (IsPlaceable self.now) }
         ensures green { IfOk result (λ r. IsNode (rewriting self.now) r.green) }
@@ -37,8 +42,8 @@ impl SyntaxEditor {
     }
 }
 
-/// The tree of a root with changes made at once, what changed in it, and the pieces that it was made
-/// of.
+/// Returns the tree of `root` with all of `changes` applied, the ranges that changed in it, and the
+/// pieces that it was made of.
 pub(crate) fn made(
     alloc: Global,
     root: &SyntaxNode,

@@ -1,4 +1,4 @@
-//! Elements that are put in with white space around them.
+//! Insertion of elements with whitespace around them.
 ghost use Rattle.std.specs.Prelude.{◌≡◌, true, ◌≤◌, ◌+◌, ◌∷◌, [], map, IfOk, IfErr, OnOk};
 ghost use Rattle.syntax_tree.specs.Handle.{element_of};
 ghost use Rattle.syntax_editor.specs.Editing.{with_changes};
@@ -15,7 +15,7 @@ use std::alloc::{AllocError, Global};
 use syntax_tree::{Position, SyntaxElement, SyntaxNode, SyntaxToken, TreeIds, elements};
 use tree_rewrite::change::Change;
 
-/// Whether elements of a raw kind are statements, or items among them.
+/// Returns `true` if elements of this raw kind are statements, or items among them.
 fn is_statement(kind: u16) -> bool
     ensures { result ≡ is_statement kind }
 {
@@ -34,7 +34,8 @@ fn is_statement(kind: u16) -> bool
         || is(kind, SyntaxKind::USE)
 }
 
-/// Whether an element of a raw kind begins a line after another in a list, by their raw kinds.
+/// Returns `true` if an element begins a line after another in a list, by the raw kinds of the
+/// three.
 fn begins_line(list: u16, previous: u16, kind: u16) -> bool
     ensures { result ≡ begins_line list previous kind }
 {
@@ -43,7 +44,7 @@ fn begins_line(list: u16, previous: u16, kind: u16) -> bool
             || (is(list, SyntaxKind::STMT_LIST) && is_statement(kind)))
 }
 
-/// The child of this number, if there is one.
+/// Returns the child or token with this index, if any.
 fn child(
     alloc: Global,
     parent: &SyntaxNode,
@@ -54,7 +55,7 @@ fn child(
     parent.nth_child_or_token(alloc, number)
 }
 
-/// What comes before an element that is put into the gap of this number.
+/// Returns the whitespace before an element that is inserted into the gap with this index.
 fn space_before(
     alloc: Global,
     parent: &SyntaxNode,
@@ -77,7 +78,7 @@ fn space_before(
     Space::between(alloc, &previous, element)
 }
 
-/// What comes after an element that is put into the gap of this number.
+/// Returns the whitespace after an element that is inserted into the gap with this index.
 fn space_after(
     alloc: Global,
     parent: &SyntaxNode,
@@ -92,7 +93,7 @@ fn space_after(
     }
 }
 
-/// What comes before the first of these.
+/// Returns the whitespace before the first of `elements`.
 fn space_before_all(
     alloc: Global,
     parent: &SyntaxNode,
@@ -107,7 +108,7 @@ fn space_before_all(
     }
 }
 
-/// What comes after the last of these.
+/// Returns the whitespace after the last of `elements`.
 fn space_after_all(
     alloc: Global,
     parent: &SyntaxNode,
@@ -122,8 +123,15 @@ fn space_after_all(
     }
 }
 
-/// The token of white space, in a tree of its own under the next number; no token of nothing.
-/// Refuses for want of a number.
+/// Returns a list of the whitespace token, in a new tree with the next number of `ids`; the list is
+/// empty for [`Space::Nothing`].
+///
+/// # Errors
+///
+/// - [`WhitespaceError::NoTreeNumber`] if no tree number is left.
+/// - [`WhitespaceError::NoMemory`] if an allocation fails.
+///
+/// On error, the number may be used up.
 fn token_of(
     alloc: Global,
     space: Space,
@@ -144,8 +152,14 @@ fn token_of(
     Ok(vec![in alloc; SyntaxElement::Token(token)]?)
 }
 
-/// Elements with the white space around them that belongs there in a gap of this number. Refuses
-/// for want of a number.
+/// Returns `elements` with the whitespace that belongs around them in the gap with this index.
+///
+/// # Errors
+///
+/// - [`WhitespaceError::NoTreeNumber`] if too few tree numbers are left.
+/// - [`WhitespaceError::NoMemory`] if an allocation fails.
+///
+/// On error, the numbers of these tokens may be used up.
 fn spaced(
     alloc: Global,
     parent: &SyntaxNode,
@@ -172,7 +186,8 @@ fn spaced(
 }
 
 impl SyntaxEditor {
-    /// Records that an element comes into a gap, as `insert_all_with_whitespace` does.
+    /// Records that an element is inserted into a gap with whitespace around it, as
+    /// [`SyntaxEditor::insert_all_with_whitespace`] does.
     pub fn insert_with_whitespace(
         &mut self,
         alloc: Global,
@@ -196,11 +211,17 @@ impl SyntaxEditor {
         self.insert_all_with_whitespace(alloc, position, new, ids)
     }
 
-    /// Records that elements come into a gap, in this order, with the white space that belongs
-    /// between them and their neighbours there: a token before the first of them and one after the
-    /// last, where any belongs there, in trees of their own under the next numbers of `ids`.
-    /// Refuses a position that is none of the edited tree as `Foreign`, then for want of a tree
-    /// number. A refusal records nothing, but may have taken a number.
+    /// Records that elements are inserted into a gap, in their order, with the whitespace that
+    /// belongs between them and their neighbours there: at most one token before the first of them
+    /// and one after the last, in new trees with the next numbers of `ids`.
+    ///
+    /// # Errors
+    ///
+    /// - [`WhitespaceError::Foreign`] if `position` is not in the edited tree.
+    /// - [`WhitespaceError::NoTreeNumber`] if too few tree numbers are left.
+    /// - [`WhitespaceError::NoMemory`] if an allocation fails.
+    ///
+    /// On error, the editor is unchanged, but the numbers of these tokens may be used up.
     pub fn insert_all_with_whitespace(
         &mut self,
         alloc: Global,

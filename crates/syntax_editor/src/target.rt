@@ -1,4 +1,4 @@
-//! What a handle names in the tree that is edited.
+//! The elements of the edited tree that handles name.
 ghost use Rattle.std.specs.Prelude.{◌≡◌, true, ◌&&◌, [], Some, is_some, map, option_map, IfOk, IfSome};
 ghost use Rattle.rowan.specs.Place.{kind_at};
 ghost use Rattle.rowan_green.specs.Term.{kind_of};
@@ -12,7 +12,7 @@ ghost use Rattle.syntax_editor.specs.Inside.{standing};
 use std::alloc::{AllocError, Global};
 use syntax_tree::{Position, SyntaxElement, SyntaxNode};
 
-/// The raw number of its kind.
+/// Returns the raw number of the element's kind.
 pub(crate) fn raw_kind(element: &SyntaxElement) -> u16
     ensures kind { result ≡ kind_at (element_of element.now).place }
     ensures stands { option_map kind_of (term_of (element_of element.now)) ≡ Some result }
@@ -23,15 +23,15 @@ pub(crate) fn raw_kind(element: &SyntaxElement) -> u16
     }
 }
 
-/// Whether two elements are of one kind.
+/// Returns `true` if two elements have the same kind.
 fn same_kind(one: &SyntaxElement, other: &SyntaxElement) -> bool
     ensures { result ≡ same_kind (term_of (element_of one.now)) (term_of (element_of other.now)) }
 {
     raw_kind(one) == raw_kind(other)
 }
 
-/// The element of a root's tree that a handle names: it has that tree's number, and its way leads
-/// to an element of its kind there.
+/// Returns the element of the tree of `root` that a handle names: the handle has that tree's
+/// number, and its path leads to an element of its kind there.
 pub(crate) fn target(
     alloc: Global,
     root: &SyntaxNode,
@@ -54,7 +54,7 @@ pub(crate) fn target(
     Ok(Some(own))
 }
 
-/// Whether these are one node.
+/// Returns `true` if `elements` are one node.
 pub(crate) fn is_one_node(elements: &[SyntaxElement]) -> bool
     ensures test { result ≡ is_one_node (map element_of elements.now) }
     ensures means { result ≡ true → IsOneNode (map element_of elements.now) }
@@ -65,7 +65,7 @@ pub(crate) fn is_one_node(elements: &[SyntaxElement]) -> bool
     }
 }
 
-/// Whether two ways lead to children of one parent, the second not before the first.
+/// Returns `true` if two paths lead to children of one parent, the second not before the first.
 pub(crate) fn are_in_order(first: &[usize], last: &[usize]) -> bool
     ensures { result ≡ are_in_order first.now last.now }
 {
@@ -75,8 +75,8 @@ pub(crate) fn are_in_order(first: &[usize], last: &[usize]) -> bool
     }
 }
 
-/// The element that a position stands after, the parent where it stands before all children; none
-/// where the parent has no such child.
+/// Returns the element before `position`, or the parent if it is before all children; `None` if the
+/// parent has no such child.
 fn anchor(alloc: Global, position: &Position) -> Result<Option<SyntaxElement>, AllocError>
     ensures { IfOk result (λ r. option_map element_of r
         ≡ standing (anchor position.now.parent position.now.index)) }
@@ -90,7 +90,7 @@ fn anchor(alloc: Global, position: &Position) -> Result<Option<SyntaxElement>, A
     position.parent.element_at(alloc, &way)
 }
 
-/// The parent of a position, where the gap is one of a root's tree.
+/// Returns the parent of `position`, if the gap is in the tree of `root`.
 pub(crate) fn gap(
     alloc: Global,
     root: &SyntaxNode,

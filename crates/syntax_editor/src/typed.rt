@@ -8,10 +8,17 @@ use std::alloc::Global;
 use syntax_tree::{AstNode, TreeIds};
 
 impl SyntaxEditor {
-    /// An editor of the tree of a typed node, with nothing recorded, and the root of that, of the
-    /// same type. A root is edited in its own tree; an inner node is cloned into a tree of its own,
-    /// which gets the next number of `ids`. A refusal may have taken that number; for a root it takes
-    /// none. It never refuses as `TooLong`.
+    /// Returns an editor of the tree of a typed node, with nothing recorded, and the root of that
+    /// tree, of the same type. A root is edited in its own tree; an inner node is cloned into a new
+    /// tree, which gets the next number of `ids`.
+    ///
+    /// # Errors
+    ///
+    /// - [`MakeError::NoTreeNumber`] if `node` is not a root and no tree number is left.
+    /// - [`MakeError::NoMemory`] if an allocation fails.
+    ///
+    /// [`MakeError::TooLong`] is never returned. On error the number of the copy may be used up;
+    /// for a root, `ids` is unchanged.
     pub fn with_ast_node<T: AstNode>(
         alloc: Global,
         node: &T,

@@ -1,4 +1,4 @@
-//! White space around what is put in.
+//! Whitespace around inserted elements.
 ghost use Rattle.std.specs.Prelude.{◌≡◌, ◌==◌, max, IfOk};
 ghost use Rattle.parser_input.specs.Kind.{raw_of};
 ghost use Rattle.syntax_editor.specs.Between.{is_tight, between};
@@ -11,25 +11,25 @@ use std::alloc::{AllocError, Global};
 use std::fmt;
 use syntax_tree::SyntaxElement;
 
-/// The white space between two neighbours.
+/// The whitespace between two neighbours.
 #[derive(Clone, Copy, Debug, PartialEq, Eq)]
 pub enum Space {
-    /// None at all.
+    /// No whitespace.
     Nothing,
     /// One space.
     Blank,
-    /// A line feed, and so many steps.
+    /// A line feed, and the spaces of an indentation with this number of steps.
     Line(u8),
 }
 
-/// Whether a raw kind is this one.
+/// Returns `true` if a raw kind is `kind`.
 pub(crate) fn is(raw: u16, kind: SyntaxKind) -> bool
     ensures { result ≡ (raw == raw_of kind) }
 {
     raw == kind.to_raw()
 }
 
-/// Whether nothing comes between elements of two raw kinds.
+/// Returns `true` if there is no whitespace between elements of two raw kinds.
 fn is_tight(left: u16, right: u16) -> bool
     ensures { result ≡ is_tight left right }
 {
@@ -43,7 +43,7 @@ fn is_tight(left: u16, right: u16) -> bool
         || is(right, SyntaxKind::GENERIC_ARG_LIST)
 }
 
-/// The greater of the levels of two elements.
+/// Returns the greater of the levels of two elements.
 fn greater_level(
     alloc: Global,
     left: &SyntaxElement,
@@ -61,7 +61,7 @@ fn greater_level(
 }
 
 impl Space {
-    /// What comes between two elements.
+    /// Returns the whitespace between two elements.
     pub fn between(
         alloc: Global,
         left: &SyntaxElement,

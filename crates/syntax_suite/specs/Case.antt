@@ -1,4 +1,4 @@
--- Cases of a rewrite: changes recorded on a tree, and what becomes of it.
+-- Cases of a rewrite: changes recorded on a tree, and the result of applying them.
 use Rattle.std.specs.Prelude.{ℕ, zero, suc, ◌-◌, List, [], ◌∷◌, length, reverse, map, Option, Some, None, is_none, Bool, true, false, ◌&&◌, not, nat_eq, slice_get, unwrap_or}
 use Rattle.std.specs.List.{filter, flat_map}
 use Rattle.std.specs.Cmp.Lexicographic.{pointwise}
@@ -20,7 +20,8 @@ pub data Recorded : Type 0 where
   over : (parent : List ℕ) → (first last : ℕ) → (new : List Reference) → (single : Bool) → Recorded
   over_root : (new : List Reference) → (single : Bool) → Recorded
 
--- what becomes of it: refusals; or the tree, the paths of what changed, the origins in preorder, how many changes are not dropped, and, of few, all orders that are admitted, in ascending order
+-- the result: an error; or the rewritten tree, the paths of the changed elements, the origins in preorder, the number of planned
+-- changes, and, if those are few, all admitted orders of them, in ascending order
 pub data Outcome : Type 0 where
   intersecting : Outcome
   missing : Outcome

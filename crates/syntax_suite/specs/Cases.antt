@@ -1,4 +1,4 @@
--- Cases of an independent reader of what a rewrite is, over trees made at random. Written by bench/rewrites_from_cases.py.
+-- Cases of a reference implementation of a rewrite, over random trees. Written by bench/rewrites_from_cases.py.
 use Rattle.std.specs.Prelude.{ℕ, List, [], ◌∷◌, Some, None, true, false}
 use Rattle.rowan_green.specs.Forest.{Forest, empty, node, leaf, Tree}
 use Rattle.syntax_suite.specs.Case.{Case, into, over, over_root, intersecting, missing, accepted}

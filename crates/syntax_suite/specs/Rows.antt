@@ -31,7 +31,7 @@ ROOT = 6
 abbrev pub TOMBSTONE : ℕ
 TOMBSTONE = 0
 
--- a leaf, and what stands after it
+-- a leaf, and the trees after it
 abbrev pub text : List ℕ → Forest → Forest
 text s r = leaf (record { kind = 7; text = s }) r
 
@@ -41,7 +41,7 @@ tree k f = record { kind = k; forest = f }
 abbrev pub root : ℕ → ℕ → Forest → Element
 root n k f = element_at n (tree k f) []
 
--- a token of a tree of its own
+-- a token of a new tree
 abbrev pub detached : ℕ → List ℕ → Element
 detached n s = element_at n (tree TOMBSTONE (text s empty)) (0 ∷ [])
 
@@ -49,7 +49,7 @@ detached n s = element_at n (tree TOMBSTONE (text s empty)) (0 ∷ [])
 abbrev pub text_after : Element → List Change → Mapping → List ℕ
 text_after e cs ms = forest_text (forest_in (rewrite e cs ms))
 
--- one element, named alone, is replaced by another; a list is put in place of nothing
+-- one element, named alone, is replaced by another; a list replaces nothing
 abbrev pub by : Way → Element → Change
 by w e = replace w 0 (e ∷ []) true
 
@@ -73,7 +73,7 @@ both_by e = by (1 ∷ []) e ∷ by (4 ∷ []) e ∷ []
 abbrev pub unit_before_each : List Change
 unit_before_each = insert [] 1 (unit ∷ []) ∷ insert [] 4 (unit ∷ []) ∷ []
 
--- ---- a node that is wrapped, and a token that is put into it
+-- ---- a node that is wrapped, and a token that is inserted into it
 
 abbrev pub one_node : Element
 one_node = root 1 ROOT (node X (text (codes "a") empty) empty)
@@ -97,7 +97,7 @@ two_in_one_gap = insert (0 ∷ []) 0 (detached 3 (codes "A") ∷ []) ∷ insert 
 abbrev pub list_in_one_gap : List Change
 list_in_one_gap = insert (0 ∷ []) 0 (detached 3 (codes "A") ∷ detached 4 (codes "B") ∷ []) ∷ []
 
--- ---- the same beside a node that is deleted
+-- ---- a node that is wrapped, next to a node that is deleted
 
 abbrev pub two_nodes : Element
 two_nodes = root 1 ROOT (node Y (text (codes "y") empty) (node X (text (codes "a") empty) empty))

@@ -1,4 +1,4 @@
-//! A case: changes recorded on a tree, and what becomes of it.
+//! A case: changes recorded on a tree, and the expected result.
 ghost use Rattle.std.specs.Prelude.{◌≡◌, ◌≤◌, [], map, is_none, false, IfOk};
 ghost use Rattle.std.specs.Bool.{OnTrue};
 ghost use Rattle.std.specs.List.{All};
@@ -19,24 +19,24 @@ use tree_rewrite::error::PlanError;
 use tree_rewrite::origins::origins_of;
 use tree_rewrite::plan::Plan;
 
-/// A member of an object.
+/// Returns the member `name` of an object.
 fn member<'a>(value: &'a Value, name: &str) -> anyhow::Result<&'a Value> {
     value.get(name).context("a member is missing")
 }
 
-/// The elements of a list.
+/// Returns the elements of a list.
 fn list(value: &Value) -> anyhow::Result<&[Value]> {
     let list = value.as_array().context("a value is no list")?;
     Ok(list.as_slice())
 }
 
-/// A number of a list.
+/// Returns the number at `index` of a list.
 fn number_in(value: &Value, index: usize) -> anyhow::Result<usize> {
     let number = value.get(index).and_then(Value::as_u64);
     Ok(number.context("a value is no number")? as usize)
 }
 
-/// Numbers.
+/// Returns the numbers of a list.
 fn numbers(alloc: Global, value: &Value) -> anyhow::Result<Vec<usize>> {
     let mut numbers = Vec::new(alloc);
     for number in list(value)? {
@@ -46,7 +46,7 @@ fn numbers(alloc: Global, value: &Value) -> anyhow::Result<Vec<usize>> {
     Ok(numbers)
 }
 
-/// A sign of a tree: a node begins, or ends, or a leaf stands there.
+/// Adds one entry of a tree to `builder`: the start of a node, a token, or the end of a node.
 fn build_sign(sign: &Value, builder: &mut GreenNodeBuilder) -> anyhow::Result<()> {
     let Some(kind) = sign.get(0).and_then(Value::as_u64) else {
         return Ok(builder.finish_node()?);
@@ -59,7 +59,7 @@ fn build_sign(sign: &Value, builder: &mut GreenNodeBuilder) -> anyhow::Result<()
     Ok(())
 }
 
-/// A tree of signs.
+/// Builds the green tree of a list of entries.
 fn green(alloc: Global, signs: &Value) -> anyhow::Result<GreenNode> {
     let mut builder = GreenNodeBuilder::new(alloc);
     for sign in list(signs)? {
@@ -71,7 +71,7 @@ fn green(alloc: Global, signs: &Value) -> anyhow::Result<GreenNode> {
     }
 }
 
-/// The trees, numbered from 1 on.
+/// Returns the trees of a case, numbered from 1.
 fn trees(alloc: Global, case: &Value) -> anyhow::Result<Vec<SyntaxNode>> {
     let mut ids = TreeIds::new();
     let mut trees = Vec::new(alloc);
@@ -82,7 +82,7 @@ fn trees(alloc: Global, case: &Value) -> anyhow::Result<Vec<SyntaxNode>> {
     Ok(trees)
 }
 
-/// The child of this number.
+/// Returns the child of `node` at index `number`.
 fn child(alloc: Global, node: &SyntaxNode, number: usize) -> anyhow::Result<SyntaxElement> {
     let mut left = number;
     for child in node.children_with_tokens(alloc)? {
@@ -95,7 +95,7 @@ fn child(alloc: Global, node: &SyntaxNode, number: usize) -> anyhow::Result<Synt
     bail!("a child is missing")
 }
 
-/// The element at a path from a node.
+/// Returns the element at `path` from `root`.
 fn element_at(alloc: Global, root: &SyntaxNode, path: &[usize]) -> anyhow::Result<SyntaxElement> {
     let mut element = SyntaxElement::Node(root.clone()?);
     for number in path {
@@ -107,7 +107,7 @@ fn element_at(alloc: Global, root: &SyntaxNode, path: &[usize]) -> anyhow::Resul
     Ok(element)
 }
 
-/// The element that the number of a tree and a path name.
+/// Returns the element that `at` names by a tree number and a path.
 fn element(alloc: Global, trees: &[SyntaxNode], at: &Value) -> anyhow::Result<SyntaxElement> {
     let number = number_in(at, 0)?;
     let root = trees.get(number.saturating_sub(1)).context("no such tree")?;
@@ -115,7 +115,7 @@ fn element(alloc: Global, trees: &[SyntaxNode], at: &Value) -> anyhow::Result<Sy
     element_at(alloc, root, &path)
 }
 
-/// The same, where a node stands there.
+/// Returns the node that `at` names by a tree number and a path.
 fn node(alloc: Global, trees: &[SyntaxNode], at: &Value) -> anyhow::Result<SyntaxNode> {
     match element(alloc, trees, at)? {
         SyntaxElement::Node(node) => Ok(node),
@@ -123,13 +123,13 @@ fn node(alloc: Global, trees: &[SyntaxNode], at: &Value) -> anyhow::Result<Synta
     }
 }
 
-/// A builder of mappings to the children of a node's parent.
+/// Returns a builder of a mapping to the children of the parent of `output`.
 fn builder_beside(alloc: Global, output: &SyntaxNode) -> anyhow::Result<SyntaxMappingBuilder> {
     let parent = output.parent()?.context("a root is mapped to")?;
     Ok(SyntaxMappingBuilder::new(alloc, parent)?)
 }
 
-/// Adds an entry of the mapping.
+/// Adds one entry to `mapping`.
 fn map_entry(
     alloc: Global,
     trees: &[SyntaxNode],
@@ -143,7 +143,7 @@ fn map_entry(
     Ok(builder.finish(mapping)?)
 }
 
-/// The mapping.
+/// Returns the mapping of a case.
 fn mapping(alloc: Global, trees: &[SyntaxNode], case: &Value) -> anyhow::Result<SyntaxMapping> {
     let mut mapping = SyntaxMapping::new(alloc);
     for entry in list(member(case, "mapping")?)? {
@@ -152,7 +152,7 @@ fn mapping(alloc: Global, trees: &[SyntaxNode], case: &Value) -> anyhow::Result<
     Ok(mapping)
 }
 
-/// What a change puts in.
+/// Returns the elements that a change inserts.
 fn payload(
     alloc: Global,
     trees: &[SyntaxNode],
@@ -165,7 +165,7 @@ fn payload(
     Ok(new)
 }
 
-/// The node that a change is recorded at.
+/// Returns the node whose children a change affects.
 fn parent(alloc: Global, root: &SyntaxNode, path: &Value) -> anyhow::Result<SyntaxNode> {
     match element_at(alloc, root, &numbers(alloc, path)?)? {
         SyntaxElement::Node(node) => Ok(node),
@@ -173,13 +173,13 @@ fn parent(alloc: Global, root: &SyntaxNode, path: &Value) -> anyhow::Result<Synt
     }
 }
 
-/// A member that is a number.
+/// Returns the member `name` of an object as a number.
 fn number(value: &Value, name: &str) -> anyhow::Result<usize> {
     let number = member(value, name)?.as_u64();
     Ok(number.context("a member is no number")? as usize)
 }
 
-/// Whether these are one node.
+/// Returns `true` if `elements` is a single node.
 fn is_one_node(elements: &[SyntaxElement]) -> bool
     ensures { OnTrue result (IsOneNode (map element_of elements.now)) }
 {
@@ -189,19 +189,19 @@ fn is_one_node(elements: &[SyntaxElement]) -> bool
     }
 }
 
-/// Whether an element is a root.
+/// Returns `true` if `element` is a root.
 fn is_root(element: &SyntaxElement) -> anyhow::Result<bool>
     ensures { IfOk result (λ b. b ≡ is_none (parent_of (element_of element.now))) }
 {
     Ok(element.parent()?.is_none())
 }
 
-/// Whether a replacement is of one element.
+/// Returns `true` if the change was recorded as the replacement of a single element.
 fn is_single(change: &Value) -> anyhow::Result<bool> {
     member(change, "single")?.as_bool().context("no truth")
 }
 
-/// The first and the last of a row of children.
+/// Returns the first and the last element of a child range.
 fn row(
     alloc: Global,
     parent: &SyntaxNode,
@@ -221,7 +221,7 @@ fn row(
     Ok((first, last))
 }
 
-/// A recorded replacement of a row of children.
+/// Returns the recorded replacement of a child range.
 fn row_replacement(
     alloc: Global,
     parent: &SyntaxNode,
@@ -241,7 +241,7 @@ fn row_replacement(
     })
 }
 
-/// A recorded replacement of the root.
+/// Returns the recorded replacement of the root.
 fn root_replacement(
     alloc: Global,
     root: &SyntaxNode,
@@ -266,7 +266,7 @@ fn root_replacement(
     })
 }
 
-/// A recorded replacement.
+/// Returns a recorded replacement.
 fn replacement(
     alloc: Global,
     root: &SyntaxNode,
@@ -284,7 +284,7 @@ fn replacement(
     row_replacement(alloc, &parent, trees, change)
 }
 
-/// A recorded change.
+/// Returns a recorded change.
 fn change(
     alloc: Global,
     root: &SyntaxNode,
@@ -305,7 +305,7 @@ fn change(
     Ok(Change::Insert { place, new })
 }
 
-/// The recorded changes.
+/// Returns the recorded changes of a case.
 fn changes(
     alloc: Global,
     root: &SyntaxNode,
@@ -322,7 +322,7 @@ fn changes(
     Ok(changes)
 }
 
-/// Whether these are the ranges of what changed.
+/// Returns `true` if `ranges` are the changed ranges of the case.
 fn are_changed(case: &Value, ranges: &[TextRange]) -> anyhow::Result<bool> {
     let expected = list(member(case, "changed")?)?;
     for (range, expected) in ranges.iter().zip(expected) {
@@ -335,7 +335,7 @@ fn are_changed(case: &Value, ranges: &[TextRange]) -> anyhow::Result<bool> {
     Ok(ranges.len() == expected.len())
 }
 
-/// Whether these are where the elements came from.
+/// Returns `true` if `origins` are the origins of the case.
 fn are_origins(alloc: Global, case: &Value, origins: &[SyntaxElement]) -> anyhow::Result<bool> {
     let expected = list(member(case, "origins")?)?;
     for (origin, expected) in origins.iter().zip(expected) {
@@ -350,7 +350,8 @@ fn are_origins(alloc: Global, case: &Value, origins: &[SyntaxElement]) -> anyhow
     Ok(origins.len() == expected.len())
 }
 
-/// Whether the plan, executed in this order, makes the tree of the case.
+/// Returns `true` if `order` is admitted, and the plan, executed in it, results in the tree, the
+/// changed ranges and the origins of the case.
 fn is_made(alloc: Global, case: &Value, plan: &Plan, order: &[usize]) -> anyhow::Result<bool> {
     if !plan.is_order(order) {
         return Ok(false);
@@ -363,7 +364,7 @@ fn is_made(alloc: Global, case: &Value, plan: &Plan, order: &[usize]) -> anyhow:
     Ok(rewritten.green == expected && changed && origins)
 }
 
-/// Whether it does so in each of these orders.
+/// Returns `true` if the plan does so in each of `orders`.
 fn is_made_in_each(
     alloc: Global,
     case: &Value,
@@ -391,7 +392,8 @@ fn are_refused(alloc: Global, case: &Value, plan: &Plan) -> anyhow::Result<bool>
     Ok(true)
 }
 
-/// Whether it does so in each order that the case names, and in the plan's own, and refuses the orders that the case refuses.
+/// Returns `true` if the plan does so in its own order and in those of the case, has as many
+/// planned changes as the case, and admits none of the orders that the case says are refused.
 fn is_executed(alloc: Global, case: &Value, plan: &Plan) -> anyhow::Result<bool> {
     if plan.len() != number(case, "kept")? || !are_refused(alloc, case, plan)? {
         return Ok(false);
@@ -403,7 +405,7 @@ fn is_executed(alloc: Global, case: &Value, plan: &Plan) -> anyhow::Result<bool>
     Ok(in_each && is_made(alloc, case, plan, &plan.order(alloc)?)?)
 }
 
-/// Whether this is what the case says of the changes.
+/// Returns `true` if `built` agrees with the verdict of the case.
 fn is_verdict(alloc: Global, case: &Value, built: Result<Plan, PlanError>) -> anyhow::Result<bool> {
     let verdict = member(case, "verdict")?.as_str().context("no verdict")?;
     match built {
@@ -414,7 +416,7 @@ fn is_verdict(alloc: Global, case: &Value, built: Result<Plan, PlanError>) -> an
     }
 }
 
-/// Whether of the changes on the tree of a root becomes what the case says.
+/// Returns `true` if the changes of the case, on the tree of `root`, have the expected result.
 fn is_met_on(alloc: Global, case: &Value, root: &SyntaxNode) -> anyhow::Result<bool>
     requires { root.now.place.up ≡ [] }
 {
@@ -424,12 +426,12 @@ fn is_met_on(alloc: Global, case: &Value, root: &SyntaxNode) -> anyhow::Result<b
     is_verdict(alloc, case, Plan::build(alloc, root, changes, &mapping))
 }
 
-/// The signs of the tree that is changed.
+/// Returns the entries of the tree that is edited.
 fn first_tree(case: &Value) -> anyhow::Result<&Value> {
     list(member(case, "trees")?)?.first().context("no tree")
 }
 
-/// Whether of the changes becomes what the case says.
+/// Returns `true` if the changes of the case have the expected result.
 pub(crate) fn is_met(alloc: Global, case: &Value) -> anyhow::Result<bool> {
     let green = green(alloc, first_tree(case)?)?;
     let root = SyntaxNode::new_root(alloc, green, &mut TreeIds::new())?;

@@ -1,4 +1,4 @@
-//! What the definitions of a rewrite give, computed.
+//! Results of the definitions of a rewrite, computed.
 ghost use Rattle.std.specs.Prelude.{◌≡◌, true};
 ghost use Rattle.std.specs.List.{list_all};
 ghost use Rattle.syntax_suite.specs.Case.{agrees};
@@ -10,7 +10,7 @@ pub(crate) fn rows()
     ensures holds { Rows }
 {}
 
-/// Rewrites that an independent reader of the rules worked, with all orders of their changes.
+/// Rewrites computed by a reference implementation, with all orders of their changes.
 pub(crate) fn cases_agree()
     ensures { list_all agrees cases ≡ true }
 {}

@@ -1,7 +1,9 @@
-//! Executes recorded changes: each line of the input is a JSON object with trees, of which the first is edited, a mapping, changes, and
-//! what becomes of them. Prints the cases of which something else becomes, and how many there are of both.
+//! Executes recorded changes: each line of the input is a JSON object with trees, of which the
+//! first is edited, a mapping, changes, and the expected result. Prints the cases with another
+//! result, and the numbers of passed and failed cases.
 //!
-//! The cases that lie beside it were computed by a slow, plain reader of the rules that shares no code with these crates.
+//! The cases next to it were computed by a slow, plain reference implementation that shares no code
+//! with these crates.
 #![tactic(auto)]
 
 use anyhow::Context;

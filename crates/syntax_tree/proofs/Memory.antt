@@ -1,4 +1,4 @@
--- A list with nothing changed.
+-- Mapping the identity over a list leaves it unchanged.
 use Rattle.std.proofs.Common.{◌≡◌, List, [], ◌∷◌, map, refl, ap}
 
 pub map-same : {A : Type 0} (xs : List A) → map (λ y. y) xs ≡ xs

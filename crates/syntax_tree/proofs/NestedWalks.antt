@@ -1,4 +1,4 @@
--- Walks in which what is entered inside an element lies within its range.
+-- Walks in which all elements entered inside an element are within its range.
 use Rattle.std.proofs.Common.{◌≡◌, ℕ, zero, suc, ◌+◌, ◌<◌, ◌≤◌, nat_le, List, [], ◌∷◌, ◌++◌, length, drop, map, refl, ap, sym, ◌∙◌, subst, arith, append_assoc, append-nil, Bool, false, ◌&&◌, ◌==◌, Option, None}
 use Rattle.std.specs.Option.{option_or}
 use Rattle.std.proofs.lemmas.Bool.{and_parts, and_from, both_ways, eqb-true, le-leb, cond-false, false_from_ne_true}
@@ -15,14 +15,14 @@ use Rattle.syntax_tree.specs.Handle.{element_of, with_cursor}
 use Rattle.syntax_tree.specs.Search.{is_of, first_in}
 use Rattle.syntax_tree.specs.declared.element.SyntaxElement.{SyntaxElement}
 
--- what is entered before the first leaving of an element that was entered `depth` elements further out
+-- the elements entered before the first `Leave` event of an element that was entered `depth` elements further out
 abbrev inside : ℕ → List Event → List Cursor
 inside depth [] = []
 inside depth (Enter c ∷ w) = c ∷ inside (suc depth) w
 inside zero (Leave c ∷ w) = []
 inside (suc depth) (Leave c ∷ w) = inside depth w
 
--- all of them lie between two bytes
+-- the ranges of all elements are between two bytes
 abbrev pub AreIn : ℕ → ℕ → List Cursor → Type 0
 AreIn a b [] = Unit {0}
 AreIn a b (c ∷ cs) = (a ≤ start_of (place_in c)) × (end_of (place_in c) ≤ b) × AreIn a b cs
@@ -35,7 +35,7 @@ Nested [] = Unit {0}
 Nested (Enter c ∷ w) = AreWithin c (inside zero w) × Nested w
 Nested (Leave c ∷ w) = Nested w
 
--- ---- what is passed over
+-- ---- skipped elements
 
 entered-skipped : (d : ℕ) (w : List Event) → entered w ≡ inside d w ++ entered (skipped d w)
 entered-skipped d [] = refl
@@ -49,7 +49,7 @@ nested-skipped d (Enter c ∷ w) h = nested-skipped (suc d) w h.1
 nested-skipped zero (Leave c ∷ w) h = h
 nested-skipped (suc d) (Leave c ∷ w) h = nested-skipped d w h
 
--- an element of another range
+-- an element with another range
 other_range : (kind a b : ℕ) (p : Place) (from to : ℕ) → from ≤ start_of p → end_of p ≤ to → (from ≤ a → b ≤ to → ⊥) → is_of kind a b p ≡ false
 other_range kind a b p from to starts ends out =
     false_from_ne_true (is_of kind a b p)
@@ -69,11 +69,11 @@ pub map-both : (n : ℕ) (xs ys : List Cursor) → map (with_cursor n) (xs ++ ys
 map-both n [] ys = refl
 map-both n (x ∷ xs) ys = ap (λ (cs : List SyntaxElement). with_cursor n x ∷ cs) (map-both n xs ys)
 
--- the first of a kind and a range among what is entered
+-- the first entered element with a kind and a range
 abbrev pub found : ℕ → ℕ → ℕ → ℕ → List Event → Option SyntaxElement
 found n kind a b w = first_in kind a b (map (with_cursor n) (entered w))
 
--- what lies inside an element that does not contain the range is not of it
+-- an element inside one that does not contain the range does not have the range
 passed_over : (n kind a b from to : ℕ) (w : List Event) → AreIn from to (inside zero w) → (from ≤ a → b ≤ to → ⊥) → found n kind a b w ≡ found n kind a b (skipped zero w)
 passed_over n kind a b from to w h out =
     let test : SyntaxElement → Bool = λ x. is_of kind a b (element_of x).place in
@@ -88,13 +88,13 @@ place_of : (n : ℕ) (c : Cursor) → (element_of (with_cursor n c)).place ≡ p
 place_of n (Node p) = refl
 place_of n (Token p) = refl
 
--- the walk goes on, and nothing is missed
+-- the walk continues, and no match is missed
 pub record GoesOn (n kind a b : ℕ) (v w : List Event) : Type 0 where
   pub nested : Nested w
   pub same : found n kind a b v ≡ found n kind a b w
   pub shorter : length w < length v
 
--- after an element that is not the one
+-- after an element that does not match
 pub goes_on : (n kind a b : ℕ) (c : Cursor) (v w : List Event) → v ≡ Enter c ∷ w → Nested v → is_of kind a b (element_of (with_cursor n c)).place ≡ false → GoesOn n kind a b v w
 goes_on n kind a b c v w is h other = record {
   nested = let P : List Event → Type 0 = Nested in let all = subst P is h in all.1;
@@ -111,7 +111,7 @@ shorter-skipped (suc d) (Leave c ∷ w) = omega (arith, shorter-skipped d w)
 pub out_of : (a b from to : ℕ) → (nat_le from a && nat_le b to) ≡ false → from ≤ a → b ≤ to → ⊥
 out_of a b from to out l r = both_ways _ out (and_from _ _ (le-leb from a l) (le-leb b to r))
 
--- after an element that does not contain the range, and all that is inside it
+-- after an element that does not contain the range, and all elements inside it
 pub goes_over : (n kind a b : ℕ) (c : Cursor) (v w : List Event) → v ≡ Enter c ∷ w → Nested v → is_of kind a b (element_of (with_cursor n c)).place ≡ false
     → (nat_le (start_of (element_of (with_cursor n c)).place) a && nat_le b (end_of (element_of (with_cursor n c)).place)) ≡ false
     → GoesOn n kind a b v (skipped zero w)
@@ -163,7 +163,7 @@ later p i low h =
     let on : start_of (below p i) ≤ end_of (below p i) = omega arith in
     omega (arith, h, next, on)
 
--- what is entered below a place, from a child on, lies between a byte that the child does not begin before and the end of the place
+-- the elements entered below a place, from a child on, are between a byte at or before the start of the child and the end of the place
 pub forest-from : (p : Place) (i low : ℕ) (f : Forest) → low ≤ start_of (below p i) → AreIn low (end_of p) (entered (walk_forest p i f))
 forest-from p i low empty h = tt
 forest-from p i low (leaf l r) h = (h, end_within p i, forest-from p (i + 1) low r (later p i low h))
@@ -176,11 +176,11 @@ forest-from p i low (node k g r) h =
     let P : List Cursor → Type 0 = AreIn low (end_of p) in
     (h, end_within p i, subst P (sym (entered-append below_it (Leave (Node (below p i)) ∷ after))) both)
 
--- what is entered below an element lies within its range
+-- the elements entered below an element are within its range
 pub forest-in : (p : Place) (i : ℕ) (f : Forest) → AreIn (start_of p) (end_of p) (entered (walk_forest p i f))
 forest-in p i f = forest-from p i (start_of p) f (omega arith)
 
--- what is entered from here on and before the leaving of an element is what stands below it
+-- the elements entered before the `Leave` event of an element are those below it
 below-within : (p : Place) (i : ℕ) (f : Forest) (w : List Event) → AreWithin (Node p) (inside zero (walk_forest p i f ++ Leave (Node p) ∷ w))
 below-within p i f w =
     let P : List Cursor → Type 0 = AreWithin (Node p) in

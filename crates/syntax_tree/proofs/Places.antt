@@ -23,7 +23,7 @@ above_way : (t : Tree) (up : Way) (q : Place) → above (record { root = t; up =
 above_way t [] q is = absurd (none-some q is)
 above_way t (i ∷ up) q is = ap (λ p. i ∷ p.up) (same_Some _ _ is)
 
--- the way of a child is its number and the way of its parent
+-- the up-path of a child is its index, followed by the up-path of its parent
 pub up_from_above : (p q : Place) → above p ≡ Some q → p.up ≡ index_of p ∷ q.up
 up_from_above p q is = above_way p.root p.up q is
 

@@ -1,4 +1,4 @@
--- What a node or a token that is handed out stands for.
+-- Models of node, token and element handles.
 use Rattle.std.specs.Prelude.{ℕ, List, map, Option, Some, None, option_map}
 use Rattle.rowan_green.specs.Either.{either}
 use Rattle.rowan_green.specs.declared.utility_types.NodeOrToken.TheVariants as cursors
@@ -23,36 +23,36 @@ abbrev pub token_of : SyntaxElement → Option Element
 token_of (Node e) = None
 token_of (Token e) = Some e
 
--- where it stands, as a node or as a token
+-- its place, as a node or a token
 abbrev pub cursor_of : SyntaxElement → Cursor
 cursor_of (Node e) = cursors.Node e.place
 cursor_of (Token e) = cursors.Token e.place
 
--- the element at a place of the tree of this number
+-- the element at a place of the tree with this number
 abbrev pub with_number : ℕ → Place → Element
 with_number n p = record { number = n; place = p }
 
--- another place of the same tree
+-- the element at another place of its tree
 abbrev pub with_place : Element → Place → Element
 with_place e p = with_number e.number p
 
--- the node or token at a place of the tree of this number
+-- the node or token at a cursor into the tree with this number
 abbrev pub with_cursor : ℕ → Cursor → SyntaxElement
 with_cursor n c = either (λ p. Node (with_number n p)) (λ p. Token (with_number n p)) c
 
--- a walk through the tree of this number, as the events that are left
+-- a walk through the tree with this number: the remaining events
 pub record Walk : Type 0 where
   pub number : ℕ
   pub events : List Event
 
--- the elements that it still enters
+-- the elements that the walk still enters
 abbrev pub elements_left : Walk → List SyntaxElement
 elements_left w = map (with_cursor w.number) (entered w.events)
 
--- the element above
+-- the parent
 abbrev pub parent_of : Element → Option Element
 parent_of e = option_map (with_place e) (above e.place)
 
--- the element of the same tree that stands at a way, if one does
+-- the element of the same tree at an up-path, if any
 abbrev pub standing_at : Element → Way → Option Element
 standing_at e w = let q = element_at e.number e.place.root w in option_map (λ _. q) (term_of q)

@@ -7,7 +7,7 @@ use Rattle.parser_input.specs.Kind.{raw_of}
 use Rattle.parser_input.proofs.KindTable.{slice_get-kinds}
 use Rattle.parser_input.specs.KindTable.{all_kinds}
 
--- the kind of a raw number; a number that is no kind's reads as an error
+-- the kind of a raw number; `ERROR` if it is not that of a kind
 abbrev pub kind_of_raw : ℕ → SyntaxKind
 kind_of_raw raw = unwrap_or (slice_get all_kinds raw) ERROR
 

@@ -1,11 +1,11 @@
--- Mappings: which node of another tree stands for a node.
+-- Mappings from nodes to the corresponding nodes of other trees.
 use Rattle.std.specs.Prelude.{◌≡◌, ℕ, ◌<◌, ◌≤◌, List, [], ◌∷◌, length, codes, Option, Some, None, Bool, true, false, ◌&&◌, nat_eq, nat_lt, if◌then◌else◌}
 use Rattle.std.specs.List.{zip, list_all}
 use Rattle.syntax_tree.specs.Element.{Way, same_way, Element, same_element}
 use Rattle.syntax_tree.specs.declared.error.MappingError.{MappingError}
 use Rattle.syntax_tree.specs.declared.error.MappingError.TheVariants.{NotChild, MoreInputs, Order, NoMemory}
 
--- inputs with their outputs, the first recorded first
+-- inputs with their outputs, in the order in which they were recorded
 abbrev pub Mapping : Type 0
 Mapping = List (Element × Element)
 
@@ -26,19 +26,19 @@ is_child_way p (i ∷ w) = same_way w p
 abbrev pub is_child : Element → Element → Bool
 is_child parent e = nat_eq e.number parent.number && is_child_way parent.place.up e.place.up
 
--- a mapping under way: all outputs are children of the parent
+-- a builder: all outputs are children of the parent
 pub record Building : Type 0 where
   pub parent : Element
   pub entries : Mapping
 
--- one entry is refused: the output is no child of the parent; or its tree's number is not the greater one
+-- recording one entry fails: the output is not a child of the parent, or its tree number is not greater than the input's
 abbrev pub RefusesNode : Element → Element → Element → MappingError → Type 0
 RefusesNode parent i o NotChild = is_child parent o ≡ false
 RefusesNode parent i o MoreInputs = ⊥
 RefusesNode parent i o Order = (is_child parent o ≡ true) × (o.number ≤ i.number)
 RefusesNode parent i o NoMemory = Unit {0}
 
--- one entry is fine
+-- one entry can be recorded
 abbrev pub AcceptsNode : Element → Element → Element → Type 0
 AcceptsNode parent i o = (is_child parent o ≡ true) × (i.number < o.number)
 
@@ -46,18 +46,18 @@ AcceptsNode parent i o = (is_child parent o ≡ true) × (i.number < o.number)
 abbrev pub are_children : Element → Mapping → Bool
 are_children parent ms = list_all (λ m. is_child parent m.1) ms
 
--- each output's tree has the greater number
+-- the tree number of each output is greater than that of its input
 abbrev pub are_ordered : Mapping → Bool
 are_ordered ms = list_all (λ m. nat_lt m.0.number m.1.number) ms
 
--- several entries are refused, by the first of these that holds: an output is no child of the parent; there are more inputs than outputs; the numbers are out of order
+-- recording several entries fails, with the first of these that holds: an output is not a child of the parent; there are more inputs than outputs; tree numbers are out of order
 abbrev pub RefusesNodes : Element → List Element → List Element → MappingError → Type 0
 RefusesNodes parent is os NotChild = are_children parent (zip is os) ≡ false
 RefusesNodes parent is os MoreInputs = (are_children parent (zip is os) ≡ true) × (length os < length is)
 RefusesNodes parent is os Order = (are_children parent (zip is os) ≡ true) × (length is ≤ length os) × (are_ordered (zip is os) ≡ false)
 RefusesNodes parent is os NoMemory = Unit {0}
 
--- several entries are fine
+-- several entries can be recorded
 pub record AcceptsNodes (parent : Element) (is os : List Element) : Type 0 where
   pub children : are_children parent (zip is os) ≡ true
   pub enough : length is ≤ length os

@@ -1,4 +1,4 @@
--- The nodes and tokens around a node: one kind's among its children, and the nodes of a walk.
+-- Child nodes and tokens of one kind, and the nodes of a walk.
 use Rattle.std.specs.Prelude.{ℕ, Bool, ◌==◌, List, map}
 use Rattle.std.specs.List.{filter}
 use Rattle.rowan.specs.Place.{kind_at}
@@ -23,11 +23,11 @@ child_nodes e = map (with_place e) (nodes (children e.place))
 abbrev pub child_tokens : Element → List Element
 child_tokens e = map (with_place e) (tokens (children e.place))
 
--- some nodes, of which those of one kind are wanted
+-- child nodes, of which an iterator returns those of one kind
 pub record Wanted : Type 0 where
   pub kind : ℕ
   pub nodes : List Element
 
--- those of the kind
+-- the nodes of that kind
 abbrev pub wanted_nodes : Wanted → List Element
 wanted_nodes w = filter (is_of_kind w.kind) w.nodes

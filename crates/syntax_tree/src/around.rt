@@ -12,7 +12,7 @@ use crate::language::RustLanguage;
 use rowan::SyntaxText;
 use std::alloc::{AllocError, Global};
 
-/// Returns the node of a cursor into the tree with this number, if there is a cursor.
+/// Returns the node at `cursor`, if any, in the tree with number `tree`.
 fn node_if(tree: u32, cursor: Option<rowan::SyntaxNode<RustLanguage>>) -> Option<SyntaxNode>
     ensures { result ≡ option_map (with_number tree) cursor }
 {
@@ -22,7 +22,7 @@ fn node_if(tree: u32, cursor: Option<rowan::SyntaxNode<RustLanguage>>) -> Option
     }
 }
 
-/// Returns the token of a cursor into the tree with this number, if there is a cursor.
+/// Returns the token at `cursor`, if any, in the tree with number `tree`.
 fn token_if(tree: u32, cursor: Option<rowan::SyntaxToken<RustLanguage>>) -> Option<SyntaxToken>
     ensures { result ≡ option_map (with_number tree) cursor }
 {
@@ -33,7 +33,7 @@ fn token_if(tree: u32, cursor: Option<rowan::SyntaxToken<RustLanguage>>) -> Opti
 }
 
 impl SyntaxNode {
-    /// Returns its text, whitespace and comments too.
+    /// Returns its text, including trivia.
     pub fn text(&self) -> Result<SyntaxText, AllocError>
         ensures { IfOk result (λ t. t ≡ text_at self.now.place) }
     {
@@ -58,7 +58,7 @@ impl SyntaxNode {
         Ok(token_if(self.tree(), token))
     }
 
-    /// Returns the first child that is a node.
+    /// Returns the first child node.
     pub fn first_child(&self, alloc: Global) -> Result<Option<SyntaxNode>, AllocError>
         ensures { IfOk result (λ n. n
             ≡ option_map (with_place self.now) (first (nodes (children self.now.place)))) }
@@ -67,7 +67,7 @@ impl SyntaxNode {
         Ok(node_if(self.tree(), child))
     }
 
-    /// Returns the last child that is a node.
+    /// Returns the last child node.
     pub fn last_child(&self, alloc: Global) -> Result<Option<SyntaxNode>, AllocError>
         ensures { IfOk result (λ n. n
             ≡ option_map (with_place self.now) (first (nodes (children_back self.now.place)))) }

@@ -1,4 +1,4 @@
-//! Typed nodes: a wrapper for each kind of node that has a meaning of its own.
+//! Typed nodes: the trait of the wrappers of single node kinds.
 ghost use Rattle.std.specs.Prelude.{◌≡◌, ◌↔◌, Bool, true, IsSome, IfSome};
 ghost use Rattle.rowan.specs.Place.{kind_at};
 ghost use Rattle.parser_input.specs.declared.syntax_kind.SyntaxKind.{SyntaxKind};
@@ -8,23 +8,24 @@ ghost use Rattle.syntax_tree.specs.Language.{kind_of_raw};
 use crate::handle::SyntaxNode;
 use parser_input::SyntaxKind;
 
-/// A node of a numbered tree, of a kind that can be cast to the type.
+/// A typed node: a node of a numbered tree whose kind can be cast to this type.
 pub trait AstNode: Sized {
-    /// Whether nodes of a kind can be cast.
+    /// Model: whether a node of this kind can be cast.
     ghost casts: { SyntaxKind → Bool };
 
-    /// Where the node stands.
+    /// Model: the node.
     ghost stands: { Self → Element };
 
+    /// Returns `true` if a node of kind `kind` can be cast to this type.
     fn can_cast(kind: SyntaxKind) -> bool
         ensures { result ≡ casts kind };
 
-    /// The node as this type, exactly where its kind can be cast.
+    /// Casts `node` to this type, or returns `None` if its kind cannot be cast.
     fn cast(node: SyntaxNode) -> Option<Self>
         ensures cast_when { IsSome result ↔ (casts (kind_of_raw (kind_at node.place)) ≡ true) }
         ensures gives { IfSome result (λ x. stands x ≡ node) };
 
-    /// The node back.
+    /// Returns the untyped node.
     fn syntax(&self) -> &SyntaxNode
         ensures back { result.now ≡ stands self.now }
         ensures own_kind { casts (kind_of_raw (kind_at (stands self.now).place)) ≡ true };

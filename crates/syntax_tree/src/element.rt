@@ -13,8 +13,10 @@ use parser_input::SyntaxKind;
 use rowan_green::{GreenElement, NodeOrToken, TextRange};
 use std::alloc::{AllocError, Global};
 
-/// A node or a token of a numbered tree. Two are equal where both are nodes, or both tokens, of one
-/// tree number and one way.
+/// A node or a token of a numbered tree.
+///
+/// Two elements are equal if both are nodes or both are tokens, and they have the same tree number
+/// and the same up-path.
 #[derive(PartialEq, Eq, Hash, Drop)]
 pub enum SyntaxElement {
     Node(SyntaxNode),
@@ -22,7 +24,7 @@ pub enum SyntaxElement {
 }
 
 impl SyntaxElement {
-    /// The node, if it is one.
+    /// Returns the node, or `None` if the element is a token.
     pub fn into_node(self) -> Option<SyntaxNode>
         ensures { result ≡ node_of self }
     {
@@ -32,7 +34,7 @@ impl SyntaxElement {
         }
     }
 
-    /// The token, if it is one.
+    /// Returns the token, or `None` if the element is a node.
     pub fn into_token(self) -> Option<SyntaxToken>
         ensures { result ≡ token_of self }
     {
@@ -42,7 +44,7 @@ impl SyntaxElement {
         }
     }
 
-    /// A reference to the node, if it is one.
+    /// Returns a reference to the node, or `None` if the element is a token.
     pub fn as_node(&self) -> Option<&SyntaxNode>
         ensures { option_copied result ≡ node_of self.now }
     {
@@ -52,7 +54,7 @@ impl SyntaxElement {
         }
     }
 
-    /// A reference to the token, if it is one.
+    /// Returns a reference to the token, or `None` if the element is a node.
     pub fn as_token(&self) -> Option<&SyntaxToken>
         ensures { option_copied result ≡ token_of self.now }
     {
@@ -62,7 +64,7 @@ impl SyntaxElement {
         }
     }
 
-    /// The number of its tree.
+    /// Returns the number of its tree.
     pub fn tree(&self) -> u32
         ensures { result ≡ (element_of self.now).number }
     {
@@ -72,7 +74,7 @@ impl SyntaxElement {
         }
     }
 
-    /// The numbers of the children to go into, from the root on.
+    /// Returns its path: the child indices from the root down to the element.
     pub fn path(&self, alloc: Global) -> Result<Vec<usize>, AllocError>
         ensures { IfOk result (λ v. v.items ≡ reverse (element_of self.now).place.up) }
     {
@@ -82,7 +84,7 @@ impl SyntaxElement {
         }
     }
 
-    /// The child numbers from the element up to the root, its own first.
+    /// Returns its up-path: the child indices from the element up to the root, innermost first.
     pub fn way(&self, alloc: Global) -> Result<Vec<usize>, AllocError>
         ensures { IfOk result (λ v. v.items ≡ (element_of self.now).place.up) }
     {
@@ -92,7 +94,7 @@ impl SyntaxElement {
         }
     }
 
-    /// Its kind; a raw number that is no kind's reads as an error.
+    /// Returns its kind; `ERROR` if the raw number is not that of a kind.
     pub fn kind(&self) -> SyntaxKind
         ensures { result ≡ kind_of_raw (kind_at (element_of self.now).place) }
     {
@@ -102,7 +104,7 @@ impl SyntaxElement {
         }
     }
 
-    /// Its bytes in the tree's text.
+    /// Returns its text range, in bytes of the text of the tree.
     pub fn text_range(&self) -> TextRange
         ensures start { result.start.0 ≡ start_of (element_of self.now).place }
         ensures end { result.end.0 ≡ end_of (element_of self.now).place }
@@ -113,7 +115,7 @@ impl SyntaxElement {
         }
     }
 
-    /// Its number among its parent's children, nodes and tokens alike; 0 for a root.
+    /// Returns its index among all children of its parent, nodes and tokens; 0 for a root.
     pub fn index(&self) -> usize
         ensures { result ≡ index_of (element_of self.now).place }
     {
@@ -123,7 +125,7 @@ impl SyntaxElement {
         }
     }
 
-    /// Its number below a node that is its parent.
+    /// Returns its index among the children of `parent`, which is its parent.
     pub(crate) fn index_below(&self, parent: &SyntaxNode) -> usize
         requires { parent_of (element_of self.now) ≡ Some parent.now }
         ensures index { result ≡ index_of (element_of self.now).place }
@@ -143,7 +145,7 @@ impl SyntaxElement {
         }
     }
 
-    /// The number after its own, below a node that is its parent.
+    /// Returns the index after its own among the children of `parent`, which is its parent.
     pub(crate) fn next_index(&self, parent: &SyntaxNode) -> usize
         requires { parent_of (element_of self.now) ≡ Some parent.now }
         ensures { result ≡ index_of (element_of self.now).place + 1 }
@@ -154,7 +156,8 @@ impl SyntaxElement {
         index + 1
     }
 
-    /// Whether it stands at a way, the innermost number first, in the tree of this number.
+    /// Returns `true` if it is in the tree with number `tree`, at up-path `way` (innermost index
+    /// first).
     pub fn stands_at(&self, tree: u32, way: &[usize]) -> Result<bool, AllocError>
         ensures { (t : Tree) → IfOk result (λ b. b
             ≡ same_element (element_of self.now) (element_at tree t way.now)) }
@@ -168,7 +171,7 @@ impl SyntaxElement {
         }
     }
 
-    /// The parent, none of a root.
+    /// Returns the parent, or `None` for a root.
     pub fn parent(&self) -> Result<Option<SyntaxNode>, AllocError>
         ensures { IfOk result (λ r. r ≡ parent_of (element_of self.now)) }
     {
@@ -178,7 +181,7 @@ impl SyntaxElement {
         }
     }
 
-    /// Whether it is a node.
+    /// Returns `true` if it is a node.
     pub fn is_node(&self) -> bool
         ensures { result ≡ is_node (term_of (element_of self.now)) }
     {
@@ -194,7 +197,7 @@ impl SyntaxElement {
         }
     }
 
-    /// The element without its place.
+    /// Returns the green node or token.
     pub fn green(&self) -> Result<GreenElement, AllocError>
         ensures { IfOk result (λ e. term_of (element_of self.now) ≡ Some e) }
     {
@@ -208,7 +211,11 @@ impl SyntaxElement {
 impl Clone for SyntaxElement {
     ghost is_clone = { λ e copy. copy ≡ e };
 
-    /// Refuses only where as many clones stand as a `usize` can count.
+    /// Returns another handle to the element. Does not allocate.
+    ///
+    /// # Errors
+    ///
+    /// Returns an error only if the reference count overflows.
     fn clone(&self) -> Result<SyntaxElement, AllocError> {
         match self {
             SyntaxElement::Node(node) => Ok(SyntaxElement::Node(node.clone()?)),
@@ -239,13 +246,16 @@ impl From<SyntaxToken> for SyntaxElement {
     }
 }
 
-/// What stands for an element: a node, a token, one of both, or a reference to one of these.
+/// A type that can be turned into an element: a node, a token, an element, or a reference to one.
 pub trait Element: Sized {
-    /// The element.
+    /// Model: the element.
     ghost element: { Self → SyntaxElement };
 
-    /// The element. A reference is cloned, which is refused only where as many clones stand as a
-    /// `usize` can count.
+    /// Converts into a [`SyntaxElement`]. A reference is cloned.
+    ///
+    /// # Errors
+    ///
+    /// Returns an error only if the reference count overflows.
     fn syntax_element(self) -> Result<SyntaxElement, AllocError>
         ensures { IfOk result (λ e. e ≡ element self) };
 }

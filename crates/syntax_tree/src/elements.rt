@@ -1,4 +1,4 @@
-//! Green elements of known size, of which only memory can be wanting.
+//! Constructors of green elements whose size is known to fit, so that only an allocation can fail.
 ghost use Rattle.std.specs.Prelude.{◌≡◌, ◌<◌, ◌^◌, length, IfOk};
 ghost use Rattle.rowan_green.specs.Term.{tree_of, FitsNode};
 ghost use Rattle.parser_input.specs.Kind.{raw_of};
@@ -7,7 +7,7 @@ use parser_input::syntax_kind::SyntaxKind;
 use rowan_green::{GreenElement, GreenError, GreenNode, GreenToken, NodeOrToken};
 use std::alloc::{AllocError, Global};
 
-/// A token of this kind and text.
+/// Creates a token of kind `kind` with text `text`.
 pub fn token(alloc: Global, kind: SyntaxKind, text: &str) -> Result<GreenToken, AllocError>
     requires { length text.now < 2 ^ 32 }
     ensures { IfOk result (λ t. t ≡ record { kind = raw_of kind; text = text.now }) }
@@ -20,7 +20,7 @@ pub fn token(alloc: Global, kind: SyntaxKind, text: &str) -> Result<GreenToken, 
     }
 }
 
-/// A node of this kind around these children.
+/// Creates a node of kind `kind` with children `children`.
 pub fn node(
     alloc: Global,
     kind: SyntaxKind,

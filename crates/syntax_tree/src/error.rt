@@ -1,9 +1,9 @@
-//! Why a tree, a mapping or a position could not be made.
+//! The errors of trees, mappings and positions.
 use std::alloc::{AllocError, AllocFailed};
 use std::error::Error;
 use std::fmt;
 
-/// Each tree number was given.
+/// The error of [`TreeIds::next`](crate::TreeIds::next): no tree number is left.
 #[derive(Clone, Copy, Debug, PartialEq, Eq)]
 pub struct Spent;
 
@@ -19,12 +19,12 @@ impl fmt::Display for Spent {
 
 impl Error for Spent {}
 
-/// Why a tree was not made. What was refused took no number.
+/// The error type of functions that create a tree. On error, no tree number is used up.
 #[derive(Clone, Copy, Debug, PartialEq, Eq)]
 pub enum TreeError {
-    /// Each tree number was given.
+    /// No tree number is left.
     Spent = 1,
-    /// Memory was refused.
+    /// Out of memory.
     NoMemory = 2,
 }
 
@@ -66,16 +66,17 @@ impl From<Spent> for TreeError {
     }
 }
 
-/// Why an entry of a mapping was not recorded. What was refused changed nothing.
+/// The error type of [`SyntaxMappingBuilder`](crate::SyntaxMappingBuilder). On error, the builder
+/// is unchanged.
 #[derive(Clone, Copy, Debug, PartialEq, Eq)]
 pub enum MappingError {
-    /// An output is no child of the mapping's parent.
+    /// An output is not a child of the builder's parent node.
     NotChild = 1,
     /// There are more inputs than outputs.
     MoreInputs = 2,
-    /// The number of an output's tree is not greater than that of its input's.
+    /// The tree number of an output is not greater than that of its input.
     Order = 3,
-    /// Memory was refused.
+    /// Out of memory.
     NoMemory = 4,
 }
 
@@ -119,12 +120,13 @@ impl<T: Drop> From<AllocFailed<T>> for MappingError {
     }
 }
 
-/// Why there is no position beside an element.
+/// The error type of [`Position::before`](crate::Position::before) and
+/// [`Position::after`](crate::Position::after).
 #[derive(Clone, Copy, Debug, PartialEq, Eq)]
 pub enum PositionError {
     /// The element is the root of its tree.
     NoParent = 1,
-    /// Memory was refused.
+    /// Out of memory.
     NoMemory = 2,
 }
 

@@ -1,4 +1,4 @@
-//! The first element of a kind and a range.
+//! Search for the first element with a kind and a range.
 ghost use Rattle.std.specs.Prelude.{◌≡◌, ◌&&◌, ◌<◌, nat_le, IfOk};
 ghost use Rattle.parser_input.specs.Kind.{raw_of};
 ghost use Rattle.rowan.specs.Place.{kind_at, start_of, end_of};
@@ -14,7 +14,7 @@ use rowan_green::TextRange;
 use std::alloc::{AllocError, Global};
 
 impl SyntaxElement {
-    /// The raw number of its kind.
+    /// Returns the raw number of its kind.
     fn raw_kind(&self) -> u16
         ensures { result ≡ kind_at (element_of self.now).place }
     {
@@ -24,6 +24,7 @@ impl SyntaxElement {
         }
     }
 
+    /// Returns `true` if its raw kind is `kind` and its range is `range`.
     fn is_of(&self, kind: u16, range: TextRange) -> bool
         ensures { result ≡ is_of kind range.start.0 range.end.0 (element_of self.now).place }
     {
@@ -31,7 +32,7 @@ impl SyntaxElement {
         self.raw_kind() == kind && own.start().0 == range.start().0 && own.end().0 == range.end().0
     }
 
-    /// Whether its range contains another one.
+    /// Returns `true` if its range contains `range`.
     fn spans(&self, range: TextRange) -> bool
         ensures { result ≡ (nat_le (start_of (element_of self.now).place) range.start.0
             && nat_le range.end.0 (end_of (element_of self.now).place)) }
@@ -42,7 +43,7 @@ impl SyntaxElement {
 }
 
 impl SyntaxElement {
-    /// The first child whose range contains another one, if there is one.
+    /// Returns the first child whose range contains `range`.
     fn child_holding(
         &self,
         alloc: Global,
@@ -56,7 +57,7 @@ impl SyntaxElement {
                 Ok(numbered_if(node.tree(), child))
             }
             SyntaxElement::Token(token) => {
-                // (the contract is told that a leaf stands here, which has no children)
+                // (the proof needs the fact that this is a leaf, which has no children)
                 let _leaf = token.cursor().green();
                 Ok(None)
             }
@@ -65,10 +66,11 @@ impl SyntaxElement {
 }
 
 impl SyntaxNode {
-    /// The first element in preorder that is of a kind and has a range, at and below this node: of
-    /// several that have the range, the outermost. Of a range that has bytes only the elements that
-    /// contain it are looked at, one on each level. An empty one is searched in all elements that
-    /// touch it, past the siblings before them.
+    /// Returns the first element in preorder, at and below this node, with kind `kind` and range
+    /// `range`. Of several elements with this range, the outermost comes first.
+    ///
+    /// If `range` is not empty, only the elements that contain it are examined, one on each level.
+    /// If it is empty, every sibling is examined, and those that touch it are searched.
     pub fn find(
         &self,
         alloc: Global,
@@ -83,7 +85,8 @@ impl SyntaxNode {
         self.find_downward(alloc, kind, range)
     }
 
-    /// The same where the range has bytes: then one child at most contains it.
+    /// Variant of [`SyntaxNode::find`] for a range that is not empty: at most one child contains
+    /// it.
     fn find_downward(
         &self,
         alloc: Global,
@@ -104,7 +107,8 @@ impl SyntaxNode {
         Ok(Some(element))
     }
 
-    /// The same by a walk that goes into no element whose range does not contain this one.
+    /// Variant of [`SyntaxNode::find`] that walks the tree and skips the descendants of each
+    /// element whose range does not contain `range`.
     fn find_by_walk(
         &self,
         alloc: Global,

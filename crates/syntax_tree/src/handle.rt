@@ -19,7 +19,7 @@ use rowan_green::{GreenNode, GreenToken, NodeOrToken, TextRange};
 use std::alloc::{AllocError, Global};
 use std::marker::Model;
 
-/// A node of a numbered tree. A clone takes no memory.
+/// A node of a numbered tree. Cloning does not allocate.
 pub struct SyntaxNode {
     tree: u32,
     cursor: rowan::SyntaxNode<RustLanguage>,
@@ -47,7 +47,7 @@ impl Model for SyntaxNode {
     ghost view = { λ n. record { number = n.tree; place = n.cursor } };
 }
 
-/// A token of a numbered tree. A clone takes no memory.
+/// A token of a numbered tree. Cloning does not allocate.
 pub struct SyntaxToken {
     tree: u32,
     cursor: rowan::SyntaxToken<RustLanguage>,
@@ -76,13 +76,21 @@ impl Model for SyntaxToken {
 }
 
 impl SyntaxNode {
+    /// Returns the node at `cursor` in the tree with number `tree`.
     pub(crate) fn of(tree: u32, cursor: rowan::SyntaxNode<RustLanguage>) -> SyntaxNode
         ensures { result ≡ with_number tree cursor }
     {
         SyntaxNode { tree, cursor }
     }
 
-    /// The root of a tree, which gets the next number of `ids`. A refusal takes no number.
+    /// Returns the root of a new tree of `green`, with the next number of `ids`.
+    ///
+    /// # Errors
+    ///
+    /// - [`TreeError::NoMemory`] if an allocation fails.
+    /// - [`TreeError::Spent`] if no tree number is left.
+    ///
+    /// On error, `ids` is unchanged.
     pub fn new_root(
         alloc: Global,
         green: GreenNode,
@@ -100,8 +108,14 @@ impl SyntaxNode {
         })
     }
 
-    /// The same node as the root of a tree of its own, which gets the next number of `ids`. A
-    /// refusal takes no number.
+    /// Returns a copy of this node as the root of a new tree, with the next number of `ids`.
+    ///
+    /// # Errors
+    ///
+    /// - [`TreeError::NoMemory`] if an allocation fails.
+    /// - [`TreeError::Spent`] if no tree number is left.
+    ///
+    /// On error, `ids` is unchanged.
     pub fn clone_subtree(&self, alloc: Global, ids: &mut TreeIds) -> Result<SyntaxNode, TreeError>
         ensures ok { IfOk result (λ n. (g : Tree) × (term_of self.now ≡ Some (terms.Node g))
             × (n ≡ element_at ids.old g [])) }
@@ -113,28 +127,28 @@ impl SyntaxNode {
         SyntaxNode::new_root(alloc, green, ids)
     }
 
-    /// The number of its tree.
+    /// Returns the number of its tree.
     pub fn tree(&self) -> u32
         ensures { result ≡ self.now.number }
     {
         self.tree
     }
 
-    /// Where it stands, for all other reading.
+    /// Returns its cursor, through which everything else is read.
     pub fn cursor(&self) -> &rowan::SyntaxNode<RustLanguage>
         ensures { result.now ≡ self.now.place }
     {
         &self.cursor
     }
 
-    /// The child numbers from the node up to the root, its own first.
+    /// Returns its up-path: the child indices from the node up to the root, innermost first.
     pub fn way(&self, alloc: Global) -> Result<Vec<usize>, AllocError>
         ensures { IfOk result (λ v. v.items ≡ self.now.place.up) }
     {
         way_of(alloc, &self.cursor)
     }
 
-    /// The numbers of the children to go into, from the root on.
+    /// Returns its path: the child indices from the root down to the node.
     pub fn path(&self, alloc: Global) -> Result<Vec<usize>, AllocError>
         ensures { IfOk result (λ v. v.items ≡ reverse self.now.place.up) }
     {
@@ -143,14 +157,14 @@ impl SyntaxNode {
         Ok(path)
     }
 
-    /// Its kind; a raw number that is no kind's reads as an error.
+    /// Returns its kind; `ERROR` if the raw number is not that of a kind.
     pub fn kind(&self) -> SyntaxKind
         ensures { result ≡ kind_of_raw (kind_at self.now.place) }
     {
         self.cursor.kind()
     }
 
-    /// Its bytes in the tree's text.
+    /// Returns its text range, in bytes of the text of the tree.
     pub fn text_range(&self) -> TextRange
         ensures start { result.start.0 ≡ start_of self.now.place }
         ensures end { result.end.0 ≡ end_of self.now.place }
@@ -158,7 +172,7 @@ impl SyntaxNode {
         self.cursor.text_range()
     }
 
-    /// Whether it stands at a way, the innermost number first.
+    /// Returns `true` if its up-path is `way` (innermost index first).
     pub fn stands_at(&self, way: &[usize]) -> Result<bool, AllocError>
         ensures { IfOk result (λ b. b ≡ same_way self.now.place.up way.now) }
     {
@@ -177,7 +191,7 @@ impl SyntaxNode {
         Ok(rest.is_empty())
     }
 
-    /// The parent, none of a root.
+    /// Returns the parent, or `None` for a root.
     pub fn parent(&self) -> Result<Option<SyntaxNode>, AllocError>
         ensures { IfOk result (λ r. r ≡ parent_of self.now) }
     {
@@ -194,7 +208,11 @@ impl SyntaxNode {
 impl Clone for SyntaxNode {
     ghost is_clone = { λ n copy. copy ≡ n };
 
-    /// Refuses only where as many clones stand as a `usize` can count.
+    /// Returns another handle to the node. Does not allocate.
+    ///
+    /// # Errors
+    ///
+    /// Returns an error only if the reference count overflows.
     fn clone(&self) -> Result<SyntaxNode, AllocError> {
         let cursor = self.cursor.clone()?;
         Ok(SyntaxNode {
@@ -205,14 +223,22 @@ impl Clone for SyntaxNode {
 }
 
 impl SyntaxToken {
+    /// Returns the token at `cursor` in the tree with number `tree`.
     pub(crate) fn of(tree: u32, cursor: rowan::SyntaxToken<RustLanguage>) -> SyntaxToken
         ensures { result ≡ with_number tree cursor }
     {
         SyntaxToken { tree, cursor }
     }
 
-    /// A token in a tree of its own, whose number is the next of `ids`: the only child of a root of
-    /// kind `TOMBSTONE`. A refusal takes no number.
+    /// Returns a token in a new tree, whose number is the next of `ids`. The token is the only
+    /// child of a root of kind `TOMBSTONE`.
+    ///
+    /// # Errors
+    ///
+    /// - [`TreeError::NoMemory`] if an allocation fails.
+    /// - [`TreeError::Spent`] if no tree number is left.
+    ///
+    /// On error, `ids` is unchanged.
     pub fn detached(
         alloc: Global,
         green: GreenToken,
@@ -234,21 +260,21 @@ impl SyntaxToken {
         })
     }
 
-    /// The number of its tree.
+    /// Returns the number of its tree.
     pub fn tree(&self) -> u32
         ensures { result ≡ self.now.number }
     {
         self.tree
     }
 
-    /// Where it stands, for all other reading.
+    /// Returns its cursor, through which everything else is read.
     pub fn cursor(&self) -> &rowan::SyntaxToken<RustLanguage>
         ensures { result.now ≡ self.now.place }
     {
         &self.cursor
     }
 
-    /// The child numbers from the token up to the root, its own first.
+    /// Returns its up-path: the child indices from the token up to the root, innermost first.
     pub fn way(&self, alloc: Global) -> Result<Vec<usize>, AllocError>
         ensures { IfOk result (λ v. v.items ≡ self.now.place.up) }
     {
@@ -261,7 +287,7 @@ impl SyntaxToken {
         Ok(way)
     }
 
-    /// The numbers of the children to go into, from the root on.
+    /// Returns its path: the child indices from the root down to the token.
     pub fn path(&self, alloc: Global) -> Result<Vec<usize>, AllocError>
         ensures { IfOk result (λ v. v.items ≡ reverse self.now.place.up) }
     {
@@ -270,21 +296,21 @@ impl SyntaxToken {
         Ok(path)
     }
 
-    /// Its kind; a raw number that is no kind's reads as an error.
+    /// Returns its kind; `ERROR` if the raw number is not that of a kind.
     pub fn kind(&self) -> SyntaxKind
         ensures { result ≡ kind_of_raw (kind_at self.now.place) }
     {
         self.cursor.kind()
     }
 
-    /// Its text.
+    /// Returns its text.
     pub fn text(&self) -> &str
         ensures { result.now ≡ text_at self.now.place }
     {
         self.cursor.text()
     }
 
-    /// Its bytes in the tree's text.
+    /// Returns its text range, in bytes of the text of the tree.
     pub fn text_range(&self) -> TextRange
         ensures start { result.start.0 ≡ start_of self.now.place }
         ensures end { result.end.0 ≡ end_of self.now.place }
@@ -292,7 +318,7 @@ impl SyntaxToken {
         self.cursor.text_range()
     }
 
-    /// Whether it stands at a way, the innermost number first.
+    /// Returns `true` if its up-path is `way` (innermost index first).
     pub fn stands_at(&self, way: &[usize]) -> Result<bool, AllocError>
         ensures { IfOk result (λ b. b ≡ same_way self.now.place.up way.now) }
     {
@@ -308,7 +334,7 @@ impl SyntaxToken {
         parent.stands_at(up)
     }
 
-    /// The parent. A token always has one.
+    /// Returns the parent. A token always has one.
     pub fn parent(&self) -> Result<Option<SyntaxNode>, AllocError>
         ensures { IfOk result (λ r. r ≡ parent_of self.now) }
     {
@@ -322,7 +348,8 @@ impl SyntaxToken {
     }
 }
 
-/// The root of a token that has a tree of its own.
+/// Returns the root of the tree of a detached token: a `TOMBSTONE` node with `token` as its only
+/// child.
 fn around(alloc: Global, token: GreenToken) -> Result<GreenNode, AllocError>
     ensures { IfOk result (λ n. n ≡ tree_of TOMBSTONE (terms.Token token ∷ [])) }
 {
@@ -334,7 +361,11 @@ fn around(alloc: Global, token: GreenToken) -> Result<GreenNode, AllocError>
 impl Clone for SyntaxToken {
     ghost is_clone = { λ t copy. copy ≡ t };
 
-    /// Refuses only where as many clones stand as a `usize` can count.
+    /// Returns another handle to the token. Does not allocate.
+    ///
+    /// # Errors
+    ///
+    /// Returns an error only if the reference count overflows.
     fn clone(&self) -> Result<SyntaxToken, AllocError> {
         let cursor = self.cursor.clone()?;
         Ok(SyntaxToken {
@@ -344,7 +375,7 @@ impl Clone for SyntaxToken {
     }
 }
 
-/// The child numbers from a node up to the root, its own first.
+/// Returns the up-path of `node`: the child indices from it up to the root, innermost first.
 fn way_of(alloc: Global, node: &rowan::SyntaxNode<RustLanguage>) -> Result<Vec<usize>, AllocError>
     ensures { IfOk result (λ v. v.items ≡ node.now.up) }
 {

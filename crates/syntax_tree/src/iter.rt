@@ -1,4 +1,4 @@
-//! The elements around a node, as iterators.
+//! Iterators over ancestors, children and descendants.
 ghost use Rattle.std.specs.Prelude.{◌≡◌, map, option_map, IfOk};
 ghost use Rattle.rowan_green.specs.declared.utility_types.NodeOrToken.TheVariants.{Node};
 ghost use Rattle.rowan.specs.Place.{below};
@@ -13,7 +13,7 @@ use rowan_green::NodeOrToken;
 use std::alloc::{AllocError, Global};
 use std::marker::Model;
 
-/// The element of a cursor into the tree of this number.
+/// Returns the element at `cursor` in the tree with number `tree`.
 pub(crate) fn numbered(tree: u32, cursor: rowan::SyntaxElement<RustLanguage>) -> SyntaxElement
     ensures { result ≡ with_cursor tree cursor }
 {
@@ -23,7 +23,7 @@ pub(crate) fn numbered(tree: u32, cursor: rowan::SyntaxElement<RustLanguage>) ->
     }
 }
 
-/// The same, if there is a cursor.
+/// Returns the element at `cursor`, if any, in the tree with number `tree`.
 pub(crate) fn numbered_if(
     tree: u32,
     cursor: Option<rowan::SyntaxElement<RustLanguage>>,
@@ -36,7 +36,7 @@ pub(crate) fn numbered_if(
     }
 }
 
-/// A node and those above it, up to the root. A contract sees those that are left.
+/// An iterator over a node and its ancestors, up to the root. Model: the remaining nodes.
 pub struct Ancestors {
     tree: u32,
     cursors: rowan::Ancestors<RustLanguage>,
@@ -85,7 +85,7 @@ impl Iterator for Ancestors {
     }
 }
 
-/// The children of a node that are nodes. A contract sees those that are left.
+/// An iterator over the child nodes of a node. Model: the remaining nodes.
 pub struct SyntaxNodeChildren {
     tree: u32,
     cursors: rowan::SyntaxNodeChildren<RustLanguage>,
@@ -134,7 +134,7 @@ impl Iterator for SyntaxNodeChildren {
     }
 }
 
-/// The children of a node, nodes and tokens. A contract sees those that are left.
+/// An iterator over the children of a node, nodes and tokens. Model: the remaining elements.
 pub struct SyntaxElementChildren {
     tree: u32,
     cursors: rowan::SyntaxElementChildren<RustLanguage>,
@@ -183,8 +183,8 @@ impl Iterator for SyntaxElementChildren {
     }
 }
 
-/// A node and all elements below it, each before those below it. A contract sees the events of the
-/// walk that are left.
+/// An iterator over a node and all elements below it, in preorder. Model: the remaining events of
+/// the walk.
 pub struct DescendantsWithTokens {
     tree: u32,
     cursors: rowan::DescendantsWithTokens<RustLanguage>,
@@ -233,7 +233,8 @@ impl Iterator for DescendantsWithTokens {
 }
 
 impl SyntaxElement {
-    /// A node, its parent, and so on up to the root; of a token those above it alone.
+    /// Returns an iterator over the ancestors, up to the root. Those of a node start with itself,
+    /// those of a token with its parent.
     pub fn ancestors(&self) -> Result<Ancestors, AllocError>
         ensures { IfOk result (λ a. a ≡ map (with_number (element_of self.now).number)
             (element_ancestors (cursor_of self.now))) }
@@ -249,7 +250,7 @@ impl SyntaxElement {
 }
 
 impl SyntaxNode {
-    /// The node, its parent, and so on up to the root.
+    /// Returns an iterator over the node and its ancestors, up to the root.
     pub fn ancestors(&self) -> Result<Ancestors, AllocError>
         ensures { IfOk result (λ a. a ≡ map (with_place self.now) (ancestors self.now.place)) }
     {
@@ -259,8 +260,8 @@ impl SyntaxNode {
         })
     }
 
-    /// The child of this number, counted from 0, nodes and tokens alike. No cursor is made for those
-    /// before it.
+    /// Returns the child at index `number`, a node or a token, or `None` if there are not enough
+    /// children. No cursor is created for the children before it.
     pub fn nth_child_or_token(
         &self,
         alloc: Global,
@@ -273,7 +274,7 @@ impl SyntaxNode {
         Ok(numbered_if(self.tree(), child))
     }
 
-    /// The children that are nodes, in order.
+    /// Returns an iterator over the child nodes, in source order.
     pub fn children(&self, alloc: Global) -> Result<SyntaxNodeChildren, AllocError>
         ensures { IfOk result (λ c. c ≡ map (with_place self.now) (nodes (children self.now.place))) }
     {
@@ -283,7 +284,7 @@ impl SyntaxNode {
         })
     }
 
-    /// The children in order, nodes and tokens.
+    /// Returns an iterator over the children, nodes and tokens, in source order.
     pub fn children_with_tokens(&self, alloc: Global) -> Result<SyntaxElementChildren, AllocError>
         ensures { IfOk result
             (λ c. c ≡ map (with_cursor self.now.number) (children self.now.place)) }
@@ -294,7 +295,7 @@ impl SyntaxNode {
         })
     }
 
-    /// The node and all elements below it, in preorder.
+    /// Returns an iterator over the node and all elements below it, in preorder.
     pub fn descendants_with_tokens(
         &self,
         alloc: Global,

@@ -16,7 +16,8 @@ use parser_input::SyntaxKind;
 use std::alloc::{AllocError, Global};
 use std::marker::Model;
 
-/// The children of a node that are nodes of one kind. A contract sees the child nodes that are left.
+/// An iterator over the child nodes of one kind. Model: the kind, and the remaining child nodes of
+/// all kinds.
 pub struct ChildrenOfKind {
     kind: u16,
     nodes: SyntaxNodeChildren,
@@ -61,7 +62,7 @@ impl Iterator for ChildrenOfKind {
     }
 }
 
-/// Returns the next node of a kind.
+/// Returns the next of `nodes` whose raw kind is `kind`.
 fn next_of_kind(kind: u16, nodes: &mut SyntaxNodeChildren) -> Option<Result<SyntaxNode, AllocError>>
     ensures gives { YieldsOrFails (filter (is_of_kind kind) nodes.old) result
         (filter (is_of_kind kind) nodes.new) }
@@ -80,8 +81,8 @@ fn next_of_kind(kind: u16, nodes: &mut SyntaxNodeChildren) -> Option<Result<Synt
     None
 }
 
-/// A node and all nodes below it, each before those below it. A contract sees the events of the walk
-/// that are left.
+/// An iterator over a node and all nodes below it, in preorder. Model: the remaining events of the
+/// walk.
 pub struct Descendants {
     tree: u32,
     cursors: rowan::Descendants<RustLanguage>,
@@ -130,14 +131,14 @@ impl Iterator for Descendants {
 }
 
 impl SyntaxNode {
-    /// Returns `true` if its kind has this raw number.
+    /// Returns `true` if `kind` is the raw number of its kind.
     fn has_raw_kind(&self, kind: u16) -> bool
         ensures { result ≡ is_of_kind kind self.now }
     {
         self.cursor().green().kind().0 == kind
     }
 
-    /// Returns the node and all nodes below it, in preorder.
+    /// Returns an iterator over the node and all nodes below it, in preorder.
     pub fn descendants(&self, alloc: Global) -> Result<Descendants, AllocError>
         ensures { IfOk result
             (λ c. c ≡ record { number = self.now.number; events = walk (Node self.now.place) }) }
@@ -148,7 +149,7 @@ impl SyntaxNode {
         })
     }
 
-    /// Returns the children that are nodes of a kind, in order.
+    /// Returns an iterator over the child nodes of kind `kind`, in source order.
     pub fn children_of(&self, alloc: Global, kind: SyntaxKind) -> Result<ChildrenOfKind, AllocError>
         ensures { IfOk result
             (λ c. c ≡ record { kind = raw_of kind; nodes = child_nodes self.now }) }
@@ -159,7 +160,7 @@ impl SyntaxNode {
         })
     }
 
-    /// Returns the first child that is a node of a kind.
+    /// Returns the first child node of kind `kind`.
     pub fn child(&self, alloc: Global, kind: SyntaxKind) -> Result<Option<SyntaxNode>, AllocError>
         ensures { IfOk result
             (λ n. n ≡ first (filter (is_of_kind (raw_of kind)) (child_nodes self.now))) }
@@ -172,7 +173,7 @@ impl SyntaxNode {
         }
     }
 
-    /// Returns the first child that is a token of a kind.
+    /// Returns the first child token of kind `kind`.
     pub fn child_token(
         &self,
         alloc: Global,
@@ -194,7 +195,7 @@ impl SyntaxNode {
 }
 
 impl SyntaxToken {
-    /// Returns `true` if its kind has this raw number.
+    /// Returns `true` if `kind` is the raw number of its kind.
     fn has_raw_kind(&self, kind: u16) -> bool
         ensures { result ≡ is_of_kind kind self.now }
     {

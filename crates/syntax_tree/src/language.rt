@@ -1,4 +1,4 @@
-//! Rust as the language of cursors.
+//! Rust as a language of `rowan` cursors.
 ghost use Rattle.std.specs.Prelude.{◌≡◌};
 ghost use Rattle.syntax_tree.specs.Language.{kind_of_raw};
 
@@ -23,7 +23,7 @@ impl Language for RustLanguage {
 
     ghost undoes = { kind_of_raw-raw_of };
 
-    /// A number that is no kind's reads as an error.
+    /// Returns the kind of a raw number, or `ERROR` if it is not that of a kind.
     fn kind_from_raw(raw: rowan_green::SyntaxKind) -> SyntaxKind {
         match SyntaxKind::from_raw(raw.0) {
             Some(kind) => kind,

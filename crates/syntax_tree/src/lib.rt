@@ -1,7 +1,8 @@
-//! Nodes and tokens of numbered trees, over `rowan`'s cursors.
+//! Nodes and tokens of numbered trees, over the cursors of `rowan`.
 //!
-//! A contract sees one as the number of its tree and the place at which it stands: a root term, and
-//! the way up to the root. A cursor is lent for all other reading.
+//! Model of an element: the number of its tree, and its place, which is the green root and the
+//! element's *up-path*: the child indices from the element up to the root, innermost first.
+//! `cursor` returns a reference to the cursor, through which everything else is read.
 #![tactic(auto)]
 
 pub mod around;

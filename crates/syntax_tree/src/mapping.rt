@@ -1,4 +1,4 @@
-//! Mappings: which node of another tree stands for a node.
+//! Mappings from nodes to the corresponding nodes of other trees.
 ghost use Rattle.std.specs.Prelude.{◌≡◌, ◌∷◌, ◌++◌, [], length, IfOk, IfErr, OnOk, OnErr};
 ghost use Rattle.std.specs.List.{zip};
 ghost use Rattle.std.specs.Option.{option_copied};
@@ -11,9 +11,10 @@ use crate::handle::SyntaxNode;
 use std::alloc::{AllocError, Global};
 use std::marker::Model;
 
-/// Nodes and those that stand for them in trees of greater numbers. Where a node has several, the
-/// one that was recorded last counts. A contract sees the entries in the order in which they were
-/// recorded.
+/// A mapping from input nodes to output nodes in trees with greater numbers.
+///
+/// Of several entries with the same input, the last one counts. Model: the entries, in the order in
+/// which they were recorded.
 #[derive(Drop)]
 pub struct SyntaxMapping {
     entries: Vec<(SyntaxNode, SyntaxNode)>,
@@ -32,7 +33,7 @@ impl Model for SyntaxMapping {
 }
 
 impl SyntaxMapping {
-    /// No entry.
+    /// Creates an empty mapping.
     pub fn new(alloc: Global) -> SyntaxMapping
         ensures { result ≡ [] }
     {
@@ -41,7 +42,8 @@ impl SyntaxMapping {
         }
     }
 
-    /// The output of the last entry whose input stands at a way in the tree of this number.
+    /// Returns the output of the last entry whose input is at up-path `way` in the tree with number
+    /// `tree`.
     pub fn image_at(&self, tree: u32, way: &[usize]) -> Result<Option<&SyntaxNode>, AllocError>
         ensures { (t : Tree) → IfOk result
             (λ r. option_copied r ≡ image_of self.now (element_at tree t way.now)) }
@@ -57,14 +59,14 @@ impl SyntaxMapping {
         Ok(None)
     }
 
-    /// How many entries there are.
+    /// Returns the number of entries.
     pub fn len(&self) -> usize
         ensures { result ≡ length self.now }
     {
         self.entries.len()
     }
 
-    /// Takes over what a builder has. A refusal changes nothing.
+    /// Appends the entries of `builder`. On error, the mapping is unchanged.
     pub fn add_mapping(&mut self, builder: SyntaxMappingBuilder) -> Result<(), AllocError>
         ensures ok { OnOk result (self.new ≡ self.old ++ builder.entries) }
         ensures err { OnErr result (self.new ≡ self.old) }
@@ -73,8 +75,8 @@ impl SyntaxMapping {
         self.entries.append(&mut entries)
     }
 
-    /// Takes the entries of another mapping, as if recorded after this one's, and leaves none
-    /// there. A refusal changes neither.
+    /// Moves the entries of `other` to the end of this mapping and leaves `other` empty. On error,
+    /// both mappings are unchanged.
     pub fn append(&mut self, other: &mut SyntaxMapping) -> Result<(), AllocError>
         ensures ok { OnOk result (self.new ≡ self.old ++ other.old) }
         ensures emptied { OnOk result (other.new ≡ []) }
@@ -84,7 +86,7 @@ impl SyntaxMapping {
         self.entries.append(&mut other.entries)
     }
 
-    /// Takes over another mapping, as if recorded after this one. A refusal changes nothing.
+    /// Appends the entries of `other`. On error, the mapping is unchanged.
     pub fn merge(&mut self, other: SyntaxMapping) -> Result<(), AllocError>
         ensures ok { OnOk result (self.new ≡ self.old ++ other) }
         ensures err { OnErr result (self.new ≡ self.old) }
@@ -94,7 +96,7 @@ impl SyntaxMapping {
     }
 }
 
-/// Entries whose outputs are children of one node.
+/// A builder of mapping entries whose outputs are children of one node.
 #[derive(Drop)]
 pub struct SyntaxMappingBuilder {
     parent: SyntaxNode,
@@ -118,7 +120,7 @@ impl Model for SyntaxMappingBuilder {
 }
 
 impl SyntaxMappingBuilder {
-    /// No entry, for outputs that are children of this node.
+    /// Creates an empty builder for outputs that are children of `parent`.
     pub fn new(alloc: Global, parent: SyntaxNode) -> Result<SyntaxMappingBuilder, AllocError>
         ensures { IfOk result (λ b. b ≡ record { parent = parent; entries = [] }) }
     {
@@ -130,9 +132,16 @@ impl SyntaxMappingBuilder {
         })
     }
 
-    /// The output stands for the input. Refuses as `NotChild` where the output is no child of the
-    /// parent, else as `Order` where the number of its tree is not greater than that of the
-    /// input's. A refusal changes nothing.
+    /// Records that `output` corresponds to `input`.
+    ///
+    /// # Errors
+    ///
+    /// - [`MappingError::NotChild`] if `output` is not a child of the parent.
+    /// - [`MappingError::Order`] if the tree number of `output` is not greater than that of
+    ///   `input`.
+    /// - [`MappingError::NoMemory`] if an allocation fails.
+    ///
+    /// On error, the builder is unchanged.
     pub fn map_node(
         &mut self,
         alloc: Global,
@@ -155,9 +164,18 @@ impl SyntaxMappingBuilder {
         Ok(())
     }
 
-    /// Each output stands for the input of its number; outputs past the inputs are not looked at.
-    /// Refuses as `NotChild` where an output is no child of the parent, else as `MoreInputs`, else
-    /// as `Order` as for one. A refusal records nothing.
+    /// Records that each output corresponds to the input at its index. Outputs without an input are
+    /// ignored.
+    ///
+    /// # Errors
+    ///
+    /// - [`MappingError::NotChild`] if an output that has an input is not a child of the parent.
+    /// - [`MappingError::MoreInputs`] if there are more inputs than outputs.
+    /// - [`MappingError::Order`] if the tree number of an output is not greater than that of its
+    ///   input.
+    /// - [`MappingError::NoMemory`] if an allocation fails.
+    ///
+    /// On error, the builder is unchanged.
     pub fn map_children(
         &mut self,
         alloc: Global,
@@ -184,7 +202,7 @@ impl SyntaxMappingBuilder {
         Ok(())
     }
 
-    /// Whether all outputs are children of the parent.
+    /// Returns `true` if all outputs of `entries` are children of the parent.
     fn is_parent_of_all(
         &self,
         alloc: Global,
@@ -200,7 +218,7 @@ impl SyntaxMappingBuilder {
         Ok(true)
     }
 
-    /// Whether a node is a child of the parent.
+    /// Returns `true` if `node` is a child of the parent.
     fn is_parent_of(&self, alloc: Global, node: &SyntaxNode) -> Result<bool, AllocError>
         ensures { IfOk result (λ b. b ≡ is_child self.now.parent node.now) }
     {
@@ -214,7 +232,7 @@ impl SyntaxMappingBuilder {
         }
     }
 
-    /// Records all entries in a mapping. A refusal leaves the mapping as it was.
+    /// Appends all entries to `mapping`. On error, `mapping` is unchanged.
     pub fn finish(self, mapping: &mut SyntaxMapping) -> Result<(), AllocError>
         ensures ok { OnOk result (mapping.new ≡ mapping.old ++ self.entries) }
         ensures err { OnErr result (mapping.new ≡ mapping.old) }
@@ -223,7 +241,7 @@ impl SyntaxMappingBuilder {
     }
 }
 
-/// Inputs with the outputs of their numbers, as many as both have.
+/// Returns each input paired with the output at its index, up to the shorter length.
 fn pairs_of(
     alloc: Global,
     inputs: &[SyntaxNode],
@@ -241,7 +259,7 @@ fn pairs_of(
     Ok(pairs)
 }
 
-/// Whether each output's tree has the greater number.
+/// Returns `true` if the tree number of each output is greater than that of its input.
 fn are_ordered(entries: &[(SyntaxNode, SyntaxNode)]) -> bool
     ensures { result ≡ are_ordered entries.now }
 {

@@ -9,7 +9,7 @@ use crate::error::PositionError;
 use crate::handle::SyntaxNode;
 use std::alloc::AllocError;
 
-/// A gap between children of a node: before the child of this number, or after the last child.
+/// A gap between the children of a node: before the child at `index`, or after the last child.
 #[derive(Drop)]
 pub struct Position {
     pub parent: SyntaxNode,
@@ -17,7 +17,12 @@ pub struct Position {
 }
 
 impl Position {
-    /// The gap right after an element. Refuses as `NoParent` where that is a root.
+    /// Returns the gap directly after `element`.
+    ///
+    /// # Errors
+    ///
+    /// - [`PositionError::NoParent`] if `element` is a root.
+    /// - [`PositionError::NoMemory`] if an allocation fails.
     pub fn after(element: &SyntaxElement) -> Result<Position, PositionError>
         ensures parent { IfOk result (λ p. parent_of (element_of element.now) ≡ Some p.parent) }
         ensures index { IfOk result (λ p. p.index ≡ index_of (element_of element.now).place + 1) }
@@ -31,7 +36,12 @@ impl Position {
         })
     }
 
-    /// The gap right before an element. Refuses as `NoParent` where that is a root.
+    /// Returns the gap directly before `element`.
+    ///
+    /// # Errors
+    ///
+    /// - [`PositionError::NoParent`] if `element` is a root.
+    /// - [`PositionError::NoMemory`] if an allocation fails.
     pub fn before(element: &SyntaxElement) -> Result<Position, PositionError>
         ensures parent { IfOk result (λ p. parent_of (element_of element.now) ≡ Some p.parent) }
         ensures index { IfOk result (λ p. p.index ≡ index_of (element_of element.now).place) }
@@ -46,7 +56,7 @@ impl Position {
         })
     }
 
-    /// The gap before all children.
+    /// Returns the gap before all children of `node`.
     pub fn first_child_of(node: SyntaxNode) -> Position
         ensures { result ≡ record { parent = node; index = 0 } }
     {
@@ -56,7 +66,7 @@ impl Position {
         }
     }
 
-    /// The gap after all children.
+    /// Returns the gap after all children of `node`.
     pub fn last_child_of(node: SyntaxNode) -> Position
         ensures { result ≡ record { parent = node; index = length (terms_below node.place) } }
     {

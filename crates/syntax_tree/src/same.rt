@@ -1,4 +1,4 @@
-//! Nodes and tokens are one where they have one tree number and one way; by no memory.
+//! Equality and hashing of nodes and tokens by tree number and up-path. Neither allocates.
 
 use crate::handle::{SyntaxNode, SyntaxToken};
 use std::hash::{Hash, Hasher};
@@ -12,7 +12,7 @@ impl PartialEq for SyntaxNode {
 
     ghost laws = { partial_equiv_from_equiv same_element-equiv };
 
-    /// Equal numbers of their trees, and equal ways up to the roots.
+    /// Returns `true` if both nodes have the same tree number and the same up-path.
     fn eq(&self, other: &SyntaxNode) -> bool {
         self.tree() == other.tree() && self.cursor().has_way_of(other.cursor())
     }
@@ -31,7 +31,7 @@ impl Hash for SyntaxNode {
 
     ghost respects_eq = { fed_alike };
 
-    /// The number of its tree, then the numbers of its way.
+    /// Hashes the tree number, then the indices of the up-path.
     fn hash<H: Hasher>(&self, state: &mut H) {
         self.tree().hash(state);
         self.cursor().hash_way(state);
@@ -47,7 +47,7 @@ impl PartialEq for SyntaxToken {
 
     ghost laws = { partial_equiv_from_equiv same_element-equiv };
 
-    /// Equal numbers of their trees, and equal ways up to the roots.
+    /// Returns `true` if both tokens have the same tree number and the same up-path.
     fn eq(&self, other: &SyntaxToken) -> bool {
         self.tree() == other.tree() && self.cursor().has_way_of(other.cursor())
     }
@@ -66,7 +66,7 @@ impl Hash for SyntaxToken {
 
     ghost respects_eq = { fed_alike };
 
-    /// The number of its tree, then the numbers of its way.
+    /// Hashes the tree number, then the indices of the up-path.
     fn hash<H: Hasher>(&self, state: &mut H) {
         self.tree().hash(state);
         self.cursor().hash_way(state);

@@ -1,11 +1,11 @@
-//! Numbers that tell trees apart.
+//! Numbers that distinguish trees.
 ghost use Rattle.std.specs.Prelude.{◌≡◌, ◌+◌, ◌^◌, IfOk, IfErr};
 
 use crate::error::Spent;
 use std::marker::Model;
 
-/// A source of tree numbers, which gives each number once, up to 4,294,967,295. A contract sees the
-/// number that is next, 2^32 where none is left.
+/// A source of tree numbers, which returns each number once, up to 4,294,967,295. Model: the next
+/// number, or 2^32 if none is left.
 #[derive(Debug, Drop)]
 pub struct TreeIds {
     next: u64,
@@ -22,14 +22,14 @@ impl Model for TreeIds {
 }
 
 impl TreeIds {
-    /// The numbers from 1 on.
+    /// Creates a source whose first number is 1.
     pub fn new() -> TreeIds
         ensures { result ≡ 1 }
     {
         TreeIds { next: 1 }
     }
 
-    /// The numbers from `first` on.
+    /// Creates a source whose first number is `first`.
     pub fn starting_at(first: u32) -> TreeIds
         ensures { result ≡ first }
     {
@@ -38,8 +38,11 @@ impl TreeIds {
         }
     }
 
-    /// The next number, which is never given again. Refuses where none is left, and changes nothing
-    /// then.
+    /// Returns the next number, which is never returned again.
+    ///
+    /// # Errors
+    ///
+    /// Returns [`Spent`] if no tree number is left. On error, the source is unchanged.
     pub fn next(&mut self) -> Result<u32, Spent>
         ensures given { IfOk result (λ n. (n ≡ self.old) × (self.new ≡ self.old + 1)) }
         ensures spent { IfErr result (λ _. (self.old ≡ 2 ^ 32) × (self.new ≡ self.old)) }

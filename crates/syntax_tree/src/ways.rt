@@ -1,4 +1,4 @@
-//! The element that a way leads to.
+//! The element at an up-path.
 ghost use Rattle.std.specs.Prelude.{◌≡◌, ◌∷◌, option_map, IfOk};
 ghost use Rattle.syntax_tree.specs.Handle.{element_of, standing_at};
 
@@ -7,7 +7,7 @@ use crate::handle::SyntaxNode;
 use std::alloc::{AllocError, Global};
 
 impl SyntaxNode {
-    /// Returns the child of this number, counted from 0, nodes and tokens alike.
+    /// Returns the child at index `number`, a node or a token.
     fn child_at(&self, alloc: Global, number: usize) -> Result<Option<SyntaxElement>, AllocError>
         ensures { IfOk result (λ r. option_map element_of r
             ≡ standing_at self.now (number ∷ self.now.place.up)) }
@@ -17,7 +17,7 @@ impl SyntaxNode {
 }
 
 impl SyntaxElement {
-    /// The same of an element; a token has none.
+    /// Returns the child at index `number`, a node or a token. A token has none.
     fn child(&self, alloc: Global, number: usize) -> Result<Option<SyntaxElement>, AllocError>
         ensures { IfOk result (λ r. option_map element_of r ≡
             standing_at (element_of self.now) (number ∷ (element_of self.now).place.up)) }
@@ -33,8 +33,8 @@ impl SyntaxElement {
 }
 
 impl SyntaxNode {
-    /// The element of the same tree that stands at a way, the innermost number first; none where no
-    /// element does.
+    /// Returns the element of this tree at up-path `way` (innermost index first), or `None` if
+    /// there is no such element.
     pub fn element_at(
         &self,
         alloc: Global,

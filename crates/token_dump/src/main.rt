@@ -1,7 +1,8 @@
-//! Prints the tokens of the text on standard input, a line each: the kind, a space and the length in bytes.
+//! Prints the tokens of the text on standard input, a line each: the kind, a space and the length
+//! in bytes.
 //!
-//! With the argument `records` the input is a list of texts, each ended by the character U+001E, and an empty line follows
-//! the lines of each.
+//! With the argument `records` the input is a list of texts, each ended by the character U+001E,
+//! and an empty line follows the lines of each.
 #![tactic(auto)]
 
 use rustc_lexer::tokenize;

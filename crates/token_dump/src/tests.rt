@@ -1,4 +1,5 @@
-//! What no clause says: that the definitions mean Rust's tokens, by worked examples.
+//! Tests what contracts leave open: that the definitions are those of Rust's tokens, by worked
+//! examples.
 
 use rustc_lexer::{
     Base, Cursor, DocStyle, LiteralKind, Token, TokenKind, is_horizontal_whitespace,

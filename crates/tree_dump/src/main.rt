@@ -1,9 +1,10 @@
-//! Prints the tree of the text on standard input, read as a source file of edition 2021: a line for each element of the tree, with its
-//! kind and where it starts and ends in bytes, and then a line `! OFFSET MESSAGE` for each message.
+//! Prints the tree of the text on standard input, parsed as a source file of edition 2021: a line
+//! for each element of the tree, with its kind and its start and end in bytes, and then a line
+//! `! OFFSET MESSAGE` for each message.
 //!
-//! With the argument `records` the input is a list of records, each a line with an edition and what the text is read as, as
-//! `2021 SourceFile`, and the text, which the character U+001E ends; an empty line follows the lines of each. A third word,
-//! `whole`, asks for the grammar of the whole language.
+//! With the argument `records` the input is a list of records, each a line with an edition and an
+//! entry point, as `2021 SourceFile`, and the text, which the character U+001E ends; an empty line
+//! follows the lines of each. A third word, `whole`, selects the grammar of the whole language.
 #![tactic(auto)]
 
 use anyhow::{Context, bail};
@@ -56,7 +57,7 @@ fn dump_records<W: Write>(alloc: Global, out: &mut W, records: &str) -> anyhow::
     Ok(())
 }
 
-/// Whether the program's last argument is `records`.
+/// Returns `true` if the program's last argument is `records`.
 fn wants_records(rt: &HostRuntime) -> io::Result<bool> {
     let mut records = false;
     for word in env::args(rt)? {

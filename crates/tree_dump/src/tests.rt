@@ -1,11 +1,12 @@
-//! What no clause says: that the lines are the ones that were meant, by values written by hand.
+//! Tests what contracts leave open: that the lines are the intended ones, by values written by
+//! hand.
 
 use crate::{dump, dump_records};
 use parser_input::edition::Edition;
 use ra_parser::{Grammar, TopEntryPoint};
 use std::alloc::Global;
 
-/// What is written of a source file of edition 2021.
+/// Returns the output for a source file of edition 2021.
 fn lines_of(alloc: Global, text: &str) -> anyhow::Result<Vec<u8>> {
     let mut out = Vec::new(alloc);
     dump(
@@ -19,7 +20,7 @@ fn lines_of(alloc: Global, text: &str) -> anyhow::Result<Vec<u8>> {
     Ok(out)
 }
 
-/// What is written of records.
+/// Returns the output for records.
 fn lines_of_records(alloc: Global, records: &str) -> anyhow::Result<Vec<u8>> {
     let mut out = Vec::new(alloc);
     dump_records(alloc, &mut out, records)?;

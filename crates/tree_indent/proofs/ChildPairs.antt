@@ -70,7 +70,7 @@ ordered_after e r (p ∷ ps) qs h = all_ordered e r (p ∷ ps) qs (h (omega arit
 count_places : (e : Element) → length (child_nodes e) ≡ length (nodes (children e.place))
 count_places e = length-map (nodes (children e.place)) (with_place e)
 
--- mapped, they come after
+-- if they are mapped, their tree number is greater
 pub is_after : (s : Shift) (t : Tree) (e root : Element) (n : ℕ) → term_of e ≡ Some (Node t) → root ≡ element_at n (shifted_tree s t) []
     → are_ordered (pairs_below e root) ≡ true → IsAfter n e
 is_after s t e root n is stands h some =
@@ -80,7 +80,7 @@ is_after s t e root n is stands h some =
     let some_places : 0 < length (nodes (children e.place)) = subst (λ k. 0 < k) (count_places e) some in
     first_ordered e new (nodes (children e.place)) (nodes (children new.place)) l some_places (subst (λ r. are_ordered (pairs_below e r) ≡ true) stands h)
 
--- only the order may be wrong
+-- only the order can be wrong
 pub refused_order : (s : Shift) (t : Tree) (e root : Element) (n : ℕ) → term_of e ≡ Some (Node t) → root ≡ element_at n (shifted_tree s t) []
     → FitsShifted s e → n < 2 ^ 32
     → (error : MappingError) → RefusesNodes root (child_nodes e) (child_nodes root) error → RefusesMapped s e n (of_mapping error)
@@ -98,7 +98,7 @@ refused_order s t e root n is stands fits few Order h = (
 )
 refused_order s t e root n is stands fits few NoMemory h = tt
 
--- a refusal of the node alone
+-- the error of the node alone
 pub refused_alone : (s : Shift) (e : Element) (n : ℕ) (error : MakeError) → RefusesShifted s e n error → RefusesMapped s e n (of_make error)
 refused_alone s e n makes.NoMemory h = tt
 refused_alone s e n makes.NoTreeNumber h = h

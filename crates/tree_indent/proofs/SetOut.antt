@@ -1,4 +1,4 @@
--- Lines that are set in by fewer steps, match by match.
+-- Dedented texts, match by match.
 use Rattle.std.proofs.Common.{◌≡◌, ℕ, zero, suc, ◌*◌, ◌<◌, ◌≤◌, List, [], ◌∷◌, ◌++◌, take, drop, length, replicate, Bool, true, false, ◌&&◌, cond, eqb, refl, ap, sym, ◌∙◌, subst, arith, inl, inr}
 use Rattle.std.proofs.lemmas.Slice.Eq.{starts_is}
 use Rattle.std.proofs.lemmas.Bool.Decides.{Decides-eqb}
@@ -23,7 +23,7 @@ front_is n cs = starts_is Decides-eqb cs (spaces n) (starts_with eqb cs (spaces 
 ten : (c : ℕ) → eqb c 10 ≡ true → c ≡ 10
 ten c h = (Decides-eqb c 10).0 h
 
--- where no line feed has the spaces after it, the character stays
+-- if no line feed is followed by the spaces, the character stays
 abbrev is_margin : ℕ → ℕ → List ℕ → Bool
 is_margin n c cs = eqb c 10 && starts_with eqb cs (spaces n)
 

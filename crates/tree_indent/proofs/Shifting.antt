@@ -31,7 +31,7 @@ whole-tree s t k es kind is =
     ∙ ap (λ (l : List Term). tree_of t.kind l) is
     ∙ ap (λ (f : Forest). record { kind = t.kind; forest = f }) (shifted-forest_of s (children_of t) ∙ ap (shifted_forest s) (forest_of-terms t.forest))
 
--- a child more
+-- one more child
 pub next-child :
     (s : Shift) (made more rest before after : List Term) (e new : Term) (all : List Term)
     → before ≡ e ∷ after → new ≡ shifted_term s e → more ≡ made ++ new ∷ []
@@ -56,7 +56,7 @@ rest-below n e before after first h = omega (arith, h, ap (λ l. forest_count (f
 pub child-below : (n : ℕ) (t : Tree) (e : Term) (before after : List Term) → before ≡ e ∷ after → e ≡ Node t → forest_count (forest_of before) < n → tree_count t < n
 child-below n t e before after first is h = omega (arith, h, ap (λ l. forest_count (forest_of l)) first, count-cons e after, ap term_count is)
 
--- ---- what may stand
+-- ---- size limits
 
 abbrev pub FitsTerms : Shift → List Term → Type 0
 FitsTerms s es = FitsForest (shifted_forest s (forest_of es))
@@ -81,13 +81,13 @@ fits-token s l e before after first is h =
     let here : FitsTerms s (Token l ∷ after) = subst (FitsTerms s) (first ∙ ap (λ x. x ∷ after) is) h in
     here.0
 
--- a part that does not fit keeps the whole from it
+-- a part that does not fit excludes the whole
 pub refuses-whole : (P Q : Type 0) (e : GreenError) → (Q → P) → RefusesUnless P e → RefusesUnless Q e
 refuses-whole P Q TooLong h r = λ q. r (h q)
 refuses-whole P Q Unbalanced h r = r
 refuses-whole P Q NoMemory h r = tt
 
--- ---- what stands
+-- ---- trees within the limits
 
 fits-append : (es : List Term) (e : Term) → FitsForest (forest_of es) → FitsForest (forest_of (e ∷ [])) → FitsForest (forest_of (es ++ e ∷ []))
 fits-append [] e h g = g
@@ -102,7 +102,7 @@ pub token-more : (made more : List Term) (new : Term) (l : Leaf) → more ≡ ma
 token-more made more new l pushed is fits h =
     subst (λ es. FitsForest (forest_of es)) (sym (pushed ∙ ap (λ x. made ++ x ∷ []) is)) (fits-append made (Token l) h (fits, tt))
 
--- all children that stand make a tree that does
+-- if all children are within the limits, so is the tree
 pub whole-fits : (s : Shift) (t : Tree) (es : List Term) → es ≡ map (shifted_term s) (children_of t) → FitsNode es → FitsForest (forest_of es) → FitsTree (shifted_tree s t)
 whole-fits s t es is here below = (
   subst FitsNode (is ∙ shifted-terms s t.forest) here,

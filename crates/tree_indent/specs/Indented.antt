@@ -1,4 +1,4 @@
--- Nodes by more steps, or by fewer, as trees of their own.
+-- Indented and dedented nodes, as new trees.
 use Rattle.std.specs.Prelude.{◌≡◌, ℕ, ◌^◌, [], Option, Some}
 use Rattle.rowan_green.specs.Forest.{Tree}
 use Rattle.rowan_green.specs.Term.{Term}
@@ -15,11 +15,11 @@ use Rattle.tree_indent.specs.declared.shift.Shift.{Shift}
 abbrev pub own_level : Element → IndentLevel
 own_level e = record { 0 = level_of (elements.Node e) }
 
--- the root of a tree of this number: the shifted node
+-- the root of a tree with this number: the shifted node
 abbrev pub IsShifted : Shift → Element → ℕ → Element → Type 0
 IsShifted s e n root = (t : Tree) × (term_of e ≡ Some (Node t)) × (root ≡ element_at n (shifted_tree s t) [])
 
--- the shifted node may stand as a tree
+-- the shifted node can be a tree
 abbrev pub FitsTerm : Shift → Option Term → Type 0
 FitsTerm s (Some (Node t)) = FitsTree (shifted_tree s t)
 FitsTerm s _ = ⊥
@@ -27,7 +27,7 @@ FitsTerm s _ = ⊥
 abbrev pub FitsShifted : Shift → Element → Type 0
 FitsShifted s e = FitsTerm s (term_of e)
 
--- too long only where that may not stand; then for want of a number only where none is left; out of memory at any point
+-- `TooLong` only if the shifted node cannot be a tree; else `NoTreeNumber` only if no tree number is left; `NoMemory` at any point
 abbrev pub RefusesShifted : Shift → Element → ℕ → MakeError → Type 0
 RefusesShifted s e number NoMemory = Unit {0}
 RefusesShifted s e number NoTreeNumber = FitsShifted s e × (number ≡ 2 ^ 32)

@@ -1,4 +1,4 @@
--- Trees whose lines are set in by more steps, or by fewer.
+-- Indented and dedented trees.
 use Rattle.std.specs.Prelude.{ℕ, ◌*◌, List, [], ◌∷◌, ◌++◌, drop, ◌&&◌, ◌==◌, nat_eq, if◌then◌else◌}
 use Rattle.std.specs.List.{list_any, starts_with}
 use Rattle.parser_input.specs.Kinds.{WHITESPACE}
@@ -11,11 +11,11 @@ use Rattle.tree_indent.specs.declared.shift.Shift.TheVariants.{In, Out}
 
 -- ---- texts
 
--- so many steps more: their spaces come after a text that has a line feed
+-- indented by level `n`: the spaces of the level are appended to a text that contains a line feed
 abbrev pub set_in : ℕ → List ℕ → List ℕ
 set_in n text = if list_any (λ c. c == line_feed) text then text ++ spaces n else text
 
--- so many steps less: after each line feed that has their spaces after it, these are dropped
+-- dedented by level `n`: the spaces of the level are removed after each line feed that they follow
 abbrev pub set_out : ℕ → List ℕ → List ℕ
 set_out n [] = []
 set_out n (c ∷ cs) = c ∷ (if c == line_feed && starts_with nat_eq cs (spaces n) then drop (n * 4) (set_out n cs) else set_out n cs)
@@ -26,7 +26,7 @@ shifted_text (Out level) text = set_out level.0 text
 
 -- ---- trees
 
--- only white space changes
+-- only whitespace changes
 abbrev pub shifted_leaf : Shift → Leaf → Leaf
 shifted_leaf s l = if l.kind == WHITESPACE then record { kind = l.kind; text = shifted_text s l.text } else l
 
@@ -35,13 +35,13 @@ shifted_forest s empty = empty
 shifted_forest s (node k f r) = node k (shifted_forest s f) (shifted_forest s r)
 shifted_forest s (leaf l r) = leaf (shifted_leaf s l) (shifted_forest s r)
 
--- each leaf of the tree
+-- with each leaf shifted
 abbrev pub shifted_tree : Shift → Tree → Tree
 shifted_tree s t = record { kind = t.kind; forest = shifted_forest s t.forest }
 
--- ---- what may stand
+-- ---- size limits
 
--- each token may have its text, each node its children
+-- each token can have its text, each node its children
 abbrev pub FitsForest : Forest → Type 0
 FitsForest empty = Unit {0}
 FitsForest (node k f r) = FitsNode (terms f) × FitsForest f × FitsForest r

@@ -1,4 +1,4 @@
-//! Typed nodes by more steps, or by fewer.
+//! Indents and dedents typed nodes.
 ghost use Rattle.std.specs.Prelude.{◌≡◌, ◌+◌, ◌++◌, IfOk, IfErr, OnOk};
 ghost use Rattle.tree_indent.specs.Indented.{IsShifted, FitsShifted, RefusesShifted, own_level};
 ghost use Rattle.tree_indent.specs.Mapped.{pairs_below, IsAfter, RefusesMapped};
@@ -10,17 +10,17 @@ use std::alloc::{AllocError, Global};
 use syntax_editor::{IndentLevel, MakeError};
 use syntax_tree::{AstNode, SyntaxMapping, TreeIds};
 
-/// Typed nodes are set in and out as their nodes are. Each call gives the root of a tree of its
-/// own, of the same type.
+/// Typed-node variants of the functions of [`edit`] and [`mapped`]. Each call returns the root of a
+/// new tree, as a node of the same type.
 pub trait AstNodeEdit: AstNode {
-    /// The level of the node's first token.
+    /// Returns the indent level of the node: that of its first token.
     fn indent_level(&self, alloc: Global) -> Result<IndentLevel, AllocError>
         ensures { IfOk result (λ level. level ≡ own_level (Self.stands self.now)) }
     {
         IndentLevel::from_node(alloc, self.syntax())
     }
 
-    /// By the steps of a level more.
+    /// Typed-node variant of [`edit::indent`].
     fn indent(
         &self,
         alloc: Global,
@@ -37,7 +37,7 @@ pub trait AstNodeEdit: AstNode {
         Ok(Self::cast(root).unwrap())
     }
 
-    /// By the steps of a level more, as `indent`; the old child nodes are mapped to the new ones.
+    /// Typed-node variant of [`mapped::indent_with_mapping`].
     fn indent_with_mapping(
         &self,
         alloc: Global,
@@ -59,7 +59,7 @@ pub trait AstNodeEdit: AstNode {
         Ok(Self::cast(root).unwrap())
     }
 
-    /// By the steps of a level less.
+    /// Typed-node variant of [`edit::dedent`].
     fn dedent(
         &self,
         alloc: Global,
@@ -76,7 +76,7 @@ pub trait AstNodeEdit: AstNode {
         Ok(Self::cast(root).unwrap())
     }
 
-    /// By the steps of its own level less.
+    /// Typed-node variant of [`edit::reset_indent`].
     fn reset_indent(&self, alloc: Global, ids: &mut TreeIds) -> Result<Self, MakeError>
         ensures ok { IfOk result (λ x. IsShifted (Out (own_level (Self.stands self.now)))
             (Self.stands self.now) ids.old (Self.stands x)) }

@@ -1,4 +1,4 @@
-//! Nodes by more steps, or by fewer, as roots of trees of their own.
+//! Indents and dedents nodes, as new trees.
 ghost use Rattle.std.specs.Prelude.{◌≡◌, ◌+◌, [], IfOk, IfErr, OnOk, Some};
 ghost use Rattle.rowan_green.specs.Forest.{Tree};
 ghost use Rattle.rowan_green.specs.declared.utility_types.NodeOrToken.TheVariants.{Node};
@@ -13,9 +13,17 @@ use std::alloc::Global;
 use syntax_editor::{IndentLevel, MakeError};
 use syntax_tree::{SyntaxNode, TreeIds};
 
-/// The node in a tree of its own, whose number is the next of `ids`, with the spaces of a level
-/// after each token of white space that has a line feed. Refuses as too long where a text or a list
-/// of children would be, then for want of a number. A refusal takes no number.
+/// Indents `node` by `level`: returns a copy of it in a new tree, whose number is the next of
+/// `ids`. The spaces of `level` are appended to each whitespace token that contains a line feed.
+///
+/// # Errors
+///
+/// - [`MakeError::TooLong`] if a token or a node would have 2^32 or more bytes of text, or a node
+///   2^32 or more children.
+/// - [`MakeError::NoTreeNumber`] if no tree number is left.
+/// - [`MakeError::NoMemory`] if an allocation fails.
+///
+/// On error, `ids` is unchanged.
 pub fn indent(
     alloc: Global,
     node: &SyntaxNode,
@@ -31,8 +39,9 @@ pub fn indent(
     shifted(alloc, node, Shift::In(level), ids)
 }
 
-/// The node in a tree of its own, whose number is the next of `ids`. In its white space the spaces
-/// of a level are dropped after each line feed that has them after it. Refuses as `indent` does.
+/// Dedents `node` by `level`: returns a copy of it in a new tree, whose number is the next of
+/// `ids`. In its whitespace tokens, the spaces of `level` are removed after each line feed that
+/// they follow. The errors are those of [`indent`].
 pub fn dedent(
     alloc: Global,
     node: &SyntaxNode,
@@ -48,7 +57,7 @@ pub fn dedent(
     shifted(alloc, node, Shift::Out(level), ids)
 }
 
-/// The same by the node's own level.
+/// Dedents `node` by its own indent level. The errors are those of [`indent`].
 pub fn reset_indent(
     alloc: Global,
     node: &SyntaxNode,
@@ -67,7 +76,7 @@ pub fn reset_indent(
     dedent(alloc, node, level, ids)
 }
 
-/// The node by more steps, or by fewer, in a tree of its own.
+/// Returns a copy of `node`, indented or dedented by `shift`, in a new tree.
 fn shifted(
     alloc: Global,
     node: &SyntaxNode,

@@ -1,19 +1,20 @@
-//! Why a node was not set in with a mapping.
+//! The error of indenting a node with a mapping.
 use std::error::Error;
 use std::fmt;
 use syntax_editor::MakeError;
 
-/// Why a node was not set in with a mapping. It took no tree number, and the mapping is as it was.
+/// The error type of [`indent_with_mapping`](crate::indent_with_mapping). On error, no tree number
+/// is used up, and the mapping is unchanged.
 #[derive(Clone, Copy, Debug, PartialEq, Eq)]
 pub enum IndentError {
-    /// The new tree's number is not greater than that of the node's tree, so child nodes may not be
-    /// mapped.
+    /// The number of the new tree is not greater than that of the node's tree, so its child nodes
+    /// cannot be mapped.
     Order = 3,
-    /// Memory was refused.
+    /// Out of memory.
     NoMemory = 4,
-    /// Each tree number was given.
+    /// No tree number is left.
     NoTreeNumber = 5,
-    /// A text or a list of children has 2^32 bytes or children, or more.
+    /// A token or a node would have 2^32 or more bytes of text, or a node 2^32 or more children.
     TooLong = 6,
 }
 

@@ -1,4 +1,4 @@
-//! Nodes whose lines are set in by more steps, or by fewer, as new trees.
+//! Indents and dedents nodes. Each call returns the root of a new tree.
 #![tactic(auto)]
 
 pub mod ast_node_edit;

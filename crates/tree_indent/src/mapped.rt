@@ -1,4 +1,4 @@
-//! Nodes by more steps whose old child nodes are mapped to the new ones.
+//! Indents nodes and maps the old child nodes to the new ones.
 ghost use Rattle.std.specs.Prelude.{◌≡◌, ◌+◌, ◌++◌, IfOk, IfErr, OnOk, OnErr};
 ghost use Rattle.syntax_tree.specs.Mapping.{AcceptsNodes, RefusesNodes};
 ghost use Rattle.tree_indent.specs.Indented.{IsShifted, FitsShifted};
@@ -11,7 +11,7 @@ use std::alloc::{AllocError, Global};
 use syntax_editor::IndentLevel;
 use syntax_tree::{MappingError, SyntaxMapping, SyntaxMappingBuilder, SyntaxNode, TreeIds};
 
-/// The child nodes of a node, in order.
+/// Returns the child nodes of `node`, in source order.
 fn child_nodes(alloc: Global, node: &SyntaxNode) -> Result<Vec<SyntaxNode>, AllocError>
     ensures { IfOk result (λ v. v.items ≡ child_nodes node.now) }
 {
@@ -23,7 +23,8 @@ fn child_nodes(alloc: Global, node: &SyntaxNode) -> Result<Vec<SyntaxNode>, Allo
     Ok(nodes)
 }
 
-/// Maps the child nodes of a node to those of another, in their order. A refusal maps none.
+/// Maps the child nodes of `node` to those of `root`, in source order. On error, `mapping` is
+/// unchanged.
 fn map_below(
     alloc: Global,
     node: &SyntaxNode,
@@ -43,10 +44,19 @@ fn map_below(
     Ok(())
 }
 
-/// As `indent`. Each child node of the node is mapped to the child node of the same number of the
-/// new root. Refuses as `indent` does, and as `Order` where there are child nodes and the new
-/// tree's number is not greater than that of the node's tree. A refusal takes no number and maps
-/// nothing.
+/// Indents `node` as [`indent`] does, and maps each of its child nodes to the child node of the new
+/// root at the same position.
+///
+/// # Errors
+///
+/// - [`IndentError::TooLong`] if a token or a node would have 2^32 or more bytes of text, or a node
+///   2^32 or more children.
+/// - [`IndentError::NoTreeNumber`] if no tree number is left.
+/// - [`IndentError::Order`] if `node` has child nodes and the number of the new tree is not greater
+///   than that of its tree.
+/// - [`IndentError::NoMemory`] if an allocation fails.
+///
+/// On error, `mapping` and `ids` are unchanged.
 pub fn indent_with_mapping(
     alloc: Global,
     node: &SyntaxNode,
@@ -67,14 +77,15 @@ pub fn indent_with_mapping(
     match map_below(alloc, node, &root, mapping) {
         Ok(()) => Ok(root),
         Err(e) => {
-            // (the number is given back: nothing has it)
+            // (the number is returned to `ids`: no tree has it)
             *ids = TreeIds::starting_at(root.tree());
             Err(of_mapping(e))
         }
     }
 }
 
-/// Why nothing was mapped: there are as many new child nodes as old ones.
+/// Converts the error of a mapping of equally many child nodes, in which only the order can be
+/// wrong.
 fn of_mapping(error: MappingError) -> IndentError
     ensures { result ≡ of_mapping error }
 {

@@ -1,4 +1,4 @@
-//! White space by more steps, or by fewer.
+//! Indents and dedents whitespace.
 ghost use Rattle.std.specs.Prelude.{◌≡◌, ◌==◌, IfOk, IfErr, OnOk, string_bytes};
 ghost use Rattle.std.specs.List.{list_any};
 ghost use Rattle.rowan_green.specs.Refusal.{RefusesUnless};
@@ -11,13 +11,14 @@ use rowan_green::{GreenError, GreenToken};
 use std::alloc::{AllocError, Global};
 use syntax_editor::IndentLevel;
 
-/// By so many steps more, or fewer.
+/// Indents or dedents by a level.
 #[derive(Clone, Copy)]
 pub enum Shift {
     In(IndentLevel),
     Out(IndentLevel),
 }
 
+/// Returns `true` if `text` contains a line feed.
 fn has_line_feed(text: &str) -> bool
     ensures { result ≡ list_any (λ c. c == line_feed) text.now }
 {
@@ -29,7 +30,7 @@ fn has_line_feed(text: &str) -> bool
     false
 }
 
-/// A text with the spaces of a level after it, if it has a line feed.
+/// Returns `text` with the spaces of `level` appended, if it contains a line feed.
 fn set_in(alloc: Global, text: &str, level: IndentLevel) -> Result<String, AllocError>
     ensures { IfOk result (λ t. string_bytes t ≡ set_in level.0 text.now) }
 {
@@ -39,7 +40,7 @@ fn set_in(alloc: Global, text: &str, level: IndentLevel) -> Result<String, Alloc
     String::from_str(alloc, text)
 }
 
-/// A text without the spaces of a level after its line feeds.
+/// Returns `text` without the spaces of `level` after each line feed that they follow.
 fn set_out(alloc: Global, text: &str, level: IndentLevel) -> Result<String, AllocError>
     ensures { IfOk result (λ t. string_bytes t ≡ set_out level.0 text.now) }
 {
@@ -47,7 +48,7 @@ fn set_out(alloc: Global, text: &str, level: IndentLevel) -> Result<String, Allo
     text.replace(alloc, &margin, "\n")
 }
 
-/// A text by more steps, or by fewer.
+/// Returns `text`, indented or dedented by `shift`.
 fn shifted_text(alloc: Global, text: &str, shift: Shift) -> Result<String, AllocError>
     ensures { IfOk result (λ t. string_bytes t ≡ shifted_text shift text.now) }
 {
@@ -57,7 +58,7 @@ fn shifted_text(alloc: Global, text: &str, shift: Shift) -> Result<String, Alloc
     }
 }
 
-/// A token of white space by more steps, or by fewer; any other as it was.
+/// Returns `token`, indented or dedented by `shift` if it is whitespace, else unchanged.
 pub(crate) fn shifted_token(
     alloc: Global,
     token: &GreenToken,
@@ -68,7 +69,7 @@ pub(crate) fn shifted_token(
     ensures refused { IfErr result (RefusesUnless (FitsToken (shifted_leaf shift token.now).text)) }
 {
     if token.kind().0 != SyntaxKind::WHITESPACE.to_raw() {
-        // Asked only for what its contract says: the length of a token's text has 32 bits.
+        // Called only for its contract: the length of a token's text fits 32 bits.
         let _len = token.text_len();
         return Ok(token.clone()?);
     }

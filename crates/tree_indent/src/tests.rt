@@ -1,4 +1,4 @@
-//! That calls succeed while memory holds, on trees that are built by hand.
+//! Calls succeed while allocations succeed, on hand-made trees.
 use crate::{AstNodeEdit, dedent, indent, indent_with_mapping, reset_indent};
 use parser_input::SyntaxKind;
 use rowan_green::{GreenNode, GreenNodeBuilder};
@@ -7,10 +7,10 @@ use std::test::Fail;
 use syntax_editor::{IndentLevel, SourceFile, StmtList};
 use syntax_tree::{AstNode, SyntaxElement, SyntaxMapping, SyntaxNode, TreeIds};
 
-/// A leaf: its kind and its text.
+/// The kind and the text of a token.
 type Leaf = (SyntaxKind, &'static str);
 
-/// (the texts of arms stand for their tokens)
+/// The tokens of a match block. Each arm is a single token here.
 const ARMS: &[Leaf] = &[
     (SyntaxKind::L_CURLY, "{"),
     (SyntaxKind::WHITESPACE, "\n    "),
@@ -41,14 +41,15 @@ fn push(builder: &mut GreenNodeBuilder<'_>, kind: SyntaxKind, leaves: &[Leaf]) -
     Ok(builder.finish_node()?)
 }
 
-/// A list of statements with these leaves.
+/// Returns a statement list with these tokens.
 fn list(alloc: Global, leaves: &[Leaf]) -> Result<GreenNode, Fail> {
     let mut builder = GreenNodeBuilder::new(alloc);
     push(&mut builder, SyntaxKind::STMT_LIST, leaves)?;
     Ok(builder.finish()?)
 }
 
-/// A file with a line feed and four spaces, and after them a list of statements with these leaves.
+/// Returns a file that starts with a line feed and four spaces, followed by a statement list with
+/// these tokens.
 fn file(alloc: Global, leaves: &[Leaf]) -> Result<GreenNode, Fail> {
     let mut builder = GreenNodeBuilder::new(alloc);
     builder.start_node(raw(SyntaxKind::SOURCE_FILE))?;
@@ -88,7 +89,7 @@ fn reset(alloc: Global) -> Result<String, Fail> {
     text_of(alloc, &reset_indent(alloc, &node, &mut ids)?)
 }
 
-/// Set in by one step, then set out by its own level, as a typed node.
+/// Indents a typed node by its own level, which is one, and dedents it by that level.
 fn typed(alloc: Global) -> Result<String, Fail> {
     let mut ids = TreeIds::new();
     let Some(list) = StmtList::cast(inner(alloc, &mut ids)?) else {
@@ -99,7 +100,7 @@ fn typed(alloc: Global) -> Result<String, Fail> {
     text_of(alloc, set_in.dedent(alloc, level, &mut ids)?.syntax())
 }
 
-/// Set out by its own level, as a typed node.
+/// Dedents a typed node by its own level.
 fn typed_reset(alloc: Global) -> Result<String, Fail> {
     let mut ids = TreeIds::new();
     let Some(list) = StmtList::cast(inner(alloc, &mut ids)?) else {
@@ -108,7 +109,7 @@ fn typed_reset(alloc: Global) -> Result<String, Fail> {
     text_of(alloc, list.reset_indent(alloc, &mut ids)?.syntax())
 }
 
-/// A file set in by one step, as a typed node; its list is mapped.
+/// Indents a file by one level, as a typed node, and maps its statement list.
 fn typed_mapped(alloc: Global) -> Result<String, Fail> {
     let mut ids = TreeIds::new();
     let root = SyntaxNode::new_root(alloc, file(alloc, BLOCK)?, &mut ids)?;
@@ -123,7 +124,7 @@ fn typed_mapped(alloc: Global) -> Result<String, Fail> {
     text_of(alloc, new.syntax())
 }
 
-/// A file set in by one step; its list is mapped.
+/// Indents a file by one level, and maps its statement list.
 fn mapped(alloc: Global) -> Result<String, Fail> {
     let mut ids = TreeIds::new();
     let root = SyntaxNode::new_root(alloc, file(alloc, BLOCK)?, &mut ids)?;

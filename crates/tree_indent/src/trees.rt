@@ -1,4 +1,4 @@
-//! Trees whose lines are set in by more steps, or by fewer.
+//! Indents and dedents green trees.
 ghost use Rattle.std.specs.Prelude.{◌≡◌, IfOk, IfErr, OnOk};
 ghost use Rattle.rowan_green.specs.Refusal.{RefusesUnless};
 ghost use Rattle.rowan_green.specs.Term.{tree_of, FitsNode};
@@ -8,7 +8,7 @@ use crate::shift::{Shift, shifted_token};
 use rowan_green::{GreenElement, GreenError, GreenNode, NodeOrToken, SyntaxKind};
 use std::alloc::Global;
 
-/// The tree with each token of white space changed.
+/// Returns the tree with each of its whitespace tokens indented or dedented by `shift`.
 pub(crate) fn shifted_tree(
     alloc: Global,
     node: &GreenNode,
@@ -29,7 +29,7 @@ pub(crate) fn shifted_tree(
     node_of(alloc, node.kind(), children)
 }
 
-/// The node of these children.
+/// Creates a node of kind `kind` with children `children`.
 fn node_of(
     alloc: Global,
     kind: SyntaxKind,

@@ -5,7 +5,7 @@ use Rattle.tree_lines.specs.Elements.{Element}
 use Rattle.tree_lines.specs.Listed.{closed, element_of}
 use Rattle.tree_lines.specs.declared.rows.Row.{Row}
 
--- the element that stands after some others
+-- the element at index `length xs` is closed
 pub closed-after : (xs : List Element) (e : Element) (ys : List Element) (end : ℕ) →
     closed (length xs) end (xs ++ e ∷ ys) ≡ xs ++ record { depth = e.depth; kind = e.kind; start = e.start; end = end } ∷ ys
 closed-after [] e ys end = refl

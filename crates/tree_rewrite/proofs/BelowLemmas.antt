@@ -1,4 +1,4 @@
--- What the code goes by that hands each child its own.
+-- Lemmas about the distribution of executed changes over children.
 use Rattle.std.proofs.Common.{◌≡◌, ℕ, zero, suc, ◌+◌, ◌-◌, ◌≤◌, ◌<◌, List, [], ◌∷◌, ◌++◌, length, Option, Some, None, is_none, Bool, true, false, ◌&&◌, ◌||◌, cond, leb, eqb, refl, ap, sym, ◌∙◌, arith, subst, slice_get, slice_set, slice_index_or, take, get_or}
 use Rattle.std.specs.List.{All}
 use Rattle.std.specs.Global.{Vec}
@@ -43,7 +43,7 @@ pub lists_count : (vs : List (Vec ℕ)) → length (lists_of vs) ≡ length vs
 lists_count [] = refl
 lists_count (v ∷ vs) = ap suc (lists_count vs)
 
--- what a list of the row was, or that it is none of the row
+-- the previous list, if it is one of the range, or the same list
 abbrev pub RowCase : ℕ → ℕ → ℕ → List (List ℕ) → ℕ → List ℕ → Bool → Type 0
 RowCase a s n ls i m true = (l : List ℕ) × (slice_get ls i ≡ Some l) × (m ≡ l ++ a ∷ [])
 RowCase a s n ls i m false = (slice_get ls i ≡ Some m) × IsBeyond (Some (s, n)) i
@@ -71,7 +71,7 @@ row_case a (suc s) n (l ∷ ls) (suc i) m h = let r = row_case a s n ls i m h in
     by_case true g = (true, g)
     by_case false g = (false, (g.0, beyond_more s n i g.1))
 
--- ---- one more, of which a child is told or not
+-- ---- one more executed change, which affects a child or does not
 unset-by : (m s : Bool) → s ≡ false → (m && s) ≡ false
 unset-by true s h = h
 unset-by false s h = refl
@@ -109,7 +109,7 @@ pub lists_left : (all : List Job) (ps : List Put) (ls : List (List ℕ)) (n : Op
     → AreLists all ps ls n w gs → AreLists all ps ls n w (g ∷ gs)
 lists_left all ps ls n w gs g f h i l e = let old = h i l e in (old.0, old.1, child_left g gs old.0 n w i (f i) old.2)
 
--- empty lists, after nothing
+-- empty lists, without executed changes
 list_none : (vs : List (Vec ℕ)) → All (λ v. v.items ≡ []) vs → (i : ℕ) (l : List ℕ) → slice_get (lists_of vs) i ≡ Some l → l ≡ []
 list_none [] h i l e = absurd (false≢true (sym (ap is_none e)))
 list_none (v ∷ vs) h zero l e = sym (some_same _ l e) ∙ All-head (λ u. u.items ≡ []) v vs h
@@ -136,7 +136,7 @@ within_number w (k ∷ q) i h = by_here (λ t. within_number w q i t) (covers (i
         let more : length (k ∷ q) - 1 - length w ≡ suc (length q - 1 - length w) = omega (arith, r.0) in
         (omega (arith, r.0), ap (slice_get (k ∷ q)) more ∙ r.1)
 
--- a way that is too short, or leads elsewhere
+-- an up-path that is too short, or leads elsewhere
 pub not_through : (w p : Way) (i : ℕ) → length p ≤ length w → is_within (i ∷ w) 0 p ≡ false
 not_through w p i h = false_from_ne_true _ (λ (t : is_within (i ∷ w) 0 p ≡ true). absurd (omega (arith, h, (within_number w p i t).0)))
 
@@ -166,7 +166,7 @@ leaves_slots a q n new s w i l b =
 pub leaves_slots-low : (a : ℕ) (q : Way) (n : ℕ) (new : List Element) (s : Bool) (w : Way) (i : ℕ) → (length q ≡ length w → ⊥) → is_within (i ∷ w) 0 q ≡ false → LeavesChild (replace (a ∷ q) n new s) w i
 leaves_slots-low a q n new s w i l h = (refl, and_left-false (same_way q w) _ (way_apart q w l), h)
 
--- ---- what was put in on one sheet
+-- ---- the executed changes of one target tree
 abbrev put_on : Job → Marked → Option Way → Bool → Sheet → Sheet
 put_on j m n b s k = cond (b && sets j.change k) (Some (set_by j.change k m (s k))) (s k)
 
@@ -187,7 +187,7 @@ slice_get-within [] k l e = omega (arith, l)
 slice_get-within (p ∷ ps) zero l e = false≢true (ap is_none e)
 slice_get-within (p ∷ ps) (suc k) l e = slice_get-within ps k (omega (arith, l)) e
 
--- what was put in next
+-- the next executed change
 pub record NextPut (all : List Job) (ps : List Put) (k : ℕ) (js : List Job) : Type 0 where
   pub job : Job
   pub rest : List Job

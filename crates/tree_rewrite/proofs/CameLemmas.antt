@@ -17,7 +17,7 @@ use Rattle.tree_rewrite.specs.declared.piece.Piece.{Piece}
 use Rattle.tree_rewrite.specs.declared.piece.Piece.TheVariants.{Whole, Open, Group, Close}
 use Rattle.tree_rewrite.proofs.MarkedLemmas.{origins-join}
 
--- ---- a walk meets the origins of what stands as it was
+-- ---- a walk meets the origins of an unchanged element
 abbrev pub walked : ℕ → List Event → List Element
 walked n v = map element_of (map (with_cursor n) (entered v))
 

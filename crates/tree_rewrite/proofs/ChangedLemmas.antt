@@ -1,4 +1,4 @@
--- What the code that finds the changed ranges goes by.
+-- Lemmas about the changed ranges.
 use Rattle.std.proofs.Common.{◌≡◌, ℕ, ◌+◌, ◌≤◌, List, [], ◌∷◌, ◌++◌, length, map, reverse, Option, Some, None, Bool, true, false, ◌&&◌, refl, ap, sym, ◌∙◌, arith, subst, append_assoc}
 use Rattle.std.proofs.lemmas.List.{append-nil, reverse-append, length-append}
 use Rattle.rowan_green.specs.Forest.{Forest, empty, node, leaf, Tree, forest_text, tree_text}
@@ -58,13 +58,13 @@ changed-join (token k l r) n o =
     ap (if_changed k.put (o, o + length l.text)) rest
     ∙ if_changed-append k.put (o, o + length l.text) (changed_at r (o + length l.text)) (changed_at n (o + text_len (token k l r)))
 
--- nothing was put into what stands as it was
+-- unchanged elements have no changed ranges
 changed-filled : (e : Element) (w : Way) (i : ℕ) (f : Forest) (o : ℕ) → changed_at (filled blank e w i f) o ≡ []
 changed-filled e w i empty o = refl
 changed-filled e w i (node k f r) o = λ j. changed-filled e (i ∷ w) 0 f o j ++ changed-filled e w (i + 1) r (o + text_len (filled blank e (i ∷ w) 0 f)) j
 changed-filled e w i (leaf l r) o = changed-filled e w (i + 1) r (o + length l.text)
 
--- ---- what is told of a list
+-- ---- flags of lists
 put-twice : (b c : Bool) (m : Marked) → with_put b (with_put c m) ≡ with_put b m
 put-twice b c nothing = refl
 put-twice b c (inner m k f r) = ap (inner (record { origin = m.origin; put = b }) k f) (put-twice b c r)
@@ -90,7 +90,7 @@ changed-more d n a =
     ∙ changed-join (as_told (told_in a) d) (as_told (told_in a) n) (before_in a)
     ∙ ap (λ z. changed_in d a ++ changed_at (as_told (told_in a) n) (before_in a + z)) (len-told (told_in a) d)
 
--- a node is a change where that is told, and then come those in it
+-- a node with the inserted flag is a changed range, followed by those inside it
 changed-node : (o : Option Bool) (e : Element) (k : ℕ) (f : Marked) (at : ℕ) → changed_at (as_told o (inner (record { origin = e; put = false }) k f nothing)) at
     ≡ if_changed (is_put o) (at, at + text_len f) (changed_at f at)
 changed-node None e k f at = append-nil (changed_at f at)
@@ -157,7 +157,7 @@ and-true : (b : Bool) → (true && b) ≡ b
 and-true true = refl
 and-true false = refl
 
--- what was entered last is left
+-- the last open node or group ends
 abbrev pub left_ranges : Entered → ℕ → List (ℕ × ℕ) → List (ℕ × ℕ)
 left_ranges g end inside = map bounds g.before.items ++ (if_changed (g.is_node && is_put g.told) (g.start, end) [] ++ inside)
 

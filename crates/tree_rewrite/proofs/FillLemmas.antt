@@ -1,4 +1,4 @@
--- What the code that fills sheets goes by.
+-- Lemmas about the elements of target trees.
 use Rattle.std.proofs.Common.{◌≡◌, ℕ, ◌+◌, ◌<◌, List, [], ◌∷◌, ◌++◌, length, length-drop, get_or, map, drop, Option, Some, None, is_some, Bool, true, false, Result, Ok, Err, MatchResult, OnOk, refl, ap, sym, ◌∙◌, arith, subst, append_assoc, slice_get}
 use Rattle.std.proofs.lemmas.List.{drop_more}
 use Rattle.std.proofs.lemmas.Option.{slice_get-get_or}
@@ -24,7 +24,7 @@ use Rattle.std.proofs.lemmas.Bool.{or_left, and_from, le-leb, false≢true}
 use Rattle.rowan_green.specs.Leaf.{Leaf}
 use Rattle.tree_rewrite.proofs.OrderLemmas.{same_way-own}
 
--- ---- an element that nothing is set in stands as it was
+-- ---- an element without changes is unchanged
 
 origin_shift : (e : Element) (v w : Way) → origin_at e (v ++ w) ≡ origin_at (origin_at e w).origin v
 origin_shift e v w = ap (λ u. record { origin = record { number = e.number; place = record { root = e.place.root; up = u } }; put = false }) (append_assoc v w e.place.up)
@@ -105,7 +105,7 @@ child-whole gs n e w i x h o =
 pub adds-whole : (ps qs : List Piece) (x : SyntaxElement) → qs ≡ ps ++ Whole x ∷ [] → Adds ps qs (reading_of blank (element_of x))
 adds-whole ps qs x e = record { says = λ s. ap (λ l. after l s) e ∙ after-append ps (Whole x ∷ []) s }
 
--- ---- what is added for a node, or for what a job puts in, after what stands in it
+-- ---- the terms of a node or a group of inserted elements, after its contents
 pub adds-node : (ps opened qs rs : List Piece) (x : Element) (f : Marked) → opened ≡ ps ++ Open x ∷ [] → Adds opened qs f → rs ≡ qs ++ Close ∷ []
     → Adds ps rs (inner (record { origin = x; put = false }) (kind_at x.place) f nothing)
 adds-node ps opened qs rs x f o a e = record {

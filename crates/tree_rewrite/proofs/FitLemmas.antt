@@ -34,7 +34,7 @@ second : (a b : Bool) → b ≡ true → (a || b) ≡ true
 second true b is = refl
 second false b is = is
 
--- the node stands as it stood
+-- the node equals its origin
 abbrev here : Mark → ℕ → Marked → Bool
 here m k f = is_tree (term_of m.origin) (record { kind = k; forest = forest_in f })
 

@@ -1,4 +1,4 @@
--- What the code that makes nodes of pieces goes by.
+-- Lemmas about building nodes from pieces.
 use Rattle.std.proofs.Common.{◌≡◌, ℕ, ◌+◌, List, [], ◌∷◌, ◌++◌, drop, reverse, Option, Some, None, option_to_list, Result, Err, IfErr, Bool, false, refl, ap, sym, ◌∙◌, subst}
 use Rattle.std.proofs.lemmas.List.{reverse-append}
 use Rattle.rowan_green.specs.Forest.{Forest, empty, node, leaf, Tree}
@@ -58,7 +58,7 @@ new-with_put b nothing h = tt
 new-with_put b (inner m k f r) h = (h.0, h.1, new-with_put b r h.2)
 new-with_put b (token m l r) h = new-with_put b r h
 
--- an element that stands as it was has no new nodes
+-- an unchanged element has no new nodes
 new-filled : (e : Element) (w : Way) (i : ℕ) (f : Forest) → terms f ≡ drop i (terms_below (origin_at e w).origin.place) → NewFit (filled blank e w i f)
 new-filled e w i empty h = tt
 new-filled e w i (node k f r) h =
@@ -92,7 +92,7 @@ made-whole es fs gs x g s t e h = record {
 pub fits-whole : (x : SyntaxElement) (s : Stand) → NewFitIn s → NewFitIn (after_piece (Whole x) s)
 fits-whole x s h = (new-join s.done (reading_of blank (element_of x)) h.0 (new-whole (element_of x)), h.1)
 
--- ---- something is begun
+-- ---- the start of a node or group
 around_more : (gs hs : List Begun) (g : Begun) (a : Around) → hs ≡ gs ++ g ∷ [] → IsAround (g ∷ reverse gs) a → IsAround (reverse hs) a
 around_more gs hs g a e h = subst (λ l. IsAround l a) (sym (ap reverse e ∙ reverse-append gs (g ∷ []))) h
 
@@ -106,11 +106,11 @@ pub made-group : (es fs : List Term) (gs hs : List Begun) (g : Begun) (b : Bool)
 made-group es fs gs hs g b s e is same f h =
     record { done = f; around = around_more gs hs g (in_group s.done b s.around) e (is, same ∙ h.done, h.around) }
 
--- ---- something ends
+-- ---- the end of a node or group
 around_less : (gs hs : List Begun) (g : Begun) (a : Around) → gs ≡ hs ++ g ∷ [] → IsAround (reverse gs) a → IsAround (g ∷ reverse hs) a
 around_less gs hs g a e h = subst (λ l. IsAround l a) (ap reverse e ∙ reverse-append hs (g ∷ [])) h
 
--- nothing was begun
+-- there is no open node or group
 pub made-outside : (es : List Term) (gs : List Begun) (s : Stand) → gs ≡ [] → IsMade es gs s → closed s.done s.around ≡ s
 made-outside es gs s e h = by_around s.around (subst (λ l. IsAround (reverse l) s.around) e h.around)
   where
@@ -119,7 +119,7 @@ made-outside es gs s e h = by_around s.around (subst (λ l. IsAround (reverse l)
     by_around (in_node d x a) g = absurd g
     by_around (in_group d b a) g = absurd g
 
--- the innermost is a node, with what stands before it
+-- the innermost open one is a node, with the terms before it
 pub record InNode (es : List Term) (hs : List Begun) (g : Begun) (k : SyntaxKind) (s : Stand) : Type 0 where
   pub before : Marked
   pub origin : Element
@@ -165,7 +165,7 @@ new-node es hs g k s n d h =
     let fits = fits-anyway (term_of n.origin ≡ Some (Node tree)) (terms (forest_in s.done)) (n.own tree) (new-split n.before whole now.0).1.0 in
     subst FitsNode (sym d) fits
 
--- the innermost is what a job puts in
+-- the innermost open one is a group of inserted elements
 pub record InGroup (hs : List Begun) (g : Begun) (s : Stand) : Type 0 where
   pub before : Marked
   pub top : Bool
@@ -213,7 +213,7 @@ pub new-start : (ps : List Piece) (s : Stand) → NewFitIn (after ps s) → NewF
 new-start [] s h = h
 new-start (p ∷ ps) s h = new-before p s (new-start ps (after_piece p s) h)
 
--- a refusal that a weaker fact forbids, a stronger one forbids
+-- an error that a weaker fact excludes, a stronger one excludes, too
 pub refuses-more : (P Q : Type 0) (e : ExecuteError) → (Q → P) → RefusesUnless P e → RefusesUnless Q e
 refuses-more P Q TooLong f h = λ q. h (f q)
 refuses-more P Q NoMemory f h = tt
@@ -221,7 +221,7 @@ refuses-more P Q NoMemory f h = tt
 pub err_more : {A : Type 0} (r : Result A ExecuteError) (d e : ExecuteError) (P Q : Type 0) → r ≡ Err d → d ≡ e → (Q → P) → RefusesUnless P e → IfErr r (RefusesUnless Q)
 err_more r d e P Q h k f g = subst (λ x. IfErr x (RefusesUnless Q)) (sym (h ∙ ap Err k)) (refuses-more P Q e f g)
 
--- the last of what was begun
+-- the last open node or group
 pub popped : {A : Type 0} (xs ys : List A) (o : Option A) (x y : A) → o ≡ Some x → x ≡ y → xs ≡ ys ++ option_to_list o → xs ≡ ys ++ y ∷ []
 popped xs ys o x y e is h = h ∙ ap (λ z. ys ++ option_to_list z) (e ∙ ap Some is)
 

@@ -1,4 +1,4 @@
--- What the code goes by that lists what was put in by the sheets of payloads.
+-- Lemmas about the lists of executed changes by payload.
 use Rattle.std.proofs.Common.{◌≡◌, ℕ, zero, suc, ◌≤◌, ◌<◌, List, [], ◌∷◌, ◌++◌, length, reverse, Option, Some, None, Bool, true, false, cond, refl, ap, sym, ◌∙◌, arith, subst, slice_get, append_assoc, append-nil}
 use Rattle.std.proofs.lemmas.List.{reverse-append}
 use Rattle.syntax_tree.specs.Element.{Way, same_way}

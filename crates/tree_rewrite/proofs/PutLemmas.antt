@@ -1,4 +1,4 @@
--- Puts in every order of which each spot sees one and the same list.
+-- Every order in which each spot has the same list of changes leads to the same overlays.
 use Rattle.std.proofs.Common.{◌≡◌, ℕ, zero, suc, ◌≤◌, List, [], ◌∷◌, length, Option, Some, None, is_none, Bool, true, false, refl, ap, sym, ◌∙◌, arith}
 use Rattle.std.specs.List.{filter}
 use Rattle.syntax_tree.specs.Element.{Way, Element}
@@ -40,13 +40,13 @@ puts_rewritten e all js o =
     ap (λ s. reading_of (s None) e) (puts_written all js o.nested (length all) (omega (arith, o.long)))
     ∙ ap (λ s. reading_of s e) (written_same (λ i. terms_within (length all) all i) None js all o.outer)
 
--- what a job puts in, in an order, is what it puts in at any depth that suffices
+-- the terms that a planned change inserts, in an order, are those at any sufficient depth
 made_is : (all : List Job) (j : Job) (js : List Job) → SameOwn j.own js all → NestedFirst all js → (d : ℕ) → length js ≤ d → terms_of (puts js) j ≡ terms_within (suc d) all j
 made_is all j js o h d l =
     let sheet = list_same j all js (λ i. terms_within d all i) (puts js) (puts_written all js h d l) j.own o in
     λ i. with_put (is_none j.sheet) (readings_of (sheet i) (payload_of j.change))
 
--- each job puts in its payload read off the sheet of all that it owns
+-- each planned change inserts its payload with all planned changes that it owns
 abbrev pub Settled : ℕ → List Job → List Job → Type 0
 Settled d all [] = Unit {0}
 Settled d all (j ∷ js) = (terms_within d all j ≡ terms_of (written (λ i. terms_within d all i) all) j) × Settled d all js

@@ -1,4 +1,4 @@
--- What the code that finds which elements were put in goes by.
+-- Lemmas about the marks of inserted elements.
 use Rattle.std.proofs.Common.{◌≡◌, ℕ, ◌+◌, List, [], ◌∷◌, ◌++◌, map, reverse, Option, Some, None, Bool, false, refl, ap, sym, ◌∙◌, arith, subst, append_assoc, length, drop, take, ◌-◌}
 use Rattle.std.proofs.lemmas.List.{append-nil, reverse-append, map-append, drop-map, length-drop, length-map, take_all}
 use Rattle.std.proofs.Math.Seq.{drop-append_seam}
@@ -28,7 +28,7 @@ marks-join (token m l r) n = ap (λ l. m.put ∷ l) (marks-join r n)
 marks-told-join : (o : Option Bool) (m n : Marked) → put_marks (as_told o (join m n)) ≡ put_marks (as_told o m) ++ put_marks (as_told o n)
 marks-told-join o m n = ap put_marks (told-join o m n) ∙ marks-join (as_told o m) (as_told o n)
 
--- nothing was put into what stands as it was
+-- unchanged elements have no marks
 marks-filled : (e : Element) (w : Way) (i : ℕ) (f : Forest) → put_marks (filled blank e w i f) ≡ none_put (origins (filled blank e w i f))
 marks-filled e w i empty = refl
 marks-filled e w i (node k f r) =
@@ -37,7 +37,7 @@ marks-filled e w i (node k f r) =
     ap (λ l. false ∷ l) ((λ j. marks-filled e (i ∷ w) 0 f j ++ marks-filled e w (i + 1) r j) ∙ sym (map-append (λ y. false) (origins low) (origins rest)))
 marks-filled e w i (leaf l r) = ap (λ m. false ∷ m) (marks-filled e w (i + 1) r)
 
--- a node is put in where that is told, and then come those in it
+-- a node with the inserted flag is marked, followed by the elements inside it
 marks-node : (o : Option Bool) (e : Element) (k : ℕ) (f : Marked) → put_marks (as_told o (inner (record { origin = e; put = false }) k f nothing)) ≡ is_put o ∷ put_marks f
 marks-node None e k f = ap (λ l. false ∷ l) (append-nil (put_marks f))
 marks-node (Some b) e k f = ap (λ l. b ∷ l) (append-nil (put_marks f))
@@ -170,7 +170,7 @@ marks-outside p q s a same told around old = by_around s.around old.marks old.to
 pub marked : (p : Puts) (ps : List Piece) (m : Marked) → Say ps m → MarksPuts p (after ps start) → p.marks.items ≡ put_marks m
 marked p ps m h old = (subst (λ s. MarksPuts p s) (h.says start) old).marks
 
--- what was added after is what a piece brought
+-- the elements that were appended are those of a piece
 pub brought-after : {A B : Type 0} (f : A → B) (old all : List A) (by : List B) (n : ℕ) → n ≡ length old → map f all ≡ map f old ++ by → map f (take (length all - n) (drop n all)) ≡ by
 brought-after f old all by n len is =
     let rest = drop n all in

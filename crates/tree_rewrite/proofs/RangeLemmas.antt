@@ -1,4 +1,4 @@
--- The ranges of what was put in stand where its ways lead.
+-- The changed ranges are those of the elements at the changed up-paths.
 use Rattle.std.proofs.Common.{◌≡◌, ℕ, ◌+◌, ◌<◌, List, [], ◌∷◌, ◌++◌, length, map, drop, take, get_or, Some, Bool, true, false, refl, ap, sym, ◌∙◌, arith, slice_get}
 use Rattle.std.proofs.lemmas.List.{append-nil, map-append, length-append, take_more}
 use Rattle.std.proofs.lemmas.Option.{slice_get-get_or}
@@ -16,7 +16,7 @@ if-map : (t : Tree) (b : Bool) (w : Way) (ws : List Way) → map (bounds_in t) (
 if-map t true w ws = refl
 if-map t false w ws = refl
 
--- how many bytes stand before the next term
+-- the number of bytes before the next term
 next_start : (xs : List Term) (i : ℕ) (x : Term) → slice_get xs i ≡ Some x → i < length xs → length (texts_of (take (i + 1) xs)) ≡ length (texts_of (take i xs)) + length (texts_of (x ∷ []))
 next_start xs i x h l =
     let found : Some x ≡ Some (get_or xs i x) = sym h ∙ slice_get-get_or xs i x l in

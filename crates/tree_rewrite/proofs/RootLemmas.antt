@@ -24,7 +24,7 @@ use Rattle.tree_rewrite.proofs.SheetLemmas.{join-nothing}
 use Rattle.tree_rewrite.proofs.GreenLemmas.{forest_in-with_put}
 use Rattle.tree_rewrite.proofs.JobLemmas.{some_same, are_jobs, job_parts}
 
--- ---- the jobs of such changes
+-- ---- the planned changes of such changes
 root_covered : (first : Way) (n : ℕ) → covers first n [] ≡ true → first ≡ []
 root_covered [] n h = refl
 root_covered (a ∷ p) n h = absurd (false≢true h)
@@ -77,7 +77,7 @@ jobs_keep top cs ms js f h = all_keep top cs ms (kept top.place.root cs) js f (A
 pub recorded_keep : (cs : List declared.Change) → All KeepsOneRoot cs → All KeepsRoot (map recorded cs)
 recorded_keep cs h = All-map KeepsRoot recorded cs h
 
--- ---- what stands in the root's place
+-- ---- the contents of the slot of the root
 abbrev OneNode : Marked → Type 0
 OneNode m = (t : Tree) × IsNode m t
 
@@ -97,7 +97,7 @@ one_own s e h n = by_term (term_of e) n
     by_term (Some (Token l)) g = absurd (false≢true g)
     by_term (Some (Node t)) g = by_slot t (s (slot [])) h
 
--- no job says what stands in the place of a payload
+-- no planned change determines the slot of a payload
 slot_free : (c : Job → Marked) (w : Way) (js : List Job) → All KeepsTop js → written c js (Some w) (slot []) ≡ None
 slot_free c w [] h = refl
 slot_free c w (j ∷ js) h = by_test (slot_free c w js (All-tail KeepsTop j js h)) (All-head KeepsTop j js h) (same_sheet j.sheet (Some w) && sets j.change (slot [])) refl
@@ -116,7 +116,7 @@ slot_free c w (j ∷ js) h = by_test (slot_free c w js (All-tail KeepsTop j js h
         absurd (no_sheet j.sheet (k (sets_replaces j.change x.1)).0 (same_sheet-sound j.sheet (Some w) x.0))
     by_test r k false g = r
 
--- what stands in the root's place is what a job puts there that keeps it
+-- the slot of the root contains the terms of a planned change that keeps one node there
 slot_kept : (c : Job → Marked) (js : List Job) → ((j : Job) → IsOneNode (payload_of j.change) → OneNode (c j)) → All KeepsTop js → OneNodeIf (written c js None (slot []))
 slot_kept c [] f h = tt
 slot_kept c (j ∷ js) f h = by_test (slot_kept c js f (All-tail KeepsTop j js h)) (All-head KeepsTop j js h) (same_sheet j.sheet None && sets j.change (slot [])) refl

@@ -1,4 +1,4 @@
--- What the code of sheets goes by.
+-- Lemmas about the gaps and slots of target trees.
 use Rattle.std.proofs.Common.{◌≡◌, ℕ, List, [], ◌∷◌, ◌++◌, length, reverse, Option, Some, None, Bool, true, false, ◌&&◌, cond, refl, ap, sym, ◌∙◌, arith, subst, slice_get}
 use Rattle.std.proofs.lemmas.Bool.{and_parts, false≢true}
 use Rattle.std.proofs.lemmas.List.{reverse-append}
@@ -122,7 +122,7 @@ gap_next g is gs n w i m whole false e s h =
 pub gap_end : (is : List Given) (n : Option Way) (w : Way) (i : ℕ) (m whole : Marked) → is ≡ [] → whole ≡ join m (at_gap is n w i) → m ≡ whole
 gap_end is n w i m whole e h = sym (h ∙ ap (λ l. join m (at_gap l n w i)) e ∙ join-nothing m)
 
--- ---- one more, which says nothing of a place, or says what stands there
+-- ---- one more change, which leaves a slot alone, or determines its contents
 pub slot_next : (g : Given) (is gs : List Given) (n : Option Way) (w : Way) (o : Option Marked) → is ≡ g ∷ gs → (same_sheet g.0.sheet n && sets g.0.change (slot w)) ≡ false
     → o ≡ laid is n (slot w) → o ≡ laid gs n (slot w)
 slot_next g is gs n w o s h e = e ∙ ap (λ l. laid l n (slot w)) s ∙ spot_kept g gs n (slot w) h
@@ -135,9 +135,9 @@ slot_here g is gs n w o b s h f e =
 pub slot_end : (is : List Given) (n : Option Way) (w : Way) (o : Option Marked) → is ≡ [] → o ≡ laid is n (slot w) → o ≡ None
 slot_end is n w o s e = e ∙ ap (λ l. laid l n (slot w)) s
 
--- ---- jobs that say nothing of what stands below an element
+-- ---- changes that affect nothing below an element
 
--- what stands below the element at `v` is the same after both
+-- the elements below the one at `v` are the same after both
 abbrev pub SameBelow : List Given → List Given → Option Way → Way → Type 0
 SameBelow gs is n v = (p : Way) → is_within v 0 p ≡ true → (i : ℕ) → (laid gs n (gap p i) ≡ laid is n (gap p i)) × (laid gs n (slot (i ∷ p)) ≡ laid is n (slot (i ∷ p)))
 

@@ -1,4 +1,4 @@
--- Where the elements that pieces bring came from.
+-- Origins of the elements of pieces.
 use Rattle.std.specs.Prelude.{List, [], ◌∷◌, ◌++◌}
 use Rattle.syntax_tree.specs.Element.{Element}
 use Rattle.syntax_tree.specs.Handle.{element_of}
@@ -6,14 +6,14 @@ use Rattle.tree_rewrite.specs.Marked.{origins, blank, reading_of}
 use Rattle.tree_rewrite.specs.declared.piece.Piece.{Piece}
 use Rattle.tree_rewrite.specs.declared.piece.Piece.TheVariants.{Whole, Open, Group, Close}
 
--- the elements that a piece brings, in preorder
+-- the origins of the elements of a piece, in preorder
 abbrev pub origins_by : Piece → List Element
 origins_by (Whole e) = origins (reading_of blank (element_of e))
 origins_by (Open e) = e ∷ []
 origins_by (Group b) = []
 origins_by Close = []
 
--- those of each, one after another
+-- the origins of the elements of all pieces, one piece after another
 abbrev pub all_origins : List Piece → List Element
 all_origins [] = []
 all_origins (p ∷ ps) = origins_by p ++ all_origins ps

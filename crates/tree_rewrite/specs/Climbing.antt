@@ -1,15 +1,15 @@
--- Where a climb towards a payload ends, and what is left of the way from there.
+-- The end of a climb towards a payload, and the rest of the up-path from there.
 use Rattle.std.specs.Prelude.{[], ◌++◌, Option, Some, None, option_map}
 use Rattle.syntax_tree.specs.Element.{Way, Element}
 use Rattle.tree_rewrite.specs.Moved.{way_from_image}
 use Rattle.tree_rewrite.specs.declared.climb.ClimbEnd.{ClimbEnd}
 use Rattle.tree_rewrite.specs.declared.climb.ClimbEnd.TheVariants.{Payload, Root, Mapped}
 
--- a way that goes on after these numbers
+-- an up-path that continues after these indices
 abbrev pub after_numbers : Way → Option Way → Option Way
 after_numbers v w = option_map (λ u. v ++ u) w
 
--- what is left of the way, by `on` past a mapped node
+-- the rest of the up-path; `on` continues it from a mapped node
 abbrev pub way_left : (Element → Option Way) → Element → ClimbEnd → Option Way
 way_left on b Payload = Some []
 way_left on b Root = None

@@ -1,4 +1,4 @@
--- What jobs put in, as the code has it.
+-- The terms that executed changes insert. Model of the code; only proofs use it.
 use Rattle.std.specs.Prelude.{◌≡◌, ℕ, List, [], ◌∷◌, reverse, Option, Some, None, Bool, true, ◌&&◌, slice_get}
 use Rattle.rowan_green.specs.Forest.{Forest, empty}
 use Rattle.rowan_green.specs.Term.{Term}
@@ -11,61 +11,61 @@ use Rattle.tree_rewrite.specs.Rewrite.{Job, Sheets, same_sheet, blank_sheets, wr
 use Rattle.tree_rewrite.specs.Pieces.{Say}
 use Rattle.tree_rewrite.specs.declared.piece.Put.{Put}
 
--- each is of one of these jobs, numbered as in all of them, and has put in its terms
+-- the executed changes are those of these planned changes, by their indices in `all`, and their pieces are the terms of each
 abbrev pub AreTerms : List Job → List Put → List Job → Type 0
 AreTerms all [] [] = Unit {0}
 AreTerms all [] (j ∷ js) = ⊥
 AreTerms all (p ∷ ps) [] = ⊥
 AreTerms all (p ∷ ps) (j ∷ js) = (slice_get all p.number ≡ Some j) × Say p.pieces.items (terms_of (puts js) j) × AreTerms all ps js
 
--- the same where the last is of the first job
+-- the last executed change is that of the first planned change
 abbrev pub HavePut : List Job → List Put → List Job → Type 0
 HavePut all ps js = AreTerms all (reverse ps) js
 
--- ---- some of what was put in
+-- ---- some of the executed changes
 
--- a job, and the terms that it puts in
+-- a planned change and the terms that it inserts
 abbrev pub Given : Type 0
 Given = Job × Marked
 
--- the sheets after jobs that put in these terms; the one made last is the first of the list
+-- the overlays after planned changes that insert these terms; the one executed last is the first of the list
 abbrev pub laid : List Given → Sheets
 laid [] = blank_sheets
 laid (g ∷ gs) = write g.0 g.1 (laid gs)
 
--- this is of one of these jobs, numbered as in all of them, and has put in these terms
+-- the executed change is that of this planned change, by its index in `all`, and its pieces are these terms
 abbrev pub IsGiven : List Job → Option Put → Given → Type 0
 IsGiven all None g = ⊥
 IsGiven all (Some p) g = (slice_get all p.number ≡ Some g.0) × Say p.pieces.items g.1
 
--- so is each of what was put in, by its number
+-- so does the executed change at each index
 abbrev pub AreGiven : List Job → List Put → List ℕ → List Given → Type 0
 AreGiven all ps [] [] = Unit {0}
 AreGiven all ps [] (g ∷ gs) = ⊥
 AreGiven all ps (a ∷ ns) [] = ⊥
 AreGiven all ps (a ∷ ns) (g ∷ gs) = IsGiven all (slice_get ps a) g × AreGiven all ps ns gs
 
--- the same where the last number is of the first job
+-- the last index belongs to the first planned change
 abbrev pub HaveGiven : List Job → List Put → List ℕ → List Given → Type 0
 HaveGiven all ps ns gs = AreGiven all ps (reverse ns) gs
 
--- what stands at a gap after these
+-- the contents of a gap after these changes
 abbrev pub at_gap : List Given → Option Way → Way → ℕ → Marked
 at_gap gs n w i = or_own (laid gs n (gap w i)) nothing
 
--- what stands in the place of an element that was replaced
+-- the contents of the slot of a replaced element
 abbrev pub at_slot : List Given → Option Way → Way → Marked
 at_slot gs n w = or_own (laid gs n (slot w)) nothing
 
--- it says what stands below the element at `v` of a sheet
+-- the change affects elements below the one at `v` in a target tree
 abbrev pub touches : Option Way → Way → Given → Bool
 touches n v g = same_sheet g.0.sheet n && reaches v g.0.change
 
--- these say nothing of what stands below the element at `v` of a sheet
+-- none of the changes affects elements below the one at `v` in a target tree
 abbrev pub IsBlankBelow : List Given → Option Way → Way → Type 0
 IsBlankBelow gs n v = (p : Way) → is_within v 0 p ≡ true → (i : ℕ) → (laid gs n (gap p i) ≡ None) × (laid gs n (slot (i ∷ p)) ≡ None)
 
--- ---- elements as they stand
+-- ---- elements with the changes
 
 -- the children of a node, if there is one
 abbrev pub inside : Option Term → Forest
@@ -73,13 +73,13 @@ inside None = empty
 inside (Some (Node t)) = t.forest
 inside (Some (Token l)) = empty
 
--- the node at `w` of a sheet of `e`, which is not replaced itself
+-- the node at `w` of the overlay of `e`, if it is not replaced itself
 abbrev pub node_in : Sheet → Element → Way → Option Term → Marked
 node_in s e w None = nothing
 node_in s e w (Some (Node t)) = inner (origin_at e w) t.kind (filled s e w 0 t.forest) nothing
 node_in s e w (Some (Token l)) = nothing
 
--- what stands in the place of the element at `w` of a sheet of `e`
+-- the contents of the slot of the element at `w` in the overlay of `e`
 abbrev pub standing : Sheet → Element → Way → Option Term → Marked
 standing s e w None = nothing
 standing s e w (Some (Node t)) = or_own (s (slot w)) (node_in s e w (Some (Node t)))

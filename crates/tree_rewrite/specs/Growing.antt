@@ -1,4 +1,4 @@
--- Elements that are made of pieces, as the code has them.
+-- Elements built from pieces. Model of the code; only proofs use it.
 use Rattle.std.specs.Prelude.{◌≡◌, List, [], ◌∷◌, reverse, Some, None}
 use Rattle.rowan_green.specs.Forest.{Tree}
 use Rattle.rowan_green.specs.Term.{Term, terms, FitsNode}
@@ -12,11 +12,11 @@ use Rattle.tree_rewrite.specs.declared.error.ExecuteError.{ExecuteError}
 use Rattle.tree_rewrite.specs.declared.error.ExecuteError.TheVariants.{TooLong, NoMemory}
 use Rattle.tree_rewrite.specs.declared.green.Begun.{Begun}
 
--- a node may have the children that it has
+-- a node can have its own children
 abbrev pub OwnFit : Element → Type 0
 OwnFit e = (t : Tree) → term_of e ≡ Some (Node t) → FitsNode (terms t.forest)
 
--- what was begun, the innermost first, with the terms before it
+-- the open nodes and groups, innermost first, with the terms before them
 abbrev pub IsAround : List Begun → Around → Type 0
 IsAround [] outside = Unit {0}
 IsAround [] (in_node d e a) = ⊥
@@ -26,12 +26,12 @@ IsAround (g ∷ gs) (in_node d e a) =
     ((k : SyntaxKind) × (g.kind ≡ Some k) × (k.0 ≡ kind_at e.place)) × OwnFit e × (g.before.items ≡ terms (forest_in d)) × IsAround gs a
 IsAround (g ∷ gs) (in_group d b a) = (g.kind ≡ None) × (g.before.items ≡ terms (forest_in d)) × IsAround gs a
 
--- the terms that are made, and what they stand in, the outermost first
+-- the finished terms, and the open nodes and groups around them, outermost first
 pub record IsMade (es : List Term) (gs : List Begun) (s : Stand) : Type 0 where
   pub done : es ≡ terms (forest_in s.done)
   pub around : IsAround (reverse gs) s.around
 
--- each node of the list that does not stand as it stood where it came from may have its children
+-- each node of the list that differs from its origin can have its children
 abbrev pub NewFit : Marked → Type 0
 NewFit nothing = Unit {0}
 NewFit (inner m k f r) =
@@ -43,11 +43,11 @@ NewFitAround outside = Unit {0}
 NewFitAround (in_node d e a) = NewFit d × NewFitAround a
 NewFitAround (in_group d b a) = NewFit d × NewFitAround a
 
--- each complete node that is new may have its children
+-- each complete new node can have its children
 abbrev pub NewFitIn : Stand → Type 0
 NewFitIn s = NewFit s.done × NewFitAround s.around
 
--- too long only where this does not hold; out of memory at any point
+-- `TooLong` only if `Fits` does not hold; `NoMemory` at any point
 abbrev pub RefusesUnless : Type 0 → ExecuteError → Type 0
 RefusesUnless Fits TooLong = Fits → ⊥
 RefusesUnless Fits NoMemory = Unit {0}

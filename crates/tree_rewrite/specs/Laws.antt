@@ -11,28 +11,27 @@ use Rattle.tree_rewrite.specs.Changed.{changed_at, bounds_in}
 use Rattle.tree_rewrite.specs.Fits.{IsNode}
 use Rattle.tree_rewrite.specs.Orders.{is_order, put_in_order, same_gap_at}
 
--- changes that are made one by one, in any order of their jobs, end in the tree with all made at once
+-- changes that are applied one at a time, in any admitted order, lead to the tree with all of them applied atomically
 abbrev pub OrdersAgree : Type 0
 OrdersAgree = (top : Element) (cs : List Change) (ms : Mapping) (os : List ℕ) → is_placeable top cs ms ≡ true → is_order (or_no_jobs (jobs top cs ms)) os ≡ true
     → put_in_order top (or_no_jobs (jobs top cs ms)) os ≡ rewrite top cs ms
 
--- two recordings on one tree end alike: in both two changes replace one element, or in none; in both each change has a place, or in none; and
--- the tree with all changes made is the same
+-- two recordings on one tree are equivalent: both or neither have a collision, both or neither have a place for each change, and the trees with all changes applied are equal
 pub record AreAlike (top : Element) (cs ds : List Change) (ms : Mapping) : Type 0 where
   pub colliding : has_collision cs ≡ has_collision ds
   pub placeable : is_placeable top cs ms ≡ is_placeable top ds ms
   pub same : is_placeable top cs ms ≡ true → rewrite top cs ms ≡ rewrite top ds ms
 
--- two neighbouring changes may be recorded in either order, unless both put into one gap
+-- two adjacent changes may be recorded in either order, unless both insert into the same gap
 abbrev pub SwapsAgree : Type 0
 SwapsAgree = (top : Element) (before after : List Change) (c d : Change) (ms : Mapping) → same_gap_at c d ≡ false
     → AreAlike top (before ++ c ∷ (d ∷ after)) (before ++ d ∷ (c ∷ after)) ms
 
--- where changes put one node alone in the root's place, if they replace it, the tree with all made at once is one node
+-- if each change that replaces the root replaces it by one node, the tree with all changes applied is one node
 abbrev pub RootStays : Type 0
 RootStays = (top : Element) (cs : List Change) (ms : Mapping) → is_node (term_of top) ≡ true → All KeepsRoot cs
     → (t : Tree) × IsNode (rewrite top cs ms) t
 
--- the ranges of what was put in are those of the ways of what was put in
+-- the changed ranges are those of the elements at the changed up-paths
 abbrev pub RangesAgree : Type 0
 RangesAgree = (m : Marked) (t : Tree) → IsNode m t → changed_at m 0 ≡ map (bounds_in t) (changed m)

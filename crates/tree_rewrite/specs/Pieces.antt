@@ -1,4 +1,4 @@
--- What pieces say, one after another.
+-- The terms of a list of pieces.
 use Rattle.std.specs.Prelude.{◌≡◌, List, [], ◌∷◌, Bool, false}
 use Rattle.rowan.specs.Place.{kind_at}
 use Rattle.syntax_tree.specs.Element.{Element}
@@ -7,26 +7,26 @@ use Rattle.tree_rewrite.specs.Marked.{Marked, nothing, inner, join, with_put, bl
 use Rattle.tree_rewrite.specs.declared.piece.Piece.{Piece}
 use Rattle.tree_rewrite.specs.declared.piece.Piece.TheVariants.{Whole, Open, Group, Close}
 
--- what was begun and is not ended, the innermost first, with what stands before it: nodes, and what jobs put in
+-- the open nodes and groups of inserted elements, innermost first, with the terms before each
 pub data Around : Type 0 where
   outside : Around
   in_node : (before : Marked) → Element → Around → Around
   in_group : (before : Marked) → Bool → Around → Around
 
--- a list of terms, and what it stands in
+-- a list of terms, and the open nodes and groups around it
 pub record Stand : Type 0 where
   pub done : Marked
   pub around : Around
 
--- nothing was said yet
+-- before the first piece
 abbrev pub start : Stand
 start = record { done = nothing; around = outside }
 
--- these terms more
+-- with these terms appended
 abbrev pub added : Marked → Stand → Stand
 added m s = record { done = join s.done m; around = s.around }
 
--- the end of a node with these children, or of what a job puts in
+-- after the end of a node with these children, or of a group of inserted elements
 abbrev pub closed : Marked → Around → Stand
 closed d outside = record { done = d; around = outside }
 closed d (in_node before e a) =
@@ -43,10 +43,10 @@ abbrev pub after : List Piece → Stand → Stand
 after [] s = s
 after (p ∷ ps) s = after ps (after_piece p s)
 
--- these terms were added
+-- these terms are appended
 pub record Adds (old new : List Piece) (m : Marked) : Type 0 where
   pub says : (s : Stand) → after new s ≡ added m (after old s)
 
--- the pieces say these terms
+-- the terms of the pieces
 abbrev pub Say : List Piece → Marked → Type 0
 Say ps m = Adds [] ps m

@@ -1,9 +1,9 @@
--- Which changes say what stands below an element.
+-- Changes that affect elements below an element.
 use Rattle.std.specs.Prelude.{[], ◌∷◌, Bool, false}
 use Rattle.syntax_tree.specs.Element.{Way}
 use Rattle.tree_rewrite.specs.Change.{Change, insert, replace, is_within}
 
--- the change says what stands at a gap or in a place whose parent is the element at `v` or lies below it
+-- the change determines the contents of a gap or slot whose parent is the element at `v` or below it
 abbrev pub reaches : Way → Change → Bool
 reaches v (insert p i new) = is_within v 0 p
 reaches v (replace [] n new single) = false

@@ -1,4 +1,4 @@
--- A recorded change and a job, as the code has them.
+-- A recorded change and a planned change. Model of the code; only proofs use it.
 use Rattle.std.specs.Prelude.{ℕ, ◌+◌, ◌-◌, ◌≤◌, List, map, Option, Some, None, option_map}
 use Rattle.std.specs.Global.{Vec}
 use Rattle.rowan.specs.Place.{index_of}
@@ -10,30 +10,30 @@ use Rattle.tree_rewrite.specs.declared.change.Change.TheVariants.{Insert, Replac
 use Rattle.tree_rewrite.specs.declared.tree_change.Target.{Target}
 use Rattle.tree_rewrite.specs.declared.tree_change.Target.TheVariants.{Gap, Slots}
 
--- the change that puts these elements there
+-- the change that inserts these elements at the target, or replaces the elements there by them
 abbrev pub change_of : Target → List Element → Change
 change_of (Gap p i) new = insert p.items i new
 change_of (Slots first n single) new = replace first.items n new single
 
--- the way that is kept, if one is
+-- the up-path of a vector, if any
 abbrev pub way_of : Option (Vec ℕ) → Option Way
 way_of w = option_map (λ v. v.items) w
 
--- how deep a sheet lies whose way has this length, or the tree's own
+-- the depth of a target tree whose up-path has this length, or of the tree itself
 abbrev pub level_of : Option ℕ → ℕ
 level_of None = 0
 level_of (Some n) = n + 1
 
--- the change by the ways of what it changes
+-- the change, with its elements named by up-paths
 abbrev pub recorded : declared.Change → Change
 recorded (Insert p new) = insert p.parent.place.up p.index (map element_of new.items)
 recorded (Replace first last new single) = replace (element_of first).place.up (index_of (element_of last).place - index_of (element_of first).place) (map element_of new.items) single
 
--- the ends of what is replaced are in order
+-- the first replaced element is not after the last
 abbrev pub IsOrdered : declared.Change → Type 0
 IsOrdered (Insert p new) = Unit {0}
 IsOrdered (Replace first last new single) = index_of (element_of first).place ≤ index_of (element_of last).place
 
--- the change puts one node alone in the root's place, if it replaces the root
+-- if the change replaces the root, it replaces it by one node
 abbrev pub KeepsOneRoot : declared.Change → Type 0
 KeepsOneRoot c = KeepsRoot (recorded c)

@@ -1,4 +1,4 @@
--- How the code finds what changed, piece by piece.
+-- Changed ranges, piece by piece. Model of the code; only proofs use it.
 use Rattle.std.specs.Prelude.{◌≡◌, ℕ, ◌+◌, List, [], ◌∷◌, length, map, reverse, Option, Some, None, Bool, true, false}
 use Rattle.rowan.specs.Place.{text_at}
 use Rattle.syntax_tree.specs.Handle.{element_of}
@@ -14,7 +14,7 @@ abbrev pub or_told : Option Bool → Bool → Bool
 or_told None b = b
 or_told (Some c) b = c
 
--- what directly stands in what a job puts in was put in if the outermost such job is made in the tree itself; elsewhere nothing is told
+-- elements directly in a group are inserted if the outermost such group belongs to a change of the tree itself; elsewhere there is no flag
 abbrev pub told_in : Around → Option Bool
 told_in outside = None
 told_in (in_node d e a) = None
@@ -28,17 +28,17 @@ abbrev pub as_told : Option Bool → Marked → Marked
 as_told None m = m
 as_told (Some b) m = with_put b m
 
--- how many bytes stand before the list
+-- the number of bytes before the list
 abbrev pub before_in : Around → ℕ
 before_in outside = 0
 before_in (in_node d e a) = before_in a + text_len d
 before_in (in_group d b a) = before_in a + text_len d
 
--- the ranges in a list that stands there
+-- the ranges in a list with these open nodes and groups around it
 abbrev pub changed_in : Marked → Around → List (ℕ × ℕ)
 changed_in d a = changed_at (as_told (told_in a) d) (before_in a)
 
--- what was entered, the innermost first, with the ranges before it
+-- the open nodes and groups, innermost first, with the ranges before them
 abbrev pub IsEntered : List Entered → Around → Type 0
 IsEntered [] outside = Unit {0}
 IsEntered [] (in_node d e a) = ⊥
@@ -49,14 +49,14 @@ IsEntered (g ∷ gs) (in_node d e a) =
 IsEntered (g ∷ gs) (in_group d b a) =
     (g.is_node ≡ false) × (g.told ≡ told_in a) × (map bounds g.before.items ≡ changed_in d a) × IsEntered gs a
 
--- the ranges up to here, and what they stand in
+-- the ranges up to this point, and the open nodes and groups around it
 pub record Tracks (t : Tracker) (s : Stand) : Type 0 where
   pub ranges : map bounds t.ranges.items ≡ changed_in s.done s.around
   pub offset : t.offset ≡ before_in s.around + text_len s.done
   pub told : t.told ≡ told_in s.around
   pub around : IsEntered (reverse t.around.items) s.around
 
--- how many bytes a piece brings
+-- the number of bytes of a piece
 abbrev pub bytes_by : Piece → ℕ
 bytes_by (Whole e) = length (text_at (element_of e).place)
 bytes_by (Open e) = 0

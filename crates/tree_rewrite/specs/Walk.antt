@@ -1,4 +1,4 @@
--- What a walk down a way has at each element, as the code has it.
+-- The state of a walk down an up-path at each element. Model of the code; only proofs use it.
 use Rattle.std.specs.Prelude.{List, [], ◌∷◌, Option, Some, None, Bool, false, ◌&&◌}
 use Rattle.rowan_green.specs.Forest.{Tree}
 use Rattle.rowan_green.specs.Term.{Term, children_of}
@@ -6,7 +6,7 @@ use Rattle.rowan_green.specs.declared.utility_types.NodeOrToken.TheVariants.{Nod
 use Rattle.syntax_tree.specs.Element.{term_of, is_node}
 use Rattle.tree_rewrite.specs.Change.{Change, insert, replace}
 
--- the node that the term is, if it is one
+-- the term, if it is a node
 abbrev pub node_in : Option Term → Option Tree
 node_in None = None
 node_in (Some (Node t)) = Some t
@@ -16,7 +16,7 @@ abbrev pub children_below : Option Tree → List Term
 children_below None = []
 children_below (Some t) = children_of t
 
--- one element was named alone, and a node comes in its place
+-- the change names a single element and replaces it by a node
 abbrev pub names_node : Change → Bool
 names_node (insert p i new) = false
 names_node (replace first n [] single) = false

@@ -7,16 +7,16 @@ use crate::tree_change::{Target, TreeChange};
 use std::alloc::{AllocError, Global};
 use syntax_tree::{Position, SyntaxElement};
 
-/// A change of the tree that its position, or its first element, is of.
+/// A change of the tree that contains its position or its first element.
 #[derive(Drop)]
 pub enum Change {
-    /// These come into a gap.
+    /// Inserts `new` at the gap `place`.
     Insert {
         place: Position,
         new: Vec<SyntaxElement>,
     },
-    /// These come in the place of the elements from `first` to `last`, children of one parent in
-    /// that order, or both the root. `single` where one element was named alone.
+    /// Replaces the elements from `first` to `last` by `new`. They are children of one parent, in
+    /// this order, or both are the root. `single` if the change names a single element.
     Replace {
         first: SyntaxElement,
         last: SyntaxElement,
@@ -26,7 +26,8 @@ pub enum Change {
 }
 
 impl Change {
-    /// The same by the ways of what it changes. The ends of what is replaced are in order.
+    /// Converts into a change that names its elements by up-paths. `first` must not be after
+    /// `last`.
     pub fn into_tree_change(self, alloc: Global) -> Result<TreeChange, AllocError>
         requires { IsOrdered self }
         ensures same { IfOk result (λ c. c ≡ recorded self) }

@@ -1,4 +1,4 @@
-//! What changed, as ranges of the new text.
+//! The changed ranges of the new text.
 ghost use Rattle.std.specs.Prelude.{◌≡◌, ◌+◌, ◌<◌, ◌^◌, ◌++◌, ◌∷◌, [], ◌≤◌, ◌&&◌, map, true, IfOk, OnOk};
 ghost use Rattle.tree_rewrite.specs.Marked.{Marked};
 ghost use Rattle.tree_rewrite.specs.declared.piece.Piece.TheVariants.{Whole};
@@ -12,7 +12,7 @@ use std::alloc::{AllocError, Global};
 use std::mem;
 use syntax_tree::SyntaxElement;
 
-/// A node, or what a job puts in, with what was known before it.
+/// A node, or a group of inserted elements, that was entered; with the state before it.
 #[derive(Drop)]
 pub struct Entered {
     is_node: bool,
@@ -21,8 +21,8 @@ pub struct Entered {
     before: Vec<TextRange>,
 }
 
-/// The ranges of a list up to an offset, and what it stands in. `told`: whether the elements of the
-/// list were put in, where it is what a job puts in.
+/// The changed ranges up to an offset, and the open nodes and groups around it. Inside a group,
+/// `told` is `Some`: whether the elements of the group are recorded as changed.
 #[derive(Drop)]
 pub struct Tracker {
     ranges: Vec<TextRange>,
@@ -31,7 +31,7 @@ pub struct Tracker {
     around: Vec<Entered>,
 }
 
-/// Adds these ranges.
+/// Appends `ranges`.
 fn push_ranges(ranges: Vec<TextRange>, to: &mut Vec<TextRange>) -> Result<(), AllocError>
     ensures { OnOk result (to.new.items ≡ to.old.items ++ ranges.items) }
 {
@@ -41,7 +41,7 @@ fn push_ranges(ranges: Vec<TextRange>, to: &mut Vec<TextRange>) -> Result<(), Al
     Ok(())
 }
 
-/// Adds a range, if told so.
+/// Appends the range from `start` to `end` if `is_there`.
 fn push_if(is_there: bool, start: u32, end: u32, to: &mut Vec<TextRange>) -> Result<(), AllocError>
     requires { is_there ≡ true → start ≤ end }
     ensures { OnOk result (map bounds to.new.items
@@ -53,7 +53,7 @@ fn push_if(is_there: bool, start: u32, end: u32, to: &mut Vec<TextRange>) -> Res
     Ok(())
 }
 
-/// Whether it is told that elements were put in.
+/// Returns `true` if `told` is `Some(true)`: the elements of a group are recorded as changed.
 pub(crate) fn is_put(told: Option<bool>) -> bool
     ensures { result ≡ is_put told }
 {
@@ -63,7 +63,7 @@ pub(crate) fn is_put(told: Option<bool>) -> bool
     }
 }
 
-/// Whether what is left is a node that was put in.
+/// Returns `true` if the node or group that ends is a node that is recorded as changed.
 fn is_change(is_node: bool, told: Option<bool>) -> bool
     ensures { result ≡ (is_node && is_put told) }
 {
@@ -71,7 +71,7 @@ fn is_change(is_node: bool, told: Option<bool>) -> bool
 }
 
 impl Tracker {
-    /// Passes an element with all below it.
+    /// Skips an element with all elements below it, and records it if it is changed.
     fn pass(&mut self, element: &SyntaxElement) -> Result<(), AllocError>
         requires { self.now.offset + bytes_by (Whole element.now) < 2 ^ 32 }
         ensures tracks { (s : Stand) → Tracks self.old s
@@ -85,7 +85,7 @@ impl Tracker {
         Ok(())
     }
 
-    /// Enters a node, or what a job puts in.
+    /// Enters a node or a group of inserted elements.
     fn enter(&mut self, alloc: Global, is_node: bool, told: Option<bool>) -> Result<(), AllocError>
         ensures ranges { OnOk result (self.new.ranges.items ≡ []) }
         ensures offset { OnOk result (self.new.offset ≡ self.old.offset) }
@@ -107,7 +107,7 @@ impl Tracker {
         Ok(())
     }
 
-    /// Leaves what was entered last.
+    /// Leaves the node or group that was entered last.
     fn leave(&mut self) -> Result<(), AllocError>
         requires { (s : Stand) × Tracks self.now s }
         ensures tracks { (s : Stand) → Tracks self.old s
@@ -137,7 +137,7 @@ impl Tracker {
         Ok(())
     }
 
-    /// Goes on by a piece.
+    /// Processes one piece.
     fn step(&mut self, alloc: Global, piece: &Piece) -> Result<(), AllocError>
         requires tracks { (s : Stand) × Tracks self.now s }
         requires fits { self.now.offset + bytes_by piece.now < 2 ^ 32 }
@@ -158,7 +158,8 @@ impl Tracker {
     }
 }
 
-/// The ranges of what was put in, in the text of what pieces say.
+/// Returns the ranges of the elements that outermost changes inserted, in bytes of the text of
+/// `pieces`.
 pub fn changed_of(alloc: Global, pieces: &[Piece]) -> Result<Vec<TextRange>, AllocError>
     requires { all_bytes pieces.now < 2 ^ 32 }
     ensures { (m : Marked) → Say pieces.now m → IfOk result (λ v. AreChanged v.items m) }

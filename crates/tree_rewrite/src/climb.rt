@@ -1,4 +1,4 @@
-//! The way from a replaced node to its payload, through what a mapping names.
+//! The up-path from a replaced node to its payload, through the entries of a mapping.
 ghost use Rattle.std.specs.Prelude.{◌≡◌, ◌+◌, length, Option, option_map, IfOk};
 ghost use Rattle.rowan_green.specs.Forest.{Tree};
 ghost use Rattle.syntax_tree.specs.Element.{Way, Element, same_element, element_at};
@@ -8,17 +8,17 @@ ghost use Rattle.tree_rewrite.specs.Climbing.{after_numbers, way_left};
 use std::alloc::{AllocError, Global};
 use syntax_tree::{SyntaxMapping, SyntaxNode};
 
-/// Where a climb ends.
+/// The end of a climb.
 enum ClimbEnd<'a> {
-    /// At the payload.
+    /// The payload was reached.
     Payload,
-    /// At a root that is mapped to nothing.
+    /// A root without a mapping entry was reached.
     Root,
-    /// At a node that is mapped to this one.
+    /// A node was reached that is mapped to this one.
     Mapped(&'a SyntaxNode),
 }
 
-/// Whether a node stands at a way in the tree of this number.
+/// Returns `true` if `node` is at up-path `way` in the tree with number `tree`.
 fn is_at(node: &SyntaxNode, tree: u32, way: &[usize]) -> Result<bool, AllocError>
     ensures { (t : Tree) → IfOk result (λ b. b ≡ same_element node.now (element_at tree t way.now)) }
 {
@@ -28,8 +28,8 @@ fn is_at(node: &SyntaxNode, tree: u32, way: &[usize]) -> Result<bool, AllocError
     node.stands_at(way)
 }
 
-/// Goes up from an element until the payload, a mapped node or the root is met, and adds the
-/// numbers of the elements passed.
+/// Walks up from the element at `way` until it reaches the payload, a mapped node or the root.
+/// Appends the indices of the elements that it leaves to `numbers`.
 fn climb<'m>(
     mapping: &'m SyntaxMapping,
     payload: &SyntaxNode,
@@ -57,7 +57,7 @@ fn climb<'m>(
     }
 }
 
-/// Whether two nodes are one.
+/// Returns `true` if both nodes are the same.
 fn is_same(alloc: Global, node: &SyntaxNode, other: &SyntaxNode) -> Result<bool, AllocError>
     ensures { IfOk result (λ b. b ≡ same_element node.now other.now) }
 {
@@ -65,9 +65,9 @@ fn is_same(alloc: Global, node: &SyntaxNode, other: &SyntaxNode) -> Result<bool,
     is_at(node, other.tree(), &way)
 }
 
-/// The numbers of the elements from one up to the payload, its own first, where a mapped node goes
-/// on at what it is mapped to; none where the payload is not met. The first element stands at a way
-/// in the tree of this number.
+/// Returns the up-path to `payload` from the element at up-path `way` in the tree with number
+/// `tree`: child indices, innermost first. From a mapped node it continues at the output of the
+/// mapping. Returns `None` if `payload` is not reached.
 pub fn way_to(
     alloc: Global,
     mapping: &SyntaxMapping,

@@ -1,16 +1,16 @@
-//! Why there is no plan, and why a plan is not executed.
+//! The errors of building and executing a plan.
 use std::alloc::{AllocError, AllocFailed};
 use std::error::Error;
 use std::fmt;
 
-/// Why recorded changes have no plan.
+/// The error type of [`Plan::build`](crate::plan::Plan::build).
 #[derive(Clone, Copy, Debug, PartialEq, Eq)]
 pub enum PlanError {
-    /// Two changes replace one element.
+    /// Two changes replace the same element.
     Intersecting = 1,
-    /// A change in a replaced node has no place in what replaces it.
+    /// A change inside a replaced node has no place in the payload.
     MissingMapping = 2,
-    /// Memory was refused.
+    /// Out of memory.
     NoMemory = 3,
 }
 
@@ -58,12 +58,12 @@ impl<T: Drop> From<AllocFailed<T>> for PlanError {
     }
 }
 
-/// Why a plan is not executed.
+/// The error type of [`Plan::execute`](crate::plan::Plan::execute).
 #[derive(Clone, Copy, Debug, PartialEq, Eq)]
 pub enum ExecuteError {
-    /// A node of the rewritten tree would have a text of 2^32 bytes or more, or so many children.
+    /// A new node would have 2^32 or more bytes of text, or 2^32 or more children.
     TooLong = 1,
-    /// Memory was refused.
+    /// Out of memory.
     NoMemory = 2,
 }
 

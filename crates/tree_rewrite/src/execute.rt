@@ -1,4 +1,4 @@
-//! Jobs made one by one, in an order.
+//! Execution of planned changes, one at a time, in a given order.
 ghost use Rattle.std.specs.Prelude.{◌≡◌, List, [], map, slice_get, IfOk, OnOk};
 ghost use Rattle.std.specs.Option.{option_copied};
 ghost use Rattle.syntax_tree.specs.Handle.{element_of};
@@ -17,8 +17,8 @@ use crate::piece::{Piece, Put};
 use std::alloc::{AllocError, Global};
 use syntax_tree::SyntaxElement;
 
-/// Adds an element of a payload, as it stands on the payload's sheet after these jobs, if it has
-/// one.
+/// Appends an element of a payload, with the executed changes of that payload if it is a target
+/// tree (`own` is not `None`).
 fn push_payload(
     alloc: Global,
     jobs: &[Job],
@@ -44,7 +44,7 @@ fn push_payload(
     Ok(())
 }
 
-/// What a job puts in after these jobs.
+/// Returns the pieces that the planned change `job` inserts after the executed changes `made`.
 fn content_of(
     alloc: Global,
     jobs: &[Job],
@@ -65,14 +65,15 @@ fn content_of(
     Ok(pieces)
 }
 
-/// The job of a number, if there is one.
+/// Returns the planned change at index `number`.
 fn job_at(jobs: &[Job], number: usize) -> Option<&Job>
     ensures { option_copied result ≡ slice_get jobs.now number }
 {
     jobs.get(number)
 }
 
-/// Makes the job of a number after these, if there is one.
+/// Executes the planned change at index `number`, if there is one, after the executed changes
+/// `made`.
 fn make(
     alloc: Global,
     jobs: &[Job],
@@ -93,7 +94,7 @@ fn make(
     Ok(())
 }
 
-/// Makes the jobs of these numbers, one by one.
+/// Executes the planned changes at the indices `order`, one at a time.
 pub fn make_all(alloc: Global, jobs: &[Job], order: &[usize]) -> Result<Vec<Put>, AllocError>
     ensures { IfOk result (λ v. HavePut jobs.now v.items (picked jobs.now order.now [])) }
 {

@@ -1,4 +1,5 @@
-//! Elements of a sheet as they stand after some jobs. What no job touches is shared.
+//! Elements of a target tree after some executed changes. Elements that no change affects are
+//! shared.
 ghost use Rattle.std.specs.Prelude.{◌≡◌, ◌∷◌, List, IfOk, OnOk};
 ghost use Rattle.syntax_tree.specs.Element.{Element, term_of};
 ghost use Rattle.syntax_tree.specs.Handle.{element_of};
@@ -15,7 +16,7 @@ use crate::sheet::{is_touched, push_gap, push_slot};
 use std::alloc::{AllocError, Global};
 use syntax_tree::{SyntaxElement, SyntaxNode};
 
-/// Adds an element as it was.
+/// Appends `element`, unchanged, as one piece.
 pub(crate) fn push_whole(element: SyntaxElement, pieces: &mut Vec<Piece>) -> Result<(), AllocError>
     ensures { OnOk result
         (Adds pieces.old.items pieces.new.items (reading_of blank (element_of element))) }
@@ -24,7 +25,8 @@ pub(crate) fn push_whole(element: SyntaxElement, pieces: &mut Vec<Piece>) -> Res
     Ok(())
 }
 
-/// Adds the element at a way of a sheet, as it stands after these jobs.
+/// Appends the element at up-path `way` of target tree `sheet`, with the executed changes at
+/// `numbers`.
 #[cycle(fill)]
 pub fn push_standing(
     alloc: Global,
@@ -60,7 +62,7 @@ pub fn push_standing(
     }
 }
 
-/// Adds a node that is not replaced itself.
+/// Appends a node that is not replaced itself.
 #[cycle(fill)]
 fn push_node(
     alloc: Global,
@@ -84,7 +86,7 @@ fn push_node(
     Ok(())
 }
 
-/// Adds the children of a node, gap by gap and place by place.
+/// Appends the children of a node, gap by gap and slot by slot.
 #[cycle(fill)]
 fn fill(
     alloc: Global,
@@ -117,7 +119,7 @@ fn fill(
     Ok(())
 }
 
-/// Adds what stands at the gap before a child, and the child as it stands.
+/// Appends the contents of the gap before a child, and the child, with the executed changes.
 #[cycle(fill)]
 fn push_child(
     alloc: Global,

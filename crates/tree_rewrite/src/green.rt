@@ -1,4 +1,4 @@
-//! Elements of a green tree, made of pieces.
+//! Green elements, built from pieces.
 ghost use Rattle.std.specs.Prelude.{◌≡◌, ◌++◌, ◌∷◌, [], IfOk, IfErr, IfSome, OnOk, Some};
 ghost use Rattle.rowan_green.specs.Forest.{Tree};
 ghost use Rattle.rowan_green.specs.Term.{terms, tree_of, FitsNode};
@@ -13,14 +13,14 @@ use rowan_green::{GreenElement, GreenError, GreenNode, NodeOrToken, SyntaxKind};
 use std::alloc::{AllocError, Global};
 use std::mem;
 
-/// A node that was begun, by its kind, or what a job puts in, with the elements before it.
+/// An open node, with its kind, or an open group of inserted elements; with the elements before it.
 #[derive(Drop)]
 pub struct Begun {
     kind: Option<SyntaxKind>,
     before: Vec<GreenElement>,
 }
 
-/// A node of this kind with these children.
+/// Creates a node of kind `kind` with children `children`.
 fn node_of(
     alloc: Global,
     kind: SyntaxKind,
@@ -37,7 +37,7 @@ fn node_of(
     }
 }
 
-/// Begins a node of this kind, or what a job puts in.
+/// Starts a node of kind `kind`, or a group of inserted elements if `kind` is `None`.
 fn begin(
     alloc: Global,
     kind: Option<SyntaxKind>,
@@ -53,7 +53,7 @@ fn begin(
     Ok(())
 }
 
-/// Adds these elements.
+/// Appends `elements`.
 fn push_all(elements: Vec<GreenElement>, to: &mut Vec<GreenElement>) -> Result<(), AllocError>
     ensures { OnOk result (to.new.items ≡ to.old.items ++ elements.items) }
 {
@@ -63,7 +63,7 @@ fn push_all(elements: Vec<GreenElement>, to: &mut Vec<GreenElement>) -> Result<(
     Ok(())
 }
 
-/// Ends what was begun last.
+/// Ends the last open node or group.
 fn close(
     alloc: Global,
     done: &mut Vec<GreenElement>,
@@ -90,7 +90,7 @@ fn close(
     Ok(())
 }
 
-/// Goes on by a piece.
+/// Processes one piece.
 fn step(
     alloc: Global,
     piece: &Piece,
@@ -118,7 +118,7 @@ fn step(
     Ok(())
 }
 
-/// The elements that pieces say.
+/// Returns the green elements of `pieces`.
 pub fn green_of(alloc: Global, pieces: &[Piece]) -> Result<Vec<GreenElement>, ExecuteError>
     ensures elements { (m : Marked) → Say pieces.now m → IfOk result (λ v. v.items ≡ terms (forest_in m)) }
     ensures fits { (m : Marked) → Say pieces.now m → OnOk result (NewFit m) }
@@ -132,7 +132,7 @@ pub fn green_of(alloc: Global, pieces: &[Piece]) -> Result<Vec<GreenElement>, Ex
     Ok(done)
 }
 
-/// The node, where one stands alone.
+/// Returns the only element, if there is exactly one and it is a node.
 pub fn one_node(elements: Vec<GreenElement>) -> Option<GreenNode>
     ensures is { IfSome result (λ t. elements.items ≡ Node t ∷ []) }
     ensures all { (t : Tree) → elements.items ≡ Node t ∷ [] → result ≡ Some t }

@@ -1,4 +1,4 @@
-//! Which change replaces an element, looked up by its way.
+//! The index of the change that replaces an element, by the up-path of the element.
 ghost use Rattle.std.specs.Prelude.{◌≡◌, ◌+◌, ◌<◌, ◌∷◌, ◌^◌, [], true, is_none, IfOk, IfSome, OnOk};
 ghost use Rattle.std.specs.List.{All};
 ghost use Rattle.tree_rewrite.specs.Change.{covers, replace, replaces, has_collision};
@@ -9,8 +9,8 @@ use crate::tree_change::{Target, TreeChange};
 use crate::way_trie::WayTrie;
 use std::alloc::{AllocError, Global};
 
-/// Gives the children of a node, from one on and so many after it, a number, if none of them has
-/// one.
+/// Assigns `number` to the children `start` to `start + more` of the node at up-path `above`.
+/// Returns `false` if one of them already has a number.
 fn put_children(
     start: usize,
     above: &[usize],
@@ -36,7 +36,8 @@ fn put_children(
     }
 }
 
-/// Gives the elements of a row a number, if none of them has one.
+/// Assigns `number` to the elements of a range of siblings. Returns `false` if one of them already
+/// has a number.
 fn put_row(
     first: &[usize],
     more: usize,
@@ -54,7 +55,8 @@ fn put_row(
     }
 }
 
-/// Gives the elements that a change replaces its number, if none of them has one.
+/// Assigns `number` to the elements that `change` replaces. Returns `false` if one of them already
+/// has a number.
 fn put_change(change: &TreeChange, number: usize, held: &mut WayTrie) -> Result<bool, AllocError>
     requires row { FitsRow change.now }
     requires sound { IsSound held.old }
@@ -67,8 +69,8 @@ fn put_change(change: &TreeChange, number: usize, held: &mut WayTrie) -> Result<
     }
 }
 
-/// The number of the change that replaces an element, by the way of that; none where two of the
-/// changes replace one.
+/// Returns a trie from the up-path of each replaced element to the index of the change that
+/// replaces it; `None` if two changes replace the same element.
 pub fn held_ways(alloc: Global, changes: &[TreeChange]) -> Result<Option<WayTrie>, AllocError>
     requires { All FitsRow changes.now }
     ensures collision { IfOk result (λ held. is_none held ≡ has_collision changes.now) }

@@ -1,4 +1,4 @@
-//! Changes where they are made, and the orders in which they may be made one by one.
+//! Planned changes, and the orders in which they may be executed one at a time.
 ghost use Rattle.std.specs.Prelude.{◌≡◌, ◌&&◌, Some, ℕ, length, is_none, map};
 ghost use Rattle.std.specs.List.{list_all};
 ghost use Rattle.tree_rewrite.specs.Rewrite.{same_sheet, sets, first_way, payload_of};
@@ -15,12 +15,13 @@ use crate::tree_change::TreeChange;
 use std::marker::Model;
 use syntax_tree::SyntaxElement;
 
-/// A change that is not dropped, where it is made.
+/// A planned change: a change that is not discarded, with its target tree.
 pub struct Job {
-    /// The replaced node in whose payload it is made; none for the tree itself.
+    /// The target tree: the up-path of the replaced node whose payload is changed, or `None` for
+    /// the tree itself.
     sheet: Option<Vec<usize>>,
     change: TreeChange,
-    /// The node that it replaces by a node.
+    /// The up-path of the node that it replaces by a node, if it does.
     own: Option<Vec<usize>>,
 }
 
@@ -48,7 +49,7 @@ impl Model for Job {
     ghost view = { λ j. record { sheet = way_of j.sheet; change = j.change; own = way_of j.own } };
 }
 
-/// Whether two jobs' payloads, or the trees, are one.
+/// Returns `true` if both target trees are the same.
 fn same_sheet(a: &Option<Vec<usize>>, b: &Option<Vec<usize>>) -> bool
     ensures { result ≡ same_sheet (way_of a.now) (way_of b.now) }
 {
@@ -60,43 +61,44 @@ fn same_sheet(a: &Option<Vec<usize>>, b: &Option<Vec<usize>>) -> bool
 }
 
 impl Job {
-    /// A change made on the sheet of a payload, or of the tree; `own` is the node that it replaces
-    /// by a node. Both name a payload by the way of the node that it replaces.
+    /// Creates a planned change of the target tree `sheet`; `own` is the node that it replaces by a
+    /// node. Both name a payload by the up-path of the node that it replaces.
     pub fn new(sheet: Option<Vec<usize>>, change: TreeChange, own: Option<Vec<usize>>) -> Job
         ensures { result ≡ record { sheet = way_of sheet; change = change; own = way_of own } }
     {
         Job { sheet, change, own }
     }
 
-    /// The payload on whose sheet it is made, by the node that it replaces; none for the tree itself.
+    /// Returns its target tree: the up-path of the replaced node whose payload is changed, or
+    /// `None` for the tree itself.
     pub(crate) fn sheet(&self) -> &Option<Vec<usize>>
         ensures { way_of result.now ≡ self.now.sheet }
     {
         &self.sheet
     }
 
-    /// What it puts in.
+    /// Returns the elements that it inserts.
     pub(crate) fn payload(&self) -> &[SyntaxElement]
         ensures { map element_of result.now ≡ payload_of self.now.change }
     {
         self.change.payload()
     }
 
-    /// The node that it replaces by a node.
+    /// Returns the up-path of the node that it replaces by a node, if it does.
     pub(crate) fn own(&self) -> &Option<Vec<usize>>
         ensures { way_of result.now ≡ self.now.own }
     {
         &self.own
     }
 
-    /// Whether it is made in the tree itself.
+    /// Returns `true` if its target tree is the tree itself.
     pub(crate) fn is_outer(&self) -> bool
         ensures { result ≡ is_none self.now.sheet }
     {
         self.sheet.is_none()
     }
 
-    /// The length of its sheet's way; none for the tree's own sheet.
+    /// Returns the length of the up-path of its target tree, or `None` for the tree itself.
     pub(crate) fn level(&self) -> Option<usize>
         ensures { level_of result ≡ depth_of self.now.sheet }
     {
@@ -106,7 +108,8 @@ impl Job {
         }
     }
 
-    /// Whether it puts into a gap of a sheet.
+    /// Returns `true` if it inserts into gap `index` of the node at up-path `way` in target tree
+    /// `sheet`.
     pub(crate) fn sets_gap(&self, sheet: &Option<Vec<usize>>, way: &[usize], index: usize) -> bool
         ensures { result ≡ (same_sheet self.now.sheet (way_of sheet.now)
             && sets self.now.change (gap way.now index)) }
@@ -114,7 +117,7 @@ impl Job {
         same_sheet(&self.sheet, sheet) && self.change.sets_gap(way, index)
     }
 
-    /// Whether it says what stands in the place of an element of a sheet.
+    /// Returns `true` if it replaces the element at up-path `way` in target tree `sheet`.
     pub(crate) fn sets_slot(&self, sheet: &Option<Vec<usize>>, way: &[usize]) -> bool
         ensures { result ≡ (same_sheet self.now.sheet (way_of sheet.now)
             && sets self.now.change (slot way.now)) }
@@ -122,7 +125,7 @@ impl Job {
         same_sheet(&self.sheet, sheet) && self.change.replaces(way)
     }
 
-    /// Whether it says what stands below an element of a sheet.
+    /// Returns `true` if it affects elements below the one at up-path `way` in target tree `sheet`.
     pub(crate) fn reaches(&self, sheet: &Option<Vec<usize>>, way: &[usize]) -> bool
         ensures { result ≡ (same_sheet self.now.sheet (way_of sheet.now)
             && reaches way.now self.now.change) }
@@ -130,23 +133,23 @@ impl Job {
         same_sheet(&self.sheet, sheet) && self.change.reaches(way)
     }
 
-    /// Whether the first element that it replaces stands at a way; the root, where it replaces
-    /// none.
+    /// Returns `true` if `way` is the up-path of the first element that it replaces; for an
+    /// insertion, if `way` is the root's.
     pub(crate) fn begins_at(&self, way: &[usize]) -> bool
         ensures { result ≡ same_way (first_way self.now.change) way.now }
     {
         self.change.begins_at(way)
     }
 
-    /// Whether it is made on a sheet.
+    /// Returns `true` if it applies to target tree `sheet`.
     pub(crate) fn is_on(&self, sheet: &Option<Vec<usize>>) -> bool
         ensures { result ≡ same_sheet self.now.sheet (way_of sheet.now) }
     {
         same_sheet(&self.sheet, sheet)
     }
 
-    /// The first child, and how many more, of a node so deep that it may concern, if it is made in
-    /// that node.
+    /// Returns the children that it may affect in a node at depth `depth`: the index of the first,
+    /// and the number of further ones. Returns `None` if it affects none.
     pub(crate) fn row_below(&self, depth: usize) -> Option<(usize, usize)>
         ensures { (w : Way) (i : ℕ) → length w ≡ depth → IsBeyond result i
             → LeavesChild self.now.change w i }
@@ -154,14 +157,14 @@ impl Job {
         self.change.row_below(depth)
     }
 
-    /// Whether another job is made in this one's payload.
+    /// Returns `true` if the target tree of `other` is the payload of this planned change.
     fn owns(&self, other: &Job) -> bool
         ensures { result ≡ is_owned self.now.own other.now }
     {
         self.own.is_some() && same_sheet(&other.sheet, &self.own)
     }
 
-    /// Whether both put into one gap.
+    /// Returns `true` if both insert into the same gap.
     fn has_gap_of(&self, other: &Job) -> bool
         ensures { result ≡ same_gap (Some self.now) (Some other.now) }
     {
@@ -169,7 +172,7 @@ impl Job {
     }
 }
 
-/// Whether the job of the number `b` may come after the one of the number `a`.
+/// Returns `true` if the planned change at index `b` may be executed after the one at index `a`.
 fn may_follow(jobs: &[Job], a: usize, b: usize) -> bool
     ensures { result ≡ may_follow jobs.now a b }
 {
@@ -179,7 +182,7 @@ fn may_follow(jobs: &[Job], a: usize, b: usize) -> bool
     a != b && !first.owns(second) && (a < b || !first.has_gap_of(second))
 }
 
-/// Whether each of these jobs may come after one.
+/// Returns `true` if each planned change at `others` may be executed after the one at index `a`.
 fn all_follow(jobs: &[Job], a: usize, others: &[usize]) -> bool
     ensures { result ≡ list_all (λ b. may_follow jobs.now a b) others.now }
 {
@@ -191,7 +194,8 @@ fn all_follow(jobs: &[Job], a: usize, others: &[usize]) -> bool
     true
 }
 
-/// Whether these are numbers of jobs, each of which may be followed by those after it.
+/// Returns `true` if `order` consists of indices of planned changes, each of which may be followed
+/// by all later ones.
 fn in_order(jobs: &[Job], order: &[usize]) -> bool
     ensures { result ≡ in_order jobs.now order.now }
 {
@@ -205,7 +209,8 @@ fn in_order(jobs: &[Job], order: &[usize]) -> bool
     true
 }
 
-/// Whether these are the numbers of all jobs, in an order in which they may be made one by one.
+/// Returns `true` if `order` is an admitted order: the indices of all planned changes, in an order
+/// in which they may be executed one at a time.
 pub fn is_order(jobs: &[Job], order: &[usize]) -> bool
     ensures { result ≡ is_order jobs.now order.now }
 {

@@ -1,4 +1,4 @@
-//! The jobs of the changes that are not dropped.
+//! Planned changes: the recorded changes that are not discarded.
 ghost use Rattle.std.specs.Prelude.{◌≡◌, [], false, map, option_map, IfOk};
 ghost use Rattle.std.specs.Option.{option_copied};
 ghost use Rattle.syntax_tree.specs.Handle.{element_of};
@@ -16,7 +16,7 @@ use rowan_green::GreenNode;
 use std::alloc::{AllocError, Global};
 use syntax_tree::{SyntaxElement, SyntaxMapping, SyntaxNode};
 
-/// The payload of what replaces the element at a way.
+/// Returns the payload that replaces the element at up-path `way`, if any.
 fn payload_at<'a>(
     changes: &'a [TreeChange],
     held: &WayTrie,
@@ -30,7 +30,8 @@ fn payload_at<'a>(
     change.payload().first()
 }
 
-/// The way of the node whose payload by a change may be changed itself.
+/// Returns the up-path of the node that `change` replaces by a node, if it does. Only the payload
+/// of such a node can be changed itself.
 fn own_of(
     alloc: Global,
     root: &GreenNode,
@@ -46,7 +47,8 @@ fn own_of(
     }
 }
 
-/// The job of a change that is not dropped; none where it has no place.
+/// Returns the planned change of `change`, which is not discarded; `None` if it has no place in the
+/// payload that contains it.
 fn job_of(
     alloc: Global,
     root: &SyntaxNode,
@@ -82,8 +84,9 @@ fn job_of(
     }
 }
 
-/// The jobs of the changes that are not dropped, in recorded order; none where one of them has no
-/// place. No two of the changes replace one element.
+/// Returns the planned changes: the changes that are not discarded, in recorded order. Returns
+/// `None` if one of them has no place in the payload that contains it. No two of `changes` replace
+/// the same element.
 pub fn jobs_of(
     alloc: Global,
     root: &SyntaxNode,

@@ -1,9 +1,9 @@
-//! Rewrites of numbered trees: recorded changes made all at once.
+//! Rewrites of numbered trees: recorded changes, applied atomically.
 //!
-//! A change puts elements into a gap between children, or in the place of children. All changes of
-//! a list are recorded on one tree and made on it as it was. What lies in a replaced element goes
-//! with it, but where a node is replaced by a node, changes in it go on in that payload, at the
-//! place that a mapping names.
+//! A change inserts elements into a gap between children, or replaces a range of children. All
+//! changes of a list are recorded on one tree and applied to it as it was. The contents of a
+//! replaced element are discarded with it. But if a node is replaced by a node, the changes inside
+//! it are applied to that payload, at the place that a mapping names.
 #![tactic(auto)]
 
 pub mod change;

@@ -1,5 +1,5 @@
-//! What was put in, by the children of a node that it concerns: each child is handed its own, so
-//! that no other is looked at there.
+//! Executed changes, distributed over the children of a node that they affect, so that no other
+//! change is examined at a child.
 ghost use Rattle.std.specs.Prelude.{◌≡◌, ◌∷◌, ◌<◌, ℕ, List, [], Some, Option, length, slice_get, IfOk, OnOk};
 ghost use Rattle.std.specs.List.{All};
 ghost use Rattle.std.specs.Global.{Vec};
@@ -14,7 +14,7 @@ use crate::piece::Put;
 use crate::sheet::job_of;
 use std::alloc::{AllocError, Global};
 
-/// So many empty lists.
+/// Returns `count` empty lists.
 fn empty_lists(alloc: Global, count: usize) -> Result<Vec<Vec<usize>>, AllocError>
     ensures empty { IfOk result (λ v. All (λ u. u.items ≡ []) v.items) }
     ensures count { IfOk result (λ v. length v.items ≡ count) }
@@ -26,7 +26,7 @@ fn empty_lists(alloc: Global, count: usize) -> Result<Vec<Vec<usize>>, AllocErro
     Ok(lists)
 }
 
-/// Adds a number to a list and to so many after it, as far as there are.
+/// Appends `number` to list `start` and to the `more` lists after it, as far as they exist.
 fn push_row(
     number: usize,
     start: usize,
@@ -49,8 +49,9 @@ fn push_row(
     Ok(())
 }
 
-/// The first child, and how many more, of a node so deep that what has this number may concern, if
-/// it lies in that node.
+/// Returns the children that the executed change at index `number` may affect in a node at depth
+/// `depth`: the index of the first, and the number of further ones. Returns `None` if it affects
+/// none.
 fn row_of(jobs: &[Job], made: &[Put], number: usize, depth: usize) -> Option<(usize, usize)>
     ensures { (g : Given) (w : Way) (i : ℕ) → IsGiven jobs.now (slice_get made.now number) g
         → length w ≡ depth
@@ -60,7 +61,7 @@ fn row_of(jobs: &[Job], made: &[Put], number: usize, depth: usize) -> Option<(us
     job.row_below(depth)
 }
 
-/// Adds a number to the lists of the children that it concerns.
+/// Appends `number` to the lists of the children that the executed change at that index may affect.
 fn push_number(
     jobs: &[Job],
     made: &[Put],
@@ -80,8 +81,8 @@ fn push_number(
     }
 }
 
-/// The numbers among these by the children, so many, of a node so deep: in each list those that
-/// concern the gap before the child, its place or what stands below it.
+/// Returns a list for each of `count` children of a node at depth `depth`: those of `numbers` whose
+/// executed changes may affect the gap before the child, its slot, or the elements below it.
 pub fn lists_below(
     alloc: Global,
     jobs: &[Job],
@@ -102,7 +103,7 @@ pub fn lists_below(
     Ok(lists)
 }
 
-/// The list of a child.
+/// Returns the list of the child at index `index`.
 pub fn list_at(lists: &[Vec<usize>], index: usize) -> &[usize]
     requires { index < length lists.now }
     ensures { slice_get (lists_of lists.now) index ≡ Some result.now }
@@ -110,7 +111,7 @@ pub fn list_at(lists: &[Vec<usize>], index: usize) -> &[usize]
     lists[index].as_slice()
 }
 
-/// Whether the job that has put this in is made on a sheet.
+/// Returns `true` if the executed change at index `number` applies to target tree `sheet`.
 fn is_on(jobs: &[Job], made: &[Put], number: usize, sheet: &Option<Vec<usize>>) -> bool
     ensures { (g : Given) → IsGiven jobs.now (slice_get made.now number) g
         → result ≡ same_sheet g.0.sheet (way_of sheet.now) }
@@ -121,7 +122,8 @@ fn is_on(jobs: &[Job], made: &[Put], number: usize, sheet: &Option<Vec<usize>>) 
     }
 }
 
-/// Adds a number, if the job that has put this in is made on a sheet.
+/// Appends `number` to `numbers` if the executed change at that index applies to target tree
+/// `sheet`.
 fn push_on(
     jobs: &[Job],
     made: &[Put],
@@ -139,7 +141,7 @@ fn push_on(
     Ok(())
 }
 
-/// The numbers of what was put in on a sheet.
+/// Returns the indices of the executed changes that apply to target tree `sheet`.
 pub fn on_sheet(
     alloc: Global,
     jobs: &[Job],

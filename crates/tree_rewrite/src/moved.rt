@@ -1,5 +1,4 @@
-//! Where a change is made that lies in a node which is replaced by a node: its place in that
-//! payload.
+//! The places, in a payload that replaces a node by a node, of the changes inside that node.
 ghost use Rattle.std.specs.Prelude.{◌≡◌, ◌+◌, [], ◌∷◌, option_map, IfOk};
 ghost use Rattle.std.specs.Option.{option_copied};
 ghost use Rattle.syntax_tree.specs.Referred.{referred_term};
@@ -14,7 +13,7 @@ use rowan_green::{GreenElement, GreenNode, GreenToken, NodeOrToken, SyntaxKind};
 use std::alloc::{AllocError, Global};
 use syntax_tree::{SyntaxMapping, SyntaxNode};
 
-/// The way that leads to `replaced`, where that has become the way `to`.
+/// Returns `way`, which ends with the up-path `replaced`, with that end replaced by `to`.
 fn carried(
     alloc: Global,
     replaced: &[usize],
@@ -29,7 +28,7 @@ fn carried(
     Ok(moved)
 }
 
-/// The kind of an element that is lent.
+/// Returns the kind of a borrowed element.
 fn kind_of(element: NodeOrToken<&GreenNode, &GreenToken>) -> SyntaxKind
     ensures { result.0 ≡ kind_of (referred_term element.entry) }
 {
@@ -39,7 +38,7 @@ fn kind_of(element: NodeOrToken<&GreenNode, &GreenToken>) -> SyntaxKind
     }
 }
 
-/// Whether the new element is a node of the old one's kind that has a gap of this number.
+/// Returns `true` if `new` is a node of the kind of `old` that has a gap `index`.
 fn has_gap(
     old: Option<NodeOrToken<&GreenNode, &GreenToken>>,
     new: Option<NodeOrToken<&GreenNode, &GreenToken>>,
@@ -57,7 +56,7 @@ fn has_gap(
     kind_of(old) == node.kind() && index <= node.children().len()
 }
 
-/// Whether two children are there, and of one kind.
+/// Returns `true` if both children exist and have the same kind.
 fn same_kind(old: Option<&GreenElement>, new: Option<&GreenElement>) -> bool
     ensures { result ≡ same_kind (option_copied old.entry) (option_copied new.entry) }
 {
@@ -67,8 +66,8 @@ fn same_kind(old: Option<&GreenElement>, new: Option<&GreenElement>) -> bool
     }
 }
 
-/// Whether the child of a number and so many more after it are there in both nodes, with the same
-/// kinds.
+/// Returns `true` if the child at `start` and the `more` children after it exist in both nodes,
+/// with the same kinds.
 fn same_kinds(old: &GreenNode, new: &GreenNode, start: usize, more: usize) -> bool
     ensures { result ≡ same_kinds (children_of old.now) (children_of new.now) start (more + 1) }
 {
@@ -88,8 +87,8 @@ fn same_kinds(old: &GreenNode, new: &GreenNode, start: usize, more: usize) -> bo
     false
 }
 
-/// The number of an element among its siblings, and the way of its parent; 0 and the root for the
-/// root.
+/// Returns the index of an element among its siblings and the up-path of its parent; for the root,
+/// 0 and its own up-path.
 fn number_and_parent(way: &[usize]) -> (usize, &[usize])
     ensures number { result.0 ≡ first_number way.now }
     ensures parent { result.1.now ≡ way_above way.now }
@@ -100,7 +99,7 @@ fn number_and_parent(way: &[usize]) -> (usize, &[usize])
     }
 }
 
-/// The same for the children of two elements.
+/// Variant of `same_kinds` for optional elements. Tokens have no children.
 fn same_children(
     old: Option<NodeOrToken<&GreenNode, &GreenToken>>,
     new: Option<NodeOrToken<&GreenNode, &GreenToken>>,
@@ -118,8 +117,9 @@ fn same_children(
     }
 }
 
-/// A change of the tree in the node at `replaced`, made in the payload, where that node has become
-/// the one at `to` below it; none where that has no such gap or elements.
+/// Returns `change`, which is inside the node at `replaced`, as a change of the payload, where that
+/// node has become the one at up-path `to`. Returns `None` if the payload has no such gap or
+/// elements.
 fn change_below(
     alloc: Global,
     root: &GreenNode,
@@ -168,7 +168,7 @@ fn change_below(
     }
 }
 
-/// The way of a child.
+/// Returns the up-path of child `number` of the node at up-path `way`.
 pub(crate) fn with_number(
     alloc: Global,
     number: usize,
@@ -181,7 +181,8 @@ pub(crate) fn with_number(
     Ok(below)
 }
 
-/// A change in the node at `replaced`, made in its payload.
+/// Returns `change`, which is inside the node at `replaced`, as a change of the payload of that
+/// node; `None` if it has no place there.
 pub fn change_in(
     alloc: Global,
     root: &SyntaxNode,

@@ -1,4 +1,4 @@
-//! Which recorded changes lie in what others replace, and which are dropped with that.
+//! Nested changes: which changes are inside replaced elements, and which of them are discarded.
 ghost use Rattle.std.specs.Prelude.{◌≡◌, ◌∷◌, ◌&&◌, ℕ, Some, true, false, if◌then◌else◌, not, slice_get, option_map, IfOk};
 ghost use Rattle.std.specs.List.{list_any};
 ghost use Rattle.std.specs.Option.{option_copied};
@@ -19,7 +19,7 @@ use rowan_green::{GreenNode, GreenToken, NodeOrToken};
 use std::alloc::{AllocError, Global};
 
 impl TreeChange {
-    /// Whether it replaces the element at a way.
+    /// Returns `true` if it replaces the element at up-path `way`.
     pub fn replaces(&self, way: &[usize]) -> bool
         ensures { result ≡ replaces self.now way.now }
     {
@@ -29,7 +29,8 @@ impl TreeChange {
         }
     }
 
-    /// Whether a gap of the node at a way lies between two elements that it replaces.
+    /// Returns `true` if gap `index` of the node at up-path `parent` is between two elements that
+    /// it replaces.
     pub fn splits(&self, parent: &[usize], index: usize) -> bool
         ensures { result ≡ splits parent.now index self.now }
     {
@@ -40,7 +41,7 @@ impl TreeChange {
     }
 }
 
-/// Returns the change that replaces the element of a node of the trie, if one does.
+/// Returns the change that replaces the element of a trie node, if any.
 fn change_of<'a>(
     changes: &'a [TreeChange],
     held: &WayTrie,
@@ -53,7 +54,7 @@ fn change_of<'a>(
     changes.get(number)
 }
 
-/// The change that replaces the element at a way, if one does.
+/// Returns the change that replaces the element at up-path `way`, if any.
 pub(crate) fn change_at<'a>(
     changes: &'a [TreeChange],
     held: &WayTrie,
@@ -65,7 +66,7 @@ pub(crate) fn change_at<'a>(
     change_of(changes, held, held.node_at(way))
 }
 
-/// Returns `true` if a change replaces the element of a node of the trie.
+/// Returns `true` if a change replaces the element of a trie node.
 fn is_replaced(changes: &[TreeChange], held: &WayTrie, node: Option<usize>) -> bool
     requires { Holds held.now changes.now }
     ensures { (w : Way) → node ≡ node_at held.now w → result ≡ list_any (λ r. replaces r w) changes.now }
@@ -73,7 +74,7 @@ fn is_replaced(changes: &[TreeChange], held: &WayTrie, node: Option<usize>) -> b
     change_of(changes, held, node).is_some()
 }
 
-/// Returns a way, if its element is replaced, else what there is above it.
+/// Returns `way` if its element is replaced, else `above`.
 fn nearer<'a>(
     is_replaced: bool,
     way: &'a [usize],
@@ -84,7 +85,7 @@ fn nearer<'a>(
     if is_replaced { Some(way) } else { above }
 }
 
-/// The way of the innermost replaced element among those at and above a way.
+/// Returns the up-path of the innermost replaced element at or above `way`.
 pub fn holder_of<'a>(
     changes: &[TreeChange],
     held: &WayTrie,
@@ -104,7 +105,8 @@ pub fn holder_of<'a>(
     holder
 }
 
-/// The way of the replaced element in whose payload a change is made that is not dropped.
+/// Returns the up-path of the replaced element whose payload contains `change`, if `change` is not
+/// discarded; `None` if it applies to the tree itself.
 pub fn owner_of<'a>(
     changes: &[TreeChange],
     held: &WayTrie,
@@ -122,7 +124,7 @@ pub fn owner_of<'a>(
     }
 }
 
-/// Returns the child of this number, if it is a node.
+/// Returns the child at index `index`, if it is a node.
 fn child_node<'a>(parent: Option<&'a GreenNode>, index: usize) -> Option<&'a GreenNode>
     ensures { option_copied result ≡ node_in (slice_get (children_below (option_copied parent.entry)) index) }
 {
@@ -132,7 +134,7 @@ fn child_node<'a>(parent: Option<&'a GreenNode>, index: usize) -> Option<&'a Gre
     }
 }
 
-/// Returns the node at a way, borrowed from the tree, if there is one.
+/// Returns the node at up-path `way`, borrowed from the tree.
 fn node_by<'a>(root: &'a GreenNode, way: &[usize]) -> Option<&'a GreenNode>
     ensures { option_copied result ≡ node_in (term_by root.now way.now) }
 {
@@ -145,7 +147,7 @@ fn node_by<'a>(root: &'a GreenNode, way: &[usize]) -> Option<&'a GreenNode>
     node
 }
 
-/// The element at a way, lent by the tree, if there is one.
+/// Returns the element at up-path `way`, borrowed from the tree.
 pub fn element_by<'a>(
     root: &'a GreenNode,
     way: &[usize],
@@ -161,7 +163,8 @@ pub fn element_by<'a>(
     }
 }
 
-/// Whether a change replaces a node of the tree, named alone, by a node.
+/// Returns `true` if `change` names a single element, which is a node of the tree, and replaces it
+/// by one node.
 pub fn is_node_by_node(root: &GreenNode, change: &TreeChange) -> bool
     ensures { result ≡ is_node_by_node root.now change.now }
 {
@@ -174,7 +177,8 @@ pub fn is_node_by_node(root: &GreenNode, change: &TreeChange) -> bool
     *single && new.is_node() && matches!(element_by(root, first), Some(NodeOrToken::Node(_)))
 }
 
-/// Whether the element at a way is replaced, and not as a node by a node.
+/// Returns `true` if the element at up-path `way` is replaced, except for a node that is replaced
+/// by a node.
 fn is_gone(root: &GreenNode, changes: &[TreeChange], held: &WayTrie, way: &[usize]) -> bool
     requires apart { has_collision changes.now ≡ false }
     requires holds { Holds held.now changes.now }
@@ -186,7 +190,7 @@ fn is_gone(root: &GreenNode, changes: &[TreeChange], held: &WayTrie, way: &[usiz
     }
 }
 
-/// Returns `true` if one element was named alone and a node comes in its place.
+/// Returns `true` if `change` names a single element and replaces it by one node.
 fn names_node(change: &TreeChange) -> bool
     ensures { result ≡ names_node change.now }
 {
@@ -199,7 +203,7 @@ fn names_node(change: &TreeChange) -> bool
     *single && new.is_node()
 }
 
-/// Returns `true` if the first element that a change of children of a node replaces is a node.
+/// Returns `true` if `change` replaces children of `parent`, the first of which is a node.
 fn begins_with_node(parent: Option<&GreenNode>, change: &TreeChange) -> bool
     ensures { (t : Tree) (v : Way) (i : ℕ) → option_copied parent.entry ≡ node_in (term_by t v)
         → replaces change.now (i ∷ v) ≡ true → result ≡ is_node (term_by t (first_way change.now)) }
@@ -213,7 +217,8 @@ fn begins_with_node(parent: Option<&GreenNode>, change: &TreeChange) -> bool
     }
 }
 
-/// Returns `true` if a change of children of a node replaces a node, named alone, by a node.
+/// Returns `true` if `change`, which replaces children of `parent`, names a single node and
+/// replaces it by a node.
 fn is_child_by_node(parent: Option<&GreenNode>, change: &TreeChange) -> bool
     ensures { (t : Tree) (v : Way) (i : ℕ) → option_copied parent.entry ≡ node_in (term_by t v)
         → replaces change.now (i ∷ v) ≡ true → result ≡ is_node_by_node t change.now }
@@ -224,8 +229,8 @@ fn is_child_by_node(parent: Option<&GreenNode>, change: &TreeChange) -> bool
     begins_with_node(parent, change)
 }
 
-/// Returns `true` if a child of a node, given by its own node of the trie, is replaced, and not as
-/// a node by a node.
+/// Returns `true` if a child of `parent`, given by its trie node, is replaced, except for a node
+/// that is replaced by a node.
 fn is_child_gone(
     changes: &[TreeChange],
     held: &WayTrie,
@@ -244,7 +249,8 @@ fn is_child_gone(
     }
 }
 
-/// Whether an element at or above a way is.
+/// Returns `true` if an element at or above `way` is replaced, except for nodes that are replaced
+/// by a node.
 fn is_lost(root: &GreenNode, changes: &[TreeChange], held: &WayTrie, way: &[usize]) -> bool
     requires apart { has_collision changes.now ≡ false }
     requires holds { Holds held.now changes.now }
@@ -264,15 +270,16 @@ fn is_lost(root: &GreenNode, changes: &[TreeChange], held: &WayTrie, way: &[usiz
     lost
 }
 
-/// Whether a change, not of a node by a node, replaces what stands on both sides of a gap.
+/// Returns `true` if `change` replaces the elements on both sides of a gap, unless it replaces a
+/// node by a node.
 fn closes(root: &GreenNode, change: &TreeChange, parent: &[usize], index: usize) -> bool
     ensures { result ≡ (splits parent.now index change.now && not (is_node_by_node root.now change.now)) }
 {
     change.splits(parent, index) && !is_node_by_node(root, change)
 }
 
-/// Whether a gap of the node at a way lies between two elements that are replaced as one, and not
-/// as a node by a node.
+/// Returns `true` if a change replaces the elements on both sides of gap `index` of the node at
+/// up-path `parent`, unless it replaces a node by a node.
 fn is_closed(
     alloc: Global,
     root: &GreenNode,
@@ -297,7 +304,7 @@ fn is_closed(
     }
 }
 
-/// Whether a change is dropped with what it lies in.
+/// Returns `true` if `change` is discarded with a replaced element that contains it.
 pub fn is_dropped(
     alloc: Global,
     root: &GreenNode,

@@ -1,4 +1,5 @@
-//! Which of what was put in is on the sheet of which payload, so that no job looks at all others.
+//! Executed changes by the payload that they apply to, so that no planned change examines all
+//! others.
 ghost use Rattle.std.specs.Prelude.{◌≡◌, ◌∷◌, ◌++◌, [], List, Some, slice_get, IfOk, OnOk};
 ghost use Rattle.std.specs.Option.{option_copied};
 ghost use Rattle.tree_rewrite.specs.Rewrite.{Job};
@@ -12,18 +13,18 @@ use crate::way_map::{WayMap, number_at, put};
 use std::alloc::{AllocError, Global};
 use std::collections::HashMap;
 
-/// The numbers of what was put in, by the payloads on whose sheets it is. A payload is named by the
-/// way of the node that it replaces.
+/// The indices of the executed changes by target tree. A payload is named by the up-path of the
+/// node that it replaces.
 #[derive(Drop)]
 pub struct OnPayloads {
-    /// The number of the last on each sheet.
+    /// For each payload, the index of its last executed change.
     pub last: WayMap,
-    /// Of each number the one before it on the same sheet.
+    /// For each executed change, the index of the one before it with the same target tree.
     pub before: Vec<Option<usize>>,
 }
 
 impl OnPayloads {
-    /// Nothing was put in.
+    /// Creates an index without executed changes.
     pub fn new(alloc: Global) -> OnPayloads
         ensures { (all : List Job) → IsListed all [] result }
     {
@@ -33,14 +34,14 @@ impl OnPayloads {
         }
     }
 
-    /// What was noted of a number, if it was put in.
+    /// Returns the entry of the executed change at index `number`.
     fn noted(&self, number: usize) -> Option<&Option<usize>>
         ensures { option_copied result ≡ slice_get self.now.before.items number }
     {
         self.before.get(number)
     }
 
-    /// The numbers on the sheet of a payload, in their order.
+    /// Returns the indices of the executed changes of the payload `way`, in order of execution.
     pub fn numbers(&self, alloc: Global, way: &[usize]) -> Result<Vec<usize>, AllocError>
         requires { HaveChains self.now }
         ensures { (all : List Job) (ps : List Put) (js : List Job) → IsListed all ps self.now
@@ -59,7 +60,7 @@ impl OnPayloads {
         Ok(numbers)
     }
 
-    /// Notes that what a job puts in comes next.
+    /// Records that the planned change `job` is executed next.
     pub fn note(&mut self, alloc: Global, job: &Job) -> Result<(), AllocError>
         ensures { (all : List Job) (ps : List Put) (p : Put) → IsListed all ps self.old
             → slice_get all p.number ≡ Some job.now → OnOk result (IsListed all (ps ++ p ∷ []) self.new) }

@@ -1,4 +1,4 @@
-//! Where the elements of a rewritten tree came from.
+//! Origins of the elements of a rewritten tree.
 ghost use Rattle.std.specs.Prelude.{◌≡◌, ◌++◌, map, IfOk, OnOk};
 ghost use Rattle.syntax_tree.specs.Handle.{element_of};
 ghost use Rattle.tree_rewrite.specs.Marked.{Marked, origins, put_marks, blank, reading_of};
@@ -10,14 +10,14 @@ use crate::put::Puts;
 use std::alloc::{AllocError, Global};
 use syntax_tree::{SyntaxElement, SyntaxNode, SyntaxToken};
 
-/// Where elements came from, and whether each was put in by a change that lies in no other.
+/// The origin of each element, and whether an outermost change inserted it, in preorder.
 #[derive(Drop)]
 pub struct Origins {
     pub elements: Vec<SyntaxElement>,
     pub put: Vec<bool>,
 }
 
-/// Adds a node and all elements below it, in preorder.
+/// Appends a node and all elements below it, in preorder.
 fn push_walk(
     alloc: Global,
     node: &SyntaxNode,
@@ -35,7 +35,7 @@ fn push_walk(
     Ok(())
 }
 
-/// Adds a token.
+/// Appends a token.
 fn push_token(token: &SyntaxToken, to: &mut Vec<SyntaxElement>) -> Result<(), AllocError>
     ensures { OnOk result (map element_of to.new.items
         ≡ map element_of to.old.items ++ origins (reading_of blank token.now)) }
@@ -45,7 +45,7 @@ fn push_token(token: &SyntaxToken, to: &mut Vec<SyntaxElement>) -> Result<(), Al
     Ok(())
 }
 
-/// Adds the elements that a piece brings, in preorder.
+/// Appends the elements of `piece`, in preorder.
 fn push_piece(alloc: Global, piece: &Piece, to: &mut Vec<SyntaxElement>) -> Result<(), AllocError>
     ensures { OnOk result (map element_of to.new.items
         ≡ map element_of to.old.items ++ origins_by piece.now) }
@@ -59,7 +59,8 @@ fn push_piece(alloc: Global, piece: &Piece, to: &mut Vec<SyntaxElement>) -> Resu
     Ok(())
 }
 
-/// Where the elements that pieces say came from, and which of them were put in, in preorder.
+/// Returns the origin of each element of `pieces`, and whether an outermost change inserted it, in
+/// preorder.
 pub fn origins_of(alloc: Global, pieces: &[Piece]) -> Result<Origins, AllocError>
     ensures elements { (m : Marked) → Say pieces.now m
         → IfOk result (λ o. map element_of o.elements.items ≡ origins m) }

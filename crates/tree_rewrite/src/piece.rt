@@ -1,5 +1,5 @@
-//! What jobs put in, piece by piece. No node is made yet, so that only nodes of the whole can be
-//! too long.
+//! The output of changes as a list of pieces. No green node is created at this stage, so only nodes
+//! of the complete tree can be too long.
 ghost use Rattle.std.specs.Prelude.{◌≡◌, ◌++◌, IfOk, OnOk};
 
 use std::alloc::AllocError;
@@ -8,17 +8,18 @@ use syntax_tree::{SyntaxElement, SyntaxNode};
 /// A piece of a list of elements.
 #[derive(Drop)]
 pub enum Piece {
-    /// An element with all below it, as it was.
+    /// An unchanged element with all elements below it.
     Whole(SyntaxElement),
-    /// A node without its children, which follow up to its end.
+    /// The start of a node. Its children follow, up to the matching `Close`.
     Open(SyntaxNode),
-    /// What a job puts in follows, up to its end. Told whether the job is made in the tree itself.
+    /// The start of the elements that a planned change inserts, up to the matching `Close`. The
+    /// flag is `true` if the target tree of the change is the tree itself.
     Group(bool),
-    /// The end of what was begun last.
+    /// The end of the last node or group that is still open.
     Close,
 }
 
-/// The number of a job that was made, and what it put in.
+/// An executed change: the index of the planned change, and the pieces that it inserts.
 #[derive(Drop)]
 pub struct Put {
     pub number: usize,
@@ -26,7 +27,7 @@ pub struct Put {
 }
 
 impl Piece {
-    /// The same again.
+    /// Returns a copy of the piece.
     fn copied(&self) -> Result<Piece, AllocError>
         ensures { IfOk result (λ p. p ≡ self.now) }
     {
@@ -39,7 +40,7 @@ impl Piece {
     }
 }
 
-/// Adds these pieces.
+/// Appends copies of `from`.
 pub fn push_pieces(from: &[Piece], to: &mut Vec<Piece>) -> Result<(), AllocError>
     ensures { OnOk result (to.new.items ≡ to.old.items ++ from.now) }
 {

@@ -1,4 +1,4 @@
-//! The plan of a rewrite: which changes are made where, and in which orders.
+//! The plan of a rewrite: the planned changes, their target trees, and their admitted orders.
 ghost use Rattle.std.specs.Prelude.{◌≡◌, List, [], true, false, map, length, reverse, Some, IfOk, IfErr, OnOk, ◌++◌};
 ghost use Rattle.std.specs.List.{All};
 ghost use Rattle.rowan_green.specs.Forest.{Tree};
@@ -31,8 +31,8 @@ use std::alloc::{AllocError, Global};
 use std::marker::Model;
 use syntax_tree::{SyntaxElement, SyntaxMapping, SyntaxNode};
 
-/// The changes of a tree that are not dropped, where they are made. A contract sees the tree, and
-/// the jobs in recorded order.
+/// A plan: the changes of a tree that are not discarded, with their target trees. Model: the tree,
+/// and the planned changes in recorded order.
 pub struct Plan {
     top: SyntaxNode,
     jobs: Vec<Job>,
@@ -48,15 +48,15 @@ impl Drop for Plan {
     }
 }
 
-/// A tree with all changes of a plan made.
+/// A tree with all changes of a plan applied.
 #[derive(Drop)]
 pub struct Rewritten {
     pub green: GreenNode,
-    /// The bytes of what was put in by changes that lie in no other, in the order of the tree. A
-    /// deletion has none.
+    /// The ranges, in bytes of the new text, of the elements that outermost changes inserted, in
+    /// preorder. A deletion has no range.
     pub changed: Vec<TextRange>,
-    /// What it was made of: by `origins_of` they say where each of its elements came from, and
-    /// whether it was put in by a change that lies in no other.
+    /// The pieces that the tree was built from. [`origins_of`](crate::origins::origins_of) returns
+    /// the origin of each element, and whether an outermost change inserted it.
     pub pieces: Vec<Piece>,
 }
 
@@ -77,9 +77,16 @@ impl Model for Plan {
 }
 
 impl Plan {
-    /// The plan of changes recorded on the tree of a root. Refuses as `Intersecting` where two of
-    /// them replace one element, be they dropped or not, else as `MissingMapping` where one that is
-    /// not dropped has no place. A change that replaces the root puts one node alone in its place.
+    /// Plans the changes that were recorded on the tree of `root`, which must be a root. The ends
+    /// of each replaced range must be in order. A change that replaces the root must replace it by
+    /// one node.
+    ///
+    /// # Errors
+    ///
+    /// - [`PlanError::Intersecting`] if two changes replace the same element, discarded or not.
+    /// - [`PlanError::MissingMapping`] if a change that is not discarded has no place in the
+    ///   payload that contains it.
+    /// - [`PlanError::NoMemory`] if an allocation fails.
     pub fn build(
         alloc: Global,
         root: &SyntaxNode,
@@ -106,14 +113,14 @@ impl Plan {
         }
     }
 
-    /// How many changes are not dropped. They are numbered from 0, in recorded order.
+    /// Returns the number of planned changes. They are numbered from 0, in recorded order.
     pub fn len(&self) -> usize
         ensures { result ≡ length self.now.jobs }
     {
         self.jobs.len()
     }
 
-    /// One order in which they may be made one by one: those in a payload before it is put in.
+    /// Returns an admitted order: the changes of a payload come before the change that inserts it.
     pub fn order(&self, alloc: Global) -> Result<Vec<usize>, AllocError>
         ensures { IfOk result (λ order. is_order self.now.jobs order.items ≡ true) }
     {
@@ -121,16 +128,22 @@ impl Plan {
         Ok(order)
     }
 
-    /// Whether these are the numbers of all jobs, in an order in which they may be made one by one.
+    /// Returns `true` if `order` is an admitted order: the indices of all planned changes, in an
+    /// order in which they may be executed one at a time.
     pub fn is_order(&self, order: &[usize]) -> bool
         ensures { result ≡ is_order self.now.jobs order.now }
     {
         is_order(&self.jobs, order)
     }
 
-    /// The tree with all changes made at once: they are made one by one, in any order in which they
-    /// may. Refuses as `TooLong` where a node of the tree would have a text of 2^32 bytes or more,
-    /// or so many children.
+    /// Returns the tree with all changes applied atomically. They are executed one at a time, in
+    /// the admitted order `order`; every admitted order has the same result.
+    ///
+    /// # Errors
+    ///
+    /// - [`ExecuteError::TooLong`] if a new node would have 2^32 or more bytes of text, or 2^32 or
+    ///   more children.
+    /// - [`ExecuteError::NoMemory`] if an allocation fails.
     pub fn execute(&self, alloc: Global, order: &[usize]) -> Result<Rewritten, ExecuteError>
         requires { is_order self.now.jobs order.now ≡ true }
         ensures green { IfOk result (λ r. IsNode (rewritten self.now.top (reverse self.now.jobs)) r.green) }
@@ -155,8 +168,8 @@ impl Plan {
         })
     }
 
-    /// The tree with all changes made at once, piece by piece: they are made one by one, in any
-    /// order in which they may.
+    /// Returns the pieces of the tree with all changes applied atomically. They are executed one at
+    /// a time, in the admitted order `order`.
     fn pieces(&self, alloc: Global, order: &[usize]) -> Result<Vec<Piece>, AllocError>
         requires { is_order self.now.jobs order.now ≡ true }
         ensures says { IfOk result (λ v. Say v.items (rewritten self.now.top (reverse self.now.jobs))) }
@@ -182,7 +195,7 @@ impl Plan {
     }
 }
 
-/// The changes by the ways of what they change.
+/// Converts recorded changes to changes that name their elements by up-paths.
 fn tree_changes(alloc: Global, changes: Vec<Change>) -> Result<Vec<TreeChange>, AllocError>
     requires { All IsOrdered changes.items }
     ensures changes { IfOk result (λ v. v.items ≡ map recorded changes.items) }

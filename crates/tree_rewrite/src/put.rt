@@ -1,4 +1,4 @@
-//! Which elements of a rewritten tree were put in.
+//! Marks of the elements of a rewritten tree that outermost changes inserted.
 ghost use Rattle.std.specs.Prelude.{◌≡◌, ◌++◌, ◌∷◌, [], map, OnOk};
 ghost use Rattle.syntax_tree.specs.Handle.{element_of};
 ghost use Rattle.tree_rewrite.specs.Came.{origins_by};
@@ -12,8 +12,8 @@ use crate::piece::Piece;
 use std::alloc::{AllocError, Global};
 use syntax_tree::SyntaxElement;
 
-/// Which elements up to some piece were put in, and what they stand in. `told`: whether the
-/// elements of the list were put in, where it is what a job puts in.
+/// The marks of the elements up to a piece, and the open nodes and groups around it. Inside a
+/// group, `told` is `Some`: whether the elements of the group are recorded as changed.
 #[derive(Drop)]
 pub(crate) struct Puts {
     pub(crate) marks: Vec<bool>,
@@ -21,7 +21,7 @@ pub(crate) struct Puts {
     around: Vec<Option<bool>>,
 }
 
-/// Adds a mark for each of these elements, none of which was put in.
+/// Appends `false` for each element of `below`.
 fn push_none(below: &[SyntaxElement], to: &mut Vec<bool>) -> Result<(), AllocError>
     ensures { OnOk result (to.new.items ≡ to.old.items ++ none_put below.now) }
 {
@@ -31,7 +31,8 @@ fn push_none(below: &[SyntaxElement], to: &mut Vec<bool>) -> Result<(), AllocErr
     Ok(())
 }
 
-/// Adds a mark for each of these elements, of which all but the first stand below that.
+/// Appends `is_put` for the first element of `brought`, and `false` for the others, which are below
+/// it.
 fn push_marks(is_put: bool, brought: &[SyntaxElement], to: &mut Vec<bool>) -> Result<(), AllocError>
     ensures { OnOk result (to.new.items ≡ to.old.items ++ first_put is_put brought.now) }
 {
@@ -43,7 +44,7 @@ fn push_marks(is_put: bool, brought: &[SyntaxElement], to: &mut Vec<bool>) -> Re
 }
 
 impl Puts {
-    /// No mark yet.
+    /// Creates a list without marks.
     pub(crate) fn new(alloc: Global) -> Puts
         ensures { MarksPuts result start }
     {
@@ -54,7 +55,7 @@ impl Puts {
         }
     }
 
-    /// Passes an element with all below it: these elements.
+    /// Marks `element` and all elements below it, which are `brought`.
     fn pass(&mut self, element: &SyntaxElement, brought: &[SyntaxElement]) -> Result<(), AllocError>
         requires { map element_of brought.now ≡ origins_by (Whole element.now) }
         ensures { (s : Stand) → MarksPuts self.old s
@@ -64,7 +65,7 @@ impl Puts {
         push_marks(is_put(self.told), brought, &mut self.marks)
     }
 
-    /// Enters a node, or what a job puts in.
+    /// Enters a node or a group of inserted elements.
     fn enter(&mut self, told: Option<bool>) -> Result<(), AllocError>
         ensures marks { OnOk result (self.new.marks.items ≡ self.old.marks.items) }
         ensures told { OnOk result (self.new.told ≡ told) }
@@ -75,7 +76,7 @@ impl Puts {
         Ok(())
     }
 
-    /// Leaves what was entered last.
+    /// Leaves the node or group that was entered last.
     fn leave(&mut self)
         ensures { (s : Stand) → MarksPuts self.old s → MarksPuts self.new (closed s.done s.around) }
     {
@@ -84,7 +85,7 @@ impl Puts {
         }
     }
 
-    /// Goes on by a piece that brings these elements.
+    /// Processes `piece`, whose elements are `brought`.
     pub(crate) fn step(
         &mut self,
         piece: &Piece,

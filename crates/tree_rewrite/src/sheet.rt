@@ -1,5 +1,5 @@
-//! Sheets: what stands at a gap, or in the place of an element, after some jobs. Of all that was
-//! put in, only what these numbers name is looked at.
+//! Contents of the gaps and slots of a target tree after some executed changes. Only the executed
+//! changes whose indices are given are examined.
 ghost use Rattle.std.specs.Prelude.{◌≡◌, List, Some, ℕ, ◌&&◌, slice_get, is_some, if◌then◌else◌, IfOk, OnOk};
 ghost use Rattle.std.specs.Bool.{OnFalse};
 ghost use Rattle.std.specs.List.{list_any};
@@ -16,7 +16,7 @@ use crate::job::Job;
 use crate::piece::{Piece, Put, push_pieces};
 use std::alloc::AllocError;
 
-/// The job that has put in what has this number.
+/// Returns the planned change of the executed change at index `number`.
 pub(crate) fn job_of<'a>(jobs: &'a [Job], made: &[Put], number: usize) -> Option<&'a Job>
     ensures { (g : Given) → IsGiven jobs.now (slice_get made.now number) g
         → option_copied result ≡ Some g.0 }
@@ -25,7 +25,8 @@ pub(crate) fn job_of<'a>(jobs: &'a [Job], made: &[Put], number: usize) -> Option
     jobs.get(put.number)
 }
 
-/// Whether the job that has put this in puts into a gap of a sheet.
+/// Returns `true` if the executed change at index `number` inserts into gap `index` of the node at
+/// up-path `way` in target tree `sheet`.
 fn sets_gap(
     jobs: &[Job],
     made: &[Put],
@@ -43,7 +44,8 @@ fn sets_gap(
     }
 }
 
-/// Whether it says what stands in the place of an element of a sheet.
+/// Returns `true` if the executed change at index `number` replaces the element at up-path `way` in
+/// target tree `sheet`.
 fn sets_slot(
     jobs: &[Job],
     made: &[Put],
@@ -60,7 +62,8 @@ fn sets_slot(
     }
 }
 
-/// Whether the first element that it replaces stands at a way.
+/// Returns `true` if `way` is the up-path of the first element that the executed change at index
+/// `number` replaces; for an insertion, if `way` is the root's.
 fn begins_at(jobs: &[Job], made: &[Put], number: usize, way: &[usize]) -> bool
     ensures { (g : Given) → IsGiven jobs.now (slice_get made.now number) g
         → result ≡ same_way (first_way g.0.change) way.now }
@@ -71,7 +74,8 @@ fn begins_at(jobs: &[Job], made: &[Put], number: usize, way: &[usize]) -> bool
     }
 }
 
-/// Adds what jobs have put into a gap of a sheet, the last put first.
+/// Appends the pieces that the executed changes at `numbers` inserted into gap `index` of the node
+/// at up-path `way` in target tree `sheet`, the last executed change first.
 pub fn push_gap(
     jobs: &[Job],
     made: &[Put],
@@ -93,14 +97,14 @@ pub fn push_gap(
     Ok(())
 }
 
-/// What was put in under a number.
+/// Returns the executed change at index `number`.
 fn put_at(made: &[Put], number: usize) -> Option<&Put>
     ensures { option_copied result ≡ slice_get made.now number }
 {
     made.get(number)
 }
 
-/// Adds what was put in.
+/// Appends the pieces of the executed change at index `number`.
 fn push_put(made: &[Put], number: usize, pieces: &mut Vec<Piece>) -> Result<(), AllocError>
     ensures { (js : List Job) (g : Given) → IsGiven js (slice_get made.now number) g → OnOk result
         (Adds pieces.old.items pieces.new.items g.1) }
@@ -111,7 +115,7 @@ fn push_put(made: &[Put], number: usize, pieces: &mut Vec<Piece>) -> Result<(), 
     Ok(())
 }
 
-/// Adds what was put in, if told so.
+/// Appends the pieces of the executed change at index `number` if `is_there`.
 fn push_if(
     is_there: bool,
     made: &[Put],
@@ -127,7 +131,8 @@ fn push_if(
     Ok(())
 }
 
-/// Adds what jobs have put in the place of an element of a sheet, and says whether it was replaced.
+/// Appends the pieces that replace the element at up-path `way` in target tree `sheet`. Returns
+/// `true` if the element is replaced.
 pub fn push_slot(
     jobs: &[Job],
     made: &[Put],
@@ -152,7 +157,8 @@ pub fn push_slot(
     Ok(false)
 }
 
-/// Whether the job that has put this in says what stands below an element of a sheet.
+/// Returns `true` if the executed change at index `number` affects elements below the one at
+/// up-path `way` in target tree `sheet`.
 fn reaches(
     jobs: &[Job],
     made: &[Put],
@@ -169,8 +175,8 @@ fn reaches(
     }
 }
 
-/// Whether one of these jobs says what stands below an element of a sheet. Where none does, it
-/// stands there as it was.
+/// Returns `true` if one of the executed changes at `numbers` affects elements below the one at
+/// up-path `way` in target tree `sheet`. If none does, those elements are unchanged.
 pub fn is_touched(
     jobs: &[Job],
     made: &[Put],

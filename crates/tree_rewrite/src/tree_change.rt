@@ -1,4 +1,4 @@
-//! Recorded changes, by the ways of what they change.
+//! Recorded changes that name their elements by up-paths.
 ghost use Rattle.std.specs.Prelude.{◌≡◌, ◌∷◌, List, ℕ, length, false, map, IfOk};
 ghost use Rattle.syntax_tree.specs.Element.{Element};
 ghost use Rattle.syntax_tree.specs.Handle.{element_of};
@@ -16,15 +16,16 @@ use std::alloc::{AllocError, Global};
 use std::marker::Model;
 use syntax_tree::SyntaxElement;
 
-/// What a change changes.
+/// The target of a change.
 #[derive(Drop)]
 pub enum Target {
-    /// The gap before the child of this number of the node at a way, or after its last child.
+    /// The gap before child `index` of the node at up-path `parent`, or after its last child.
     Gap {
         parent: Vec<usize>,
         index: usize,
     },
-    /// The element at a way, and so many more after it; `single` where one element was named alone.
+    /// The element at up-path `first` and the `more` siblings after it; `single` if the change
+    /// names a single element.
     Slots {
         first: Vec<usize>,
         more: usize,
@@ -33,7 +34,7 @@ pub enum Target {
 }
 
 impl Target {
-    /// The same place again.
+    /// Returns a copy of the target.
     fn copied(&self, alloc: Global) -> Result<Target, AllocError>
         ensures { (es : List Element) → IfOk result (λ t. change_of t es ≡ change_of self.now es) }
     {
@@ -55,7 +56,7 @@ impl Target {
     }
 }
 
-/// These elements again.
+/// Returns clones of `elements`.
 fn copies(alloc: Global, elements: &[SyntaxElement]) -> Result<Vec<SyntaxElement>, AllocError>
     ensures { IfOk result (λ v. v.items ≡ elements.now) }
 {
@@ -66,7 +67,8 @@ fn copies(alloc: Global, elements: &[SyntaxElement]) -> Result<Vec<SyntaxElement
     Ok(copies)
 }
 
-/// The child through which a way leads on below a node so deep, alone in its row.
+/// Returns the child, of a node at depth `depth`, through which `way` leads: its index, and 0
+/// further children. Returns `None` if `way` does not lead below that depth.
 fn row_through(way: &[usize], depth: usize) -> Option<(usize, usize)>
     ensures { (w : Way) (i : ℕ) → length w ≡ depth → IsBeyond result i
         → is_within (i ∷ w) 0 way.now ≡ false }
@@ -77,7 +79,7 @@ fn row_through(way: &[usize], depth: usize) -> Option<(usize, usize)>
     Some((way[way.len() - 1 - depth], 0))
 }
 
-/// A change of a tree, whose elements it names by their ways.
+/// A change of a tree, which names its elements by up-paths.
 pub struct TreeChange {
     target: Target,
     new: Vec<SyntaxElement>,
@@ -109,27 +111,29 @@ impl Model for TreeChange {
 }
 
 impl TreeChange {
-    /// These elements come there.
+    /// Creates a change that inserts the elements `new` at `target`, or replaces the elements there
+    /// by them.
     pub fn new(target: Target, new: Vec<SyntaxElement>) -> TreeChange
         ensures { result ≡ change_of target (map element_of new.items) }
     {
         TreeChange { target, new }
     }
 
+    /// Returns the target.
     pub(crate) fn target(&self) -> &Target
         ensures { (es : List Element) × (self.now ≡ change_of result.now es) }
     {
         &self.target
     }
 
-    /// What comes there.
+    /// Returns the inserted elements.
     pub fn payload(&self) -> &[SyntaxElement]
         ensures { map element_of result.now ≡ payload_of self.now }
     {
         &self.new
     }
 
-    /// The same elements come elsewhere.
+    /// Returns a change of `target` with the same inserted elements.
     pub fn moved_to(&self, alloc: Global, target: Target) -> Result<TreeChange, AllocError>
         ensures { IfOk result (λ c. c ≡ change_of target (payload_of self.now)) }
     {
@@ -137,7 +141,7 @@ impl TreeChange {
         Ok(TreeChange { target, new })
     }
 
-    /// The same change again.
+    /// Returns a copy of the change.
     pub fn copied(&self, alloc: Global) -> Result<TreeChange, AllocError>
         ensures { IfOk result (λ c. c ≡ self.now) }
     {
@@ -145,7 +149,7 @@ impl TreeChange {
         self.moved_to(alloc, target)
     }
 
-    /// Whether it puts into a gap.
+    /// Returns `true` if it inserts into gap `number` of the node at up-path `way`.
     pub(crate) fn sets_gap(&self, way: &[usize], number: usize) -> bool
         ensures { result ≡ sets self.now (gap way.now number) }
     {
@@ -155,7 +159,7 @@ impl TreeChange {
         }
     }
 
-    /// Whether it says what stands below the element at a way.
+    /// Returns `true` if it affects elements below the one at up-path `way`.
     pub(crate) fn reaches(&self, way: &[usize]) -> bool
         ensures { result ≡ reaches way.now self.now }
     {
@@ -168,8 +172,8 @@ impl TreeChange {
         }
     }
 
-    /// Whether the first element that it replaces stands at a way; the root, where it replaces
-    /// none.
+    /// Returns `true` if `way` is the up-path of the first element that it replaces; for an
+    /// insertion, if `way` is the root's.
     pub(crate) fn begins_at(&self, way: &[usize]) -> bool
         ensures { result ≡ same_way (first_way self.now) way.now }
     {
@@ -179,8 +183,8 @@ impl TreeChange {
         }
     }
 
-    /// The first child, and how many more, of a node so deep that it may concern, if it is made in
-    /// that node.
+    /// Returns the children that it may affect in a node at depth `depth`: the index of the first,
+    /// and the number of further ones. Returns `None` if it affects none.
     pub(crate) fn row_below(&self, depth: usize) -> Option<(usize, usize)>
         ensures { (w : Way) (i : ℕ) → length w ≡ depth → IsBeyond result i
             → LeavesChild self.now w i }
@@ -202,7 +206,7 @@ impl TreeChange {
         }
     }
 
-    /// Whether both put into one gap.
+    /// Returns `true` if both insert into the same gap.
     pub fn has_gap_of(&self, other: &TreeChange) -> bool
         ensures { result ≡ same_gap_at self.now other.now }
     {

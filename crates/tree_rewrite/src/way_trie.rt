@@ -1,5 +1,5 @@
-//! A trie of ways: a number for each of some ways, so that one walk down a way finds the numbers of
-//! all ways above it.
+//! A trie from up-paths to numbers. One walk down an up-path finds the numbers of all elements on
+//! it.
 ghost use Rattle.std.specs.Prelude.{◌≡◌, ◌∷◌, ℕ, Some, None, option_and_then, IfOk, OnOk};
 ghost use Rattle.syntax_tree.specs.Element.{Way, same_way};
 ghost use Rattle.tree_rewrite.specs.WayTrie.{child_in, number_of, node_at, number_at, IsSound, HasNode};
@@ -9,13 +9,13 @@ ghost use Rattle.tree_rewrite.specs.declared.way_trie.WayTrie.{WayTrie};
 use std::alloc::{AllocError, Global};
 use std::collections::HashMap;
 
-/// A number for each of some ways, in a tree of nodes: one for the root and, below it, one for each
-/// index on these ways. A look-up costs the length of the way.
+/// A trie from up-paths to numbers. It has a node for the root and one for each index on the
+/// up-paths. A lookup takes time linear in the length of the up-path.
 #[derive(Drop)]
 pub struct WayTrie {
     /// The node of a child, by the node of its parent and its index.
     pub children: HashMap<(usize, usize), usize>,
-    /// The number of each node, if it has one; first that of the root.
+    /// The number of each node, if any. The first node is the root.
     pub numbers: Vec<Option<usize>>,
 }
 
@@ -23,7 +23,7 @@ impl WayTrie {
     /// The node of the root.
     pub const ROOT: Option<usize> = Some(0);
 
-    /// Returns a trie in which no way has a number.
+    /// Returns a trie without numbers.
     pub fn new(alloc: Global) -> Result<WayTrie, AllocError>
         ensures sound { IfOk result IsSound }
         ensures empty { IfOk result (λ t. (w : Way) → number_at t w ≡ None) }
@@ -36,7 +36,7 @@ impl WayTrie {
         })
     }
 
-    /// Returns the node of a child, if its parent has a node and it has one.
+    /// Returns the node of child `index`, if both `parent` and the child have a node.
     pub fn child(&self, parent: Option<usize>, index: usize) -> Option<usize>
         ensures { result ≡ option_and_then (λ p. child_in self.now.children p index) parent }
     {
@@ -44,7 +44,7 @@ impl WayTrie {
         self.children.get(&(parent, index)).copied()
     }
 
-    /// Returns the number of a node, if there is the node and it has a number.
+    /// Returns the number of `node`, if any.
     pub fn number(&self, node: Option<usize>) -> Option<usize>
         ensures { result ≡ number_of self.now.numbers.items node }
     {
@@ -54,7 +54,7 @@ impl WayTrie {
         }
     }
 
-    /// Returns the node of a way, if it has one.
+    /// Returns the node of up-path `way`, if any.
     pub fn node_at(&self, way: &[usize]) -> Option<usize>
         ensures { result ≡ node_at self.now way.now }
     {
@@ -67,14 +67,14 @@ impl WayTrie {
         node
     }
 
-    /// Returns the number of a way, if it has one.
+    /// Returns the number of up-path `way`, if any.
     pub fn number_at(&self, way: &[usize]) -> Option<usize>
         ensures { result ≡ number_at self.now way.now }
     {
         self.number(self.node_at(way))
     }
 
-    /// Returns the node of a child, a new one if it has none. The parent is a node.
+    /// Returns the node of child `index` of the node `parent`, and creates it if needed.
     fn enter(&mut self, parent: usize, index: usize) -> Result<usize, AllocError>
         requires sound { IsSound self.old }
         ensures { (u : Way) → node_at self.old u ≡ Some parent
@@ -89,7 +89,7 @@ impl WayTrie {
         Ok(node)
     }
 
-    /// Returns the node of a way, with new nodes for all on it that have none.
+    /// Returns the node of up-path `way`, and creates all missing nodes on it.
     pub fn enter_way(&mut self, way: &[usize]) -> Result<usize, AllocError>
         requires sound { IsSound self.old }
         ensures { IfOk result (λ k. HasNode way.now k self.old self.new) }
@@ -103,7 +103,8 @@ impl WayTrie {
         Ok(node)
     }
 
-    /// Gives a node a number. Returns `false` if it has one; that stays.
+    /// Assigns `number` to `node`. Returns `false` if the node already has a number, which it
+    /// keeps.
     fn put_node(&mut self, node: usize, number: usize) -> bool
         requires sound { IsSound self.old }
         requires node { (v : Way) × (node_at self.old v ≡ Some node) }
@@ -119,7 +120,8 @@ impl WayTrie {
         true
     }
 
-    /// Gives a way a number. Returns `false` if it has one; that stays.
+    /// Assigns `number` to up-path `way`. Returns `false` if it already has a number, which it
+    /// keeps.
     pub fn put_free(&mut self, way: &[usize], number: usize) -> Result<bool, AllocError>
         requires sound { IsSound self.old }
         ensures put { IfOk result (IsPutOrTaken (same_way way.now) number self.old self.new) }
@@ -129,7 +131,8 @@ impl WayTrie {
         Ok(self.put_node(node, number))
     }
 
-    /// Gives a child of a node a number. Returns `false` if it has one; that stays.
+    /// Assigns `number` to child `index` of the node `parent`. Returns `false` if the child already
+    /// has a number, which it keeps.
     pub fn put_child(
         &mut self,
         parent: usize,

@@ -1,9 +1,10 @@
-//! Ways that lead up from an element to the root, the innermost number first, and rows of siblings
-//! on them.
+//! Up-paths: child indices from an element up to the root, innermost first; and ranges of siblings,
+//! given by the up-path of the first and the number of further ones.
 ghost use Rattle.std.specs.Prelude.{◌≡◌};
 ghost use Rattle.tree_rewrite.specs.Change.{covers, is_within, is_between};
 
-/// Whether a way is that of the element at `first` or of one of so many after it.
+/// Returns `true` if `way` is the up-path of the element at `first` or of one of the `more`
+/// siblings after it.
 pub fn covers(first: &[usize], more: usize, way: &[usize]) -> bool
     ensures { result ≡ covers first.now more way.now }
 {
@@ -16,7 +17,8 @@ pub fn covers(first: &[usize], more: usize, way: &[usize]) -> bool
     above == up && *start <= *index && *index - *start <= more
 }
 
-/// Whether a way leads through one of these elements.
+/// Returns `true` if `way` is the up-path of an element of the range of siblings, or leads through
+/// one.
 pub fn is_within(first: &[usize], more: usize, way: &[usize]) -> bool
     ensures { result ≡ is_within first.now more way.now }
 {
@@ -32,7 +34,8 @@ pub fn is_within(first: &[usize], more: usize, way: &[usize]) -> bool
     }
 }
 
-/// Whether a gap of the node at a way lies between two of these elements.
+/// Returns `true` if gap `index` of the node at up-path `parent` is between two elements of the
+/// range of siblings.
 pub fn is_between(first: &[usize], more: usize, parent: &[usize], index: usize) -> bool
     ensures { result ≡ is_between first.now more parent.now index }
 {

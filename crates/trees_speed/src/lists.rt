@@ -5,7 +5,7 @@ use rowan::{ElementExt, SyntaxNode};
 use rowan_green::{GreenError, GreenNode, GreenNodeBuilder, GreenToken, NodeOrToken, TextSize};
 use std::alloc::{AllocError, Global};
 
-/// A node of so many tokens of one byte.
+/// Returns a node of `children` tokens of one byte.
 pub(crate) fn node_of(alloc: Global, children: u32) -> Result<GreenNode, GreenError> {
     let mut builder = GreenNodeBuilder::new(alloc);
     builder.start_node(ROOT)?;
@@ -16,7 +16,8 @@ pub(crate) fn node_of(alloc: Global, children: u32) -> Result<GreenNode, GreenEr
     Ok(builder.finish()?)
 }
 
-/// The node with another token for the child of this number, which is then put in once more and one of them taken out.
+/// Replaces the child at index `number` with `token`, inserts `token` there once more, and removes
+/// one of the two.
 fn edited(
     alloc: Global,
     node: &GreenNode,
@@ -37,7 +38,7 @@ fn edited(
     longer.remove_child(alloc, number)
 }
 
-/// The node after so many rounds of three edits, spread over its children, with another token.
+/// Returns the node after `rounds` rounds of these three edits, spread over its children.
 pub(crate) fn edited_often(
     alloc: Global,
     node: GreenNode,
@@ -53,7 +54,8 @@ pub(crate) fn edited_often(
     Ok(node)
 }
 
-/// The sum of the numbers of the children that are found at so many offsets, spread over the text.
+/// Returns the sum of the indices of the children that are found at `searches` offsets, spread over
+/// the text.
 pub(crate) fn found(node: &GreenNode, searches: u32) -> u64 {
     let len = node.text_len().0;
     let mut sum: u64 = 0;
@@ -66,7 +68,7 @@ pub(crate) fn found(node: &GreenNode, searches: u32) -> u64 {
     sum
 }
 
-/// The sum of the offsets at which the children end.
+/// Returns the sum of the end offsets of the children.
 pub(crate) fn ends(alloc: Global, root: &SyntaxNode<Statements>) -> Result<u64, AllocError> {
     let mut sum: u64 = 0;
     for child in root.children_with_tokens(alloc)? {

@@ -1,6 +1,7 @@
-//! Builds a tree of a million tokens, counts its tokens, walks through it with cursors and drops it, once with few names that recur
-//! and once with a new name in each statement. With the argument `lists` it then edits and searches a node of a million children, and
-//! walks over the children of roots. The counts go to standard output, the times to standard error.
+//! Builds a tree of a million tokens, counts its tokens, walks through it with cursors and drops
+//! it, once with few names that recur and once with a new name in each statement. With the argument
+//! `lists` it then edits and searches a node of a million children, and walks over the children of
+//! roots. The counts go to standard output, the times to standard error.
 #![tactic(auto)]
 
 use rowan::{SyntaxNode, WalkEvent};
@@ -13,14 +14,14 @@ use std::{env, io};
 mod lists;
 mod statements;
 
-/// How many children the node that is edited has, how often it is edited, and searched.
+/// The number of children of the node that is edited; then the numbers of edit rounds and searches.
 const CHILDREN: u32 = 1_000_000;
 
 const ROUNDS: usize = 1000;
 
 const SEARCHES: u32 = 1_000_000;
 
-/// How many tokens lie below the node.
+/// Returns the number of tokens below `node`.
 fn tokens_below(node: &GreenNode) -> u64 {
     let mut tokens: u64 = 0;
     for child in node.children() {
@@ -33,7 +34,7 @@ fn tokens_below(node: &GreenNode) -> u64 {
     tokens
 }
 
-/// How many events a walk through the tree has, and the bytes of the tokens that it enters.
+/// Returns the number of events of a walk through the tree, and the bytes of the tokens it enters.
 fn walked(alloc: Global, root: &SyntaxNode<Statements>) -> Result<(u64, u64), AllocError> {
     let mut events: u64 = 0;
     let mut bytes: u64 = 0;
@@ -46,7 +47,7 @@ fn walked(alloc: Global, root: &SyntaxNode<Statements>) -> Result<(u64, u64), Al
     Ok((events, bytes))
 }
 
-/// How many nodes the tree has.
+/// Returns the number of nodes of the tree.
 fn nodes_of(alloc: Global, root: &SyntaxNode<Statements>) -> Result<u64, AllocError> {
     let mut nodes: u64 = 0;
     for node in root.descendants(alloc)? {
@@ -56,7 +57,7 @@ fn nodes_of(alloc: Global, root: &SyntaxNode<Statements>) -> Result<u64, AllocEr
     Ok(nodes)
 }
 
-/// Walks through the tree and prints what was found.
+/// Walks through the tree and prints the counts.
 fn walk(rt: &HostRuntime, green: GreenNode) -> io::Result<()> {
     let root = SyntaxNode::new_root(rt.alloc(), green)?;
     let start = Instant::now(rt)?;
@@ -106,7 +107,7 @@ fn measure_lists(rt: &HostRuntime) -> io::Result<()> {
     walk_children(rt, CHILDREN)
 }
 
-/// Walks over so many children of a root.
+/// Walks over the children of a root with `children` children.
 fn walk_children(rt: &HostRuntime, children: u32) -> io::Result<()> {
     let Ok(green) = lists::node_of(rt.alloc(), children) else {
         return println!(rt; "out of memory");
@@ -119,7 +120,7 @@ fn walk_children(rt: &HostRuntime, children: u32) -> io::Result<()> {
     println!(rt; "{sum}")
 }
 
-/// Whether the program's last argument is `lists`.
+/// Returns `true` if the program's last argument is `lists`.
 fn wants_lists(rt: &HostRuntime) -> io::Result<bool> {
     let mut lists = false;
     for word in env::args(rt)? {

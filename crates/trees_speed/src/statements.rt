@@ -75,7 +75,7 @@ fn name(
     builder.finish_node()
 }
 
-// Ten tokens: `let NAME = NAME+1;`, with its three spaces.
+// Adds the ten tokens of `let NAME = NAME+1;`, with its three spaces.
 fn statement(builder: &mut GreenNodeBuilder<'_>, text: &str) -> Result<(), GreenError> {
     builder.start_node(STATEMENT)?;
     builder.token(KEYWORD, "let")?;
@@ -91,7 +91,7 @@ fn statement(builder: &mut GreenNodeBuilder<'_>, text: &str) -> Result<(), Green
     builder.finish_node()
 }
 
-// The name of a statement: one of `names` names, which recur in turn; of 0 names, a new one.
+// Writes the name of a statement: one of `names` names, which recur in turn; if 0, a new one.
 fn write_name(text: &mut String, number: u32, names: u32) -> Result<(), AllocError> {
     text.clear();
     let name = number.checked_rem(names).unwrap_or(number);
@@ -112,7 +112,7 @@ fn block(
     builder.finish_node()
 }
 
-/// The tree, with so many names that recur in turn; with 0, a new one in each statement.
+/// Returns the tree, with `names` names that recur in turn; if 0, with a new one in each statement.
 pub(crate) fn tree(alloc: Global, names: u32) -> Result<GreenNode, GreenError> {
     let mut builder = GreenNodeBuilder::new(alloc);
     let mut text = String::new(alloc);

@@ -1,11 +1,12 @@
-//! What stands above an element.
+//! The ancestors of an element.
 use crate::tests::tree::{Tree, root};
 use std::alloc::Global;
 use std::fmt::Write;
 use std::test::Fail;
 use syntax_tree::TreeIds;
 
-/// The kinds of an element of the argument list and of what stands above it, each after a space; of a token without its own.
+/// Returns the kinds of the ancestors of the element of the argument list at up-path `way`, each
+/// after a space. They include the element itself if it is a node.
 pub(crate) fn kinds_above(alloc: Global, way: &[usize]) -> Result<String, Fail> {
     let root = root(alloc, Tree::Args, &mut TreeIds::new())?;
     let Some(element) = root.element_at(alloc, way)? else {

@@ -1,4 +1,4 @@
-//! A node that is edited in a tree of its own.
+//! Edits of a copy of a node that is not a root.
 use crate::tests::doing::{node_at, show};
 use crate::tests::tree::{Tree, payload, root};
 use std::alloc::Global;
@@ -6,7 +6,7 @@ use std::test::Fail;
 use syntax_editor::{Annotations, SyntaxEdit, SyntaxEditor};
 use syntax_tree::{Position, SyntaxElement, SyntaxNode, TreeIds};
 
-/// Marks an element alone, and then twice in a list.
+/// Annotates an element alone, and then twice in a list.
 fn mark(alloc: Global, editor: &mut SyntaxEditor, new: &SyntaxElement) -> Result<(), Fail> {
     let mut marks = Annotations::new();
     editor.add_annotation(new, marks.next()?)?;
@@ -15,7 +15,7 @@ fn mark(alloc: Global, editor: &mut SyntaxEditor, new: &SyntaxElement) -> Result
     Ok(())
 }
 
-/// Records that a token that is marked comes before the children of a node.
+/// Records the insertion of an annotated token before the children of a node.
 fn put(
     alloc: Global,
     editor: &mut SyntaxEditor,
@@ -28,20 +28,20 @@ fn put(
     Ok(())
 }
 
-/// The second argument.
+/// Returns the second argument.
 fn literal(alloc: Global, ids: &mut TreeIds) -> Result<SyntaxNode, Fail> {
     let root = root(alloc, Tree::Args, ids)?;
     node_at(alloc, &root, &[4])
 }
 
-/// An editor of a copy of the second argument, before which comes a token that is marked.
+/// Returns an editor of a copy of the second argument that inserts an annotated token first in it.
 fn editor(alloc: Global, ids: &mut TreeIds) -> Result<SyntaxEditor, Fail> {
     let (mut editor, copy) = SyntaxEditor::new(alloc, literal(alloc, ids)?, ids)?;
     put(alloc, &mut editor, copy, ids)?;
     Ok(editor)
 }
 
-/// The text of the rewritten tree.
+/// Returns the text of the rewritten tree.
 fn rewritten_text(alloc: Global, editor: &SyntaxEditor, ids: &mut TreeIds) -> Result<String, Fail> {
     let rewritten = SyntaxNode::new_root(alloc, editor.rewritten(alloc)?.green, ids)?;
     let text = rewritten.cursor().text()?;
@@ -55,7 +55,8 @@ fn show_copy(alloc: Global, edit: &SyntaxEdit, rewritten: &str) -> Result<String
     Ok(out)
 }
 
-/// The text of the tree that is edited, of the rewritten one twice, how many elements that has, and what changed.
+/// Returns the text of the old tree, that of the rewritten tree, the number of its elements, its
+/// text once more, and the ranges that changed.
 pub(crate) fn edited_copy(alloc: Global) -> Result<String, Fail> {
     let mut ids = TreeIds::new();
     let editor = editor(alloc, &mut ids)?;

@@ -1,15 +1,17 @@
-//! What is recorded, and what comes of it.
+//! Records changes and shows the outcome.
 use crate::tests::tree::{Tree, payload, root};
 use std::alloc::Global;
 use std::test::Fail;
 use syntax_editor::{FinishError, RecordError, SyntaxEdit, SyntaxEditor};
 use syntax_tree::{Position, SyntaxElement, SyntaxMappingBuilder, SyntaxNode, TreeIds};
 
-/// The way of a parent, and the number of its child that the gap is before.
+/// The up-path of a parent, and the index of the child that follows the gap.
 pub type Gap<'a> = (&'a [usize], usize);
 
-/// Elements are named by their ways, payloads by their texts. `Remove` replaces one by none; `Wrap` replaces the path by one in
-/// parentheses, mapped to or not.
+/// A call on an editor. Elements are named by their up-paths, payloads by their texts.
+///
+/// `Remove` replaces an element with none. `Wrap` replaces the path with one in parentheses; if its
+/// flag is set, the old path is mapped to the new one.
 #[derive(Clone, Copy)]
 pub enum Do<'a> {
     Insert(Gap<'a>, &'a [&'static str]),
@@ -42,7 +44,7 @@ impl Bench {
         }
     }
 
-    /// The payload of a text, one for all its uses.
+    /// Returns the payload of a text: the same element for each use of that text.
     fn payload(&mut self, text: &'static str) -> Result<SyntaxElement, Fail> {
         for (known, element) in &self.payloads {
             if *known == text {
@@ -84,7 +86,7 @@ impl Bench {
         self.insert_at(self.place(gap)?, new)
     }
 
-    /// What was recorded in a tree of another number.
+    /// Deletes an element of another tree, which is an error.
     fn foreign(&mut self, way: &[usize]) -> Result<(), Fail> {
         let other = root(self.alloc, Tree::Args, &mut self.ids)?;
         match other.element_at(self.alloc, way)? {
@@ -93,7 +95,7 @@ impl Bench {
         }
     }
 
-    /// The path in the file is mapped to the one in parentheses.
+    /// Maps the path in the file to the one in parentheses.
     fn map(&mut self, parens: &SyntaxNode) -> Result<(), Fail> {
         let mut builder = SyntaxMappingBuilder::new(self.alloc, parens.clone()?)?;
         let input = path(self.alloc, self.editor.root())?;
@@ -102,7 +104,7 @@ impl Bench {
         Ok(())
     }
 
-    /// The path in the file becomes one in parentheses, to which it is mapped or not.
+    /// Replaces the path in the file with one in parentheses; maps it there if `is_mapped`.
     fn wrap(&mut self, is_mapped: bool) -> Result<(), Fail> {
         let parens = root(self.alloc, Tree::Wrapped, &mut self.ids)?;
         if is_mapped {
@@ -139,7 +141,7 @@ impl Bench {
         self.delete_element(&old)
     }
 
-    /// An element is replaced by many, or by none.
+    /// Replaces an element with many elements, or with none.
     fn many(&mut self, way: &[usize], texts: &[&'static str]) -> Result<(), Fail> {
         let new = self.all(texts)?;
         let old = self.element(way)?;
@@ -194,7 +196,7 @@ impl Bench {
     }
 }
 
-/// The first child that is a node.
+/// Returns the first child that is a node.
 fn path(alloc: Global, root: &SyntaxNode) -> Result<SyntaxNode, Fail> {
     match root.children(alloc)?.next() {
         Some(node) => Ok(node?),
@@ -202,7 +204,7 @@ fn path(alloc: Global, root: &SyntaxNode) -> Result<SyntaxNode, Fail> {
     }
 }
 
-/// An editor of a tree, for which nothing is recorded.
+/// Returns a bench with an editor of `tree` that has no changes.
 fn new_bench(alloc: Global, tree: Tree) -> Result<Bench, Fail> {
     let mut ids = TreeIds::new();
     let root = root(alloc, tree, &mut ids)?;
@@ -217,7 +219,8 @@ fn new_bench(alloc: Global, tree: Tree) -> Result<Bench, Fail> {
     Ok(bench)
 }
 
-/// The refusals, then the new text with the bytes that changed, or why there is none.
+/// Runs the calls. Returns their errors, then the new text with the ranges that changed, or the
+/// error of finishing.
 pub(crate) fn answer(alloc: Global, tree: Tree, doings: &[Do<'_>]) -> Result<String, Fail> {
     let mut bench = new_bench(alloc, tree)?;
     for doing in doings {
@@ -226,7 +229,7 @@ pub(crate) fn answer(alloc: Global, tree: Tree, doings: &[Do<'_>]) -> Result<Str
     finished(alloc, bench)
 }
 
-/// What is told so far, and what the editor gives.
+/// Returns the output so far, followed by the outcome of the editor.
 fn finished(alloc: Global, bench: Bench) -> Result<String, Fail> {
     let Bench {
         mut ids,
@@ -249,7 +252,7 @@ fn tell_end(
     }
 }
 
-/// The new text, and the bytes of it that changed.
+/// Appends the new text and the ranges in it that changed.
 pub(crate) fn show(alloc: Global, out: &mut String, edit: &SyntaxEdit) -> Result<(), Fail> {
     let text = edit.new_root().cursor().text()?;
     let text = format!(in alloc; "{text}")?;
@@ -271,7 +274,7 @@ fn name_of(refusal: FinishError) -> Result<&'static str, Fail> {
     }
 }
 
-/// The node at a way.
+/// Returns the node at up-path `way`.
 pub(crate) fn node_at(alloc: Global, root: &SyntaxNode, way: &[usize]) -> Result<SyntaxNode, Fail> {
     match root.element_at(alloc, way)? {
         Some(SyntaxElement::Node(node)) => Ok(node),
@@ -279,7 +282,7 @@ pub(crate) fn node_at(alloc: Global, root: &SyntaxNode, way: &[usize]) -> Result
     }
 }
 
-/// What comes of a tree once one of its nodes is replaced by a literal.
+/// Returns the edit that replaces node `old` with a literal.
 fn replaced(
     alloc: Global,
     mut editor: SyntaxEditor,
@@ -292,7 +295,7 @@ fn replaced(
     Ok(editor.finish(alloc, ids)?)
 }
 
-/// The text of what stands where a node stood.
+/// Returns the text of the new node that `find_element` finds for `old`.
 fn text_at(alloc: Global, edit: &SyntaxEdit, old: &SyntaxNode) -> Result<String, Fail> {
     match edit.find_element(alloc, old)? {
         Some(node) => Ok(format!(in alloc; "{}", node.cursor().text()?)?),
@@ -300,7 +303,7 @@ fn text_at(alloc: Global, edit: &SyntaxEdit, old: &SyntaxNode) -> Result<String,
     }
 }
 
-/// The text of what stands, once the second literal is replaced, where that stood.
+/// Returns the text of the node that is found for the second literal after it was replaced.
 pub(crate) fn found_text(alloc: Global) -> Result<String, Fail> {
     let mut ids = TreeIds::new();
     let root = root(alloc, Tree::Args, &mut ids)?;

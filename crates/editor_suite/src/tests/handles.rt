@@ -1,4 +1,5 @@
-//! Numbered trees, their handles and mappings, and orders of changes. A row asks a question, and says what must be written for the answer.
+//! Numbered trees, their handles and mappings, and orders of changes. A row has a question and the
+//! expected answer.
 use parser_input::SyntaxKind;
 use rowan_green::{GreenError, GreenNode, GreenNodeBuilder, GreenToken};
 use std::alloc::Global;
@@ -29,13 +30,13 @@ fn green(alloc: Global) -> Result<GreenNode, GreenError> {
     }
 }
 
-/// The root of that tree, under the next number.
+/// Returns the root of that tree, under the next tree number.
 fn root(alloc: Global, ids: &mut TreeIds) -> Result<SyntaxNode, Fail> {
     let green = green(alloc)?;
     Ok(SyntaxNode::new_root(alloc, green, ids)?)
 }
 
-/// The path in it.
+/// Returns the path in that tree.
 fn path(alloc: Global, root: &SyntaxNode) -> Result<SyntaxNode, Fail> {
     match root.children(alloc)?.next() {
         Some(node) => Ok(node?),
@@ -57,10 +58,10 @@ enum Ask {
     Refused,
 }
 
-/// A question, and what must be written for its answer.
+/// A question and the expected answer.
 type Row = (Ask, &'static str);
 
-/// Its kind, and the numbers of its path.
+/// Appends the kind of `element` and the indices of its path.
 fn show(alloc: Global, out: &mut String, element: &SyntaxElement) -> Result<(), Fail> {
     out.push_str(element.kind().name())?;
     for number in element.path(alloc)? {
@@ -84,7 +85,7 @@ fn above(alloc: Global, out: &mut String, root: &SyntaxNode) -> Result<(), Fail>
     Ok(())
 }
 
-/// A node or a token with a tree of its own, and the number of that.
+/// Appends the tree number of `element`, the element of a new tree, and then the element.
 fn alone(alloc: Global, out: &mut String, element: &SyntaxElement) -> Result<(), Fail> {
     let number = format!(in alloc; "{} ", element.tree())?;
     out.push_str(&number)?;
@@ -122,13 +123,13 @@ fn show_gap(
     }
 }
 
-/// The gaps beside a node.
+/// Appends the gaps before and after a node.
 fn gaps_beside(alloc: Global, out: &mut String, node: &SyntaxElement) -> Result<(), Fail> {
     show_gap(alloc, out, Position::before(node))?;
     show_gap(alloc, out, Position::after(node))
 }
 
-/// The gap after the children of a root.
+/// Appends the gap after the children of a root.
 fn last_gap(alloc: Global, out: &mut String, root: &SyntaxNode) -> Result<(), Fail> {
     show_gap(alloc, out, Ok(Position::last_child_of(root.clone()?)))
 }
@@ -139,7 +140,7 @@ fn gaps(alloc: Global, out: &mut String, root: SyntaxNode) -> Result<(), Fail> {
     show_gap(alloc, out, Position::before(&SyntaxElement::Node(root)))
 }
 
-/// A builder that maps the path to its copy in another tree.
+/// Returns a builder that maps the path to its copy in another tree.
 fn builder(
     alloc: Global,
     root: &SyntaxNode,
@@ -151,7 +152,7 @@ fn builder(
     Ok(builder)
 }
 
-/// A mapping of the path to its copy in another tree.
+/// Returns a mapping of the path to its copy in another tree.
 fn mapping(alloc: Global, root: &SyntaxNode, other: &SyntaxNode) -> Result<SyntaxMapping, Fail> {
     let builder = builder(alloc, root, other)?;
     let mut mapping = SyntaxMapping::new(alloc);
@@ -159,7 +160,7 @@ fn mapping(alloc: Global, root: &SyntaxNode, other: &SyntaxNode) -> Result<Synta
     Ok(mapping)
 }
 
-/// How many entries a mapping has, and what it has at the path's way.
+/// Appends the number of entries of `mapping`, and the node that it maps the path to, if any.
 fn show_mapping(
     alloc: Global,
     out: &mut String,
@@ -184,7 +185,7 @@ fn mapped(
     show_mapping(alloc, out, &mapping, root)
 }
 
-/// A mapping to one tree, and after that what a builder has to another.
+/// Adds the entries of a builder for a newer tree to a mapping, and shows the result.
 fn added(
     alloc: Global,
     out: &mut String,
@@ -195,7 +196,7 @@ fn added(
     show_mapping(alloc, out, &mapping, root)
 }
 
-/// A mapping to one tree, and after that a mapping to another.
+/// Merges a mapping to a newer tree into a mapping, and shows the result.
 fn merged(
     alloc: Global,
     out: &mut String,
@@ -217,7 +218,7 @@ fn show_refusal(out: &mut String, refused: Result<(), MappingError>) -> Result<(
     Ok(out.push_str(word)?)
 }
 
-/// Whether a node is mapped to another one.
+/// Appends the outcome of mapping one node to another.
 fn refused_node(
     alloc: Global,
     out: &mut String,
@@ -228,7 +229,7 @@ fn refused_node(
     show_refusal(out, builder.map_node(alloc, old, new.clone()?))
 }
 
-/// A node, so many times.
+/// Returns `count` handles of `node`.
 fn copies(alloc: Global, node: &SyntaxNode, count: usize) -> Result<Vec<SyntaxNode>, Fail> {
     let mut copies = Vec::new(alloc);
     for _ in 0..count {
@@ -237,7 +238,7 @@ fn copies(alloc: Global, node: &SyntaxNode, count: usize) -> Result<Vec<SyntaxNo
     Ok(copies)
 }
 
-/// Whether two nodes are mapped to one, and none to one.
+/// Appends the outcomes of mapping two nodes to one, and no nodes to one.
 fn refused_children(
     alloc: Global,
     out: &mut String,
@@ -273,7 +274,7 @@ fn refused(
     refused_paths(alloc, out, &mut builder, (&old, &new, other))
 }
 
-/// What is asked of two trees.
+/// Answers a question about two trees.
 fn answer_of_two(
     alloc: Global,
     out: &mut String,
@@ -289,7 +290,7 @@ fn answer_of_two(
     }
 }
 
-/// What is asked of three trees.
+/// Answers a question about three trees.
 fn answer_of_three(
     alloc: Global,
     out: &mut String,
@@ -306,7 +307,7 @@ fn answer_of_three(
     }
 }
 
-/// What is asked of one tree.
+/// Answers a question about one tree.
 fn answer_of_one(alloc: Global, out: &mut String, ask: Ask, ids: &mut TreeIds) -> Result<(), Fail> {
     let tree = root(alloc, ids)?;
     match ask {
@@ -377,7 +378,8 @@ fn insertion(alloc: Global) -> Result<Job, Fail> {
     Ok(Job::new(Some(sheet), change, None))
 }
 
-/// A node is deleted, the next one is replaced by a node, and something is put into that.
+/// Returns three planned changes: a node is deleted, the next one is replaced with a node, and an
+/// insertion is made in that payload.
 fn jobs(alloc: Global) -> Result<Vec<Job>, Fail> {
     let mut jobs = Vec::new(alloc);
     jobs.push(deletion(alloc)?)?;

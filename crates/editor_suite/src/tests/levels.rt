@@ -1,11 +1,11 @@
-//! How far elements are set in, and what comes between them.
+//! The indent levels of elements, and the whitespace between them.
 use crate::tests::tree::{Tree, root};
 use std::alloc::Global;
 use std::test::Fail;
 use syntax_editor::{IndentLevel, Space};
 use syntax_tree::{SyntaxElement, SyntaxNode, TreeIds};
 
-/// The element at a way.
+/// Returns the element at up-path `way`.
 fn element(alloc: Global, root: &SyntaxNode, way: &[usize]) -> Result<SyntaxElement, Fail> {
     match root.element_at(alloc, way)? {
         Some(element) => Ok(element),
@@ -13,7 +13,7 @@ fn element(alloc: Global, root: &SyntaxNode, way: &[usize]) -> Result<SyntaxElem
     }
 }
 
-/// Whether the element at a way has a level.
+/// Returns `true` if the element at up-path `way` has indent level `level`.
 pub(crate) fn has_level(alloc: Global, tree: Tree, way: &[usize], level: u8) -> Result<bool, Fail> {
     let mut ids = TreeIds::new();
     let root = root(alloc, tree, &mut ids)?;
@@ -21,7 +21,7 @@ pub(crate) fn has_level(alloc: Global, tree: Tree, way: &[usize], level: u8) -> 
     Ok(IndentLevel::from_element(alloc, &element)? == IndentLevel(level))
 }
 
-/// What comes between the children of two numbers of a root.
+/// Returns the whitespace that goes between the children `left` and `right` of a root.
 pub(crate) fn between(alloc: Global, tree: Tree, left: usize, right: usize) -> Result<Space, Fail> {
     let mut ids = TreeIds::new();
     let root = root(alloc, tree, &mut ids)?;

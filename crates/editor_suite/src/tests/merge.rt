@@ -1,4 +1,4 @@
-//! Editors of one tree, put together.
+//! Merges of editors of one tree.
 use crate::tests::doing::show;
 use crate::tests::tree::{Tree, root};
 use std::alloc::Global;
@@ -6,7 +6,7 @@ use std::test::Fail;
 use syntax_editor::{SyntaxEditor, Unmerged};
 use syntax_tree::{SyntaxNode, TreeIds};
 
-/// An editor of a root's tree that deletes the child of a number.
+/// Returns an editor of the tree of `root` that deletes the child at index `child`.
 fn deleting(
     alloc: Global,
     root: &SyntaxNode,
@@ -21,7 +21,7 @@ fn deleting(
     Ok(editor)
 }
 
-/// An editor of a tree of its own that deletes the child of a number.
+/// Returns an editor of a new tree that deletes the child at index `child`.
 fn deleting_in(
     alloc: Global,
     tree: Tree,
@@ -32,7 +32,7 @@ fn deleting_in(
     deleting(alloc, &root, child, ids)
 }
 
-/// What a finished editor gives, or why it was refused.
+/// Finishes the editor; returns the new text with the ranges that changed, or the error.
 pub(crate) fn finished(
     alloc: Global,
     editor: SyntaxEditor,
@@ -46,7 +46,7 @@ pub(crate) fn finished(
     Ok(out)
 }
 
-/// What two editors give together that each delete a child.
+/// Merges two editors that delete one child each, and returns the outcome.
 pub(crate) fn merged(alloc: Global, one: usize, other: usize) -> Result<String, Fail> {
     let mut ids = TreeIds::new();
     let root = root(alloc, Tree::Args, &mut ids)?;
@@ -67,7 +67,7 @@ fn put_together(
     }
 }
 
-/// Why editors of two trees of one number are not merged; and what each gives then.
+/// Returns the error of merging editors of two trees with the same number, and the outcome of each.
 pub(crate) fn unmerged(alloc: Global) -> Result<String, Fail> {
     let mut ids = TreeIds::new();
     let mut others = TreeIds::new();
@@ -79,7 +79,7 @@ pub(crate) fn unmerged(alloc: Global) -> Result<String, Fail> {
     }
 }
 
-/// Why two editors were not merged, and what each gives.
+/// Returns the error of a failed merge, and the outcome of each editor.
 fn show_both(
     alloc: Global,
     (first, ids): (SyntaxEditor, &mut TreeIds),
@@ -91,7 +91,7 @@ fn show_both(
     Ok(out)
 }
 
-/// What a finished editor gives, after what is written already.
+/// Appends the outcome of an editor.
 fn show_finished(
     alloc: Global,
     out: &mut String,

@@ -1,5 +1,5 @@
-//! Calls that are made again where memory was refused: a refused call leaves the editor as it was. `bench/refused.py` runs this with
-//! each request for memory refused in turn.
+//! Repeats calls whose allocation failed: a call that returns an error leaves the editor unchanged.
+//! `bench/refused.py` runs this with each allocation failing in turn.
 ghost use Rattle.std.specs.Prelude.{◌≡◌, [], IfSome};
 
 use parser_input::SyntaxKind;
@@ -32,27 +32,28 @@ fn green(alloc: Global) -> Option<GreenNode> {
     builder.finish().ok()
 }
 
-/// `(1, 2)`, in one node.
+/// Returns the root of `(1, 2)`, which is one node.
 fn root(alloc: Global, ids: &mut TreeIds) -> Option<SyntaxNode>
     ensures { IfSome result (λ r. r.place.up ≡ []) }
 {
     SyntaxNode::new_root(alloc, green(alloc)?, ids).ok()
 }
 
-/// The token that is put in.
+/// Returns the token to insert.
 fn token(alloc: Global, ids: &mut TreeIds) -> Option<SyntaxElement> {
     let green = GreenToken::new(alloc, raw(SyntaxKind::INT_NUMBER), "3").ok()?;
     let token = SyntaxToken::detached(alloc, green, ids).ok()?;
     Some(SyntaxElement::Token(token))
 }
 
-/// The gap after the last token.
+/// Returns the gap after the last token.
 fn end(editor: &SyntaxEditor) -> Option<Position> {
     let parent = editor.root().clone().ok()?;
     Some(Position { parent, index: 6 })
 }
 
-/// Whether the child of a number is deleted, by a call that is made once more where it was refused.
+/// Returns `true` if the child at index `child` is deleted, by a call that is repeated once if it
+/// fails.
 fn deletes(alloc: Global, editor: &mut SyntaxEditor, child: usize) -> Option<bool> {
     let old = editor.root().element_at(alloc, &[child]).ok()??;
     Some(editor.delete(alloc, &old).is_ok() || editor.delete(alloc, &old).is_ok())
@@ -75,8 +76,8 @@ fn inserts(alloc: Global, editor: &mut SyntaxEditor, new: &SyntaxElement) -> Opt
     Some(is_done || editor.insert(alloc, again, new).is_ok())
 }
 
-/// Whether the first number is deleted, the second replaced, and a third put in at the end, each by a call that is made once more where
-/// it was refused. None where memory was refused elsewhere.
+/// Returns `true` if the first number is deleted, the second replaced, and a third inserted at the
+/// end, each by a call that is repeated once if it fails; `None` if another allocation failed.
 fn recorded(alloc: Global, editor: &mut SyntaxEditor, new: &SyntaxElement) -> Option<bool> {
     let deleted = deletes(alloc, editor, 1)?;
     let replaced = replaces(alloc, editor, 4, new)?;
@@ -84,7 +85,8 @@ fn recorded(alloc: Global, editor: &mut SyntaxEditor, new: &SyntaxElement) -> Op
     Some(deleted & replaced & inserted)
 }
 
-/// The edit of `(1, 2)`, with whether all was recorded. None where memory was refused elsewhere than in a call that records.
+/// Returns the edit of `(1, 2)`, and whether all changes were recorded; `None` if an allocation
+/// failed outside the recording calls.
 fn edited(alloc: Global) -> Option<(SyntaxEdit, bool)> {
     let mut ids = TreeIds::new();
     let root = root(alloc, &mut ids)?;
@@ -95,7 +97,8 @@ fn edited(alloc: Global) -> Option<(SyntaxEdit, bool)> {
     Some((edit, is_recorded))
 }
 
-/// Whether `(1, 2)` becomes `(, 3)3`. None where memory was refused elsewhere than in a call that records.
+/// Returns `true` if `(1, 2)` becomes `(, 3)3`; `None` if an allocation failed outside the
+/// recording calls.
 fn is_edited(alloc: Global) -> Option<bool> {
     let (edit, is_recorded) = edited(alloc)?;
     let text = edit.new_root().cursor().text().ok()?;

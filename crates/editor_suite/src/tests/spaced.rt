@@ -1,4 +1,4 @@
-//! Elements that are put in with white space around them.
+//! Elements that are inserted with whitespace around them.
 use crate::tests::doing::{Gap, node_at};
 use crate::tests::merge::finished;
 use crate::tests::tree::{Tree, payload, root};
@@ -7,7 +7,8 @@ use std::test::Fail;
 use syntax_editor::SyntaxEditor;
 use syntax_tree::{Position, SyntaxElement, TreeIds};
 
-/// The new text with the bytes that changed, or why nothing was put in.
+/// Inserts elements with whitespace; returns the new text with the ranges that changed, or the
+/// error.
 pub(crate) fn spaced(
     alloc: Global,
     ids: &mut TreeIds,
@@ -23,7 +24,7 @@ pub(crate) fn spaced(
     put(alloc, SyntaxEditor::of_root(alloc, root), place, new, ids)
 }
 
-/// The elements that texts stand for.
+/// Returns the elements of `texts`.
 fn payloads(alloc: Global, ids: &mut TreeIds, texts: &[&str]) -> Result<Vec<SyntaxElement>, Fail> {
     let mut new = Vec::new(alloc);
     for text in texts {
@@ -32,7 +33,7 @@ fn payloads(alloc: Global, ids: &mut TreeIds, texts: &[&str]) -> Result<Vec<Synt
     Ok(new)
 }
 
-/// What an editor gives once elements are put in a gap.
+/// Inserts `new` at `place` with whitespace, and returns the outcome.
 fn put(
     alloc: Global,
     mut editor: SyntaxEditor,

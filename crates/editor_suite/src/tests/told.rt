@@ -1,11 +1,11 @@
-//! What an edit tells of the elements of its new tree.
+//! Changed and annotated elements of the new tree of an edit.
 use crate::tests::tree::{Tree, payload, root};
 use std::alloc::Global;
 use std::test::Fail;
 use syntax_editor::{Annotations, SyntaxAnnotation, SyntaxEdit, SyntaxEditor};
 use syntax_tree::{SyntaxElement, TreeIds};
 
-/// A mark on what is put in the place of both arguments, a mark on the comma, and one on nothing.
+/// An annotation of the literal that replaces both arguments, one of the comma, and an unused one.
 #[derive(Clone, Copy)]
 struct Marks {
     put: SyntaxAnnotation,
@@ -13,7 +13,7 @@ struct Marks {
     none: SyntaxAnnotation,
 }
 
-/// The child of a number of the root of arguments.
+/// Returns the child of the argument list at index `number`.
 fn child(alloc: Global, editor: &SyntaxEditor, number: usize) -> Result<SyntaxElement, Fail> {
     match editor.root().element_at(alloc, &[number])? {
         Some(element) => Ok(element),
@@ -51,7 +51,7 @@ fn record(
     replace(alloc, editor, 4, new)
 }
 
-/// An edit that puts one literal in the place of both arguments.
+/// Returns an edit that replaces both arguments with one literal.
 fn edited(alloc: Global, marks: Marks) -> Result<SyntaxEdit, Fail> {
     let mut ids = TreeIds::new();
     let root = root(alloc, Tree::Args, &mut ids)?;
@@ -108,7 +108,8 @@ fn push_told(alloc: Global, edit: &SyntaxEdit, marks: Marks, out: &mut String) -
     push_annotated(alloc, edit, marks, out)
 }
 
-/// The ranges of what was put in; of what is found again of each mark; and of what is found again of all marks.
+/// Returns the ranges of the inserted elements, of the elements found by each annotation, and of
+/// all annotated elements.
 pub(crate) fn told(alloc: Global) -> Result<String, Fail> {
     let marks = three_marks()?;
     let edit = edited(alloc, marks)?;

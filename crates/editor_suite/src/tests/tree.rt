@@ -1,4 +1,4 @@
-//! Trees that are built by hand. Texts stand for leaves.
+//! Trees that are built by hand. Texts name payloads.
 ghost use Rattle.std.specs.Prelude.{◌≡◌, [], IfOk};
 
 use parser_input::SyntaxKind;
@@ -7,7 +7,7 @@ use std::alloc::Global;
 use std::test::Fail;
 use syntax_tree::{SyntaxElement, SyntaxNode, SyntaxToken, TreeIds};
 
-/// The trees that these tests record on.
+/// The trees that these tests edit or insert.
 #[derive(Clone, Copy)]
 pub enum Tree {
     /// `(1, 2)`: an argument list, whose elements 1 and 4 are literals.
@@ -18,7 +18,8 @@ pub enum Tree {
     Wrapped,
     /// `3`: a literal.
     Literal,
-    /// `a` in braces, on lines of its own: one step before `{`, two after an empty line before `a`, three spaces before `}`.
+    /// `a` in braces, on separate lines: one level before `{`, two after an empty line before `a`,
+    /// three spaces before `}`.
     Lines,
     /// `let;`: a statement.
     Let,
@@ -28,9 +29,10 @@ pub enum Tree {
     List,
     /// A file without tokens.
     Empty,
-    /// Uses and attributes on lines of one step, two and none: elements 1 and 4 are uses, 3, 5 and 7 attributes.
+    /// Uses and attributes on lines of level one, two and none: elements 1 and 4 are uses, 3, 5 and
+    /// 7 attributes.
     Items,
-    /// A struct after a comment and an attribute, with white space after each.
+    /// A struct after a comment and an attribute, with whitespace after each.
     Documented,
 }
 
@@ -169,14 +171,14 @@ fn green(alloc: Global, tree: Tree) -> Result<GreenNode, Fail> {
     }
 }
 
-/// Its root, under the next number.
+/// Returns the root of `tree`, under the next tree number.
 pub(crate) fn root(alloc: Global, tree: Tree, ids: &mut TreeIds) -> Result<SyntaxNode, Fail>
     ensures { IfOk result (λ r. r.place.up ≡ []) }
 {
     Ok(SyntaxNode::new_root(alloc, green(alloc, tree)?, ids)?)
 }
 
-/// The tree that a text stands for, if it stands for one.
+/// Returns the tree that `text` names, or `None` if it is the text of a token.
 fn payload_tree(text: &str) -> Option<Tree> {
     match text {
         "LITERAL 3" => Some(Tree::Literal),
@@ -186,7 +188,7 @@ fn payload_tree(text: &str) -> Option<Tree> {
     }
 }
 
-/// A node, or a token of this text.
+/// Returns the root of the tree that `text` names, or an identifier token of this text.
 pub(crate) fn payload(alloc: Global, text: &str, ids: &mut TreeIds) -> Result<SyntaxElement, Fail> {
     if let Some(tree) = payload_tree(text) {
         return Ok(SyntaxElement::Node(root(alloc, tree, ids)?));

@@ -9,7 +9,8 @@ use syntax_editor::{
 };
 use syntax_tree::{AstNode, SyntaxElement, TreeIds};
 
-/// Which of the types a kind can be cast to: a file, a struct, a function, a use, items, statements.
+/// Returns for each typed node whether `kind` can be cast to it: a file, a struct, a function, a
+/// use, items, statements.
 pub(crate) fn casts(kind: SyntaxKind) -> [bool; 6] {
     [
         SourceFile::can_cast(kind),
@@ -21,7 +22,7 @@ pub(crate) fn casts(kind: SyntaxKind) -> [bool; 6] {
     ]
 }
 
-/// The statements of a block.
+/// Returns the statements of a block.
 fn statements(alloc: Global, ids: &mut TreeIds) -> Result<StmtList, Fail> {
     let root = root(alloc, Tree::Lines, ids)?;
     let Some(SyntaxElement::Node(node)) = root.element_at(alloc, &[1])? else {
@@ -33,7 +34,8 @@ fn statements(alloc: Global, ids: &mut TreeIds) -> Result<StmtList, Fail> {
     }
 }
 
-/// The number and the text of the tree that is edited for the statements of a block, and whether it is that of the typed root.
+/// Returns the number and the text of the tree that is edited for the statements of a block, and
+/// whether its root is the typed root.
 pub(crate) fn typed_copy(alloc: Global) -> Result<String, Fail> {
     let mut ids = TreeIds::new();
     let list = statements(alloc, &mut ids)?;
@@ -43,7 +45,8 @@ pub(crate) fn typed_copy(alloc: Global) -> Result<String, Fail> {
     Ok(format!(in alloc; "{} {text} {is_root}", editor.root().tree())?)
 }
 
-/// Whether a set that holds a typed node holds a clone of it, and the same node of another tree.
+/// Returns whether a set that holds a typed node contains a clone of it, and the equal node of
+/// another tree.
 pub(crate) fn holds_clone_and_other(alloc: Global) -> Result<[bool; 2], Fail> {
     let mut ids = TreeIds::new();
     let list = statements(alloc, &mut ids)?;
@@ -54,7 +57,7 @@ pub(crate) fn holds_clone_and_other(alloc: Global) -> Result<[bool; 2], Fail> {
     Ok([set.contains(&clone), set.contains(&other)])
 }
 
-/// The text of a struct without its attributes and its documentation.
+/// Returns the text of a struct after its attributes and documentation are removed.
 pub(crate) fn stripped(alloc: Global) -> Result<String, Fail> {
     let mut ids = TreeIds::new();
     let node = root(alloc, Tree::Documented, &mut ids)?;

@@ -1,6 +1,6 @@
 //! Const arguments, and defaults of const parameters.
 
-ghost use Rattle.std.specs.Prelude.{◌≤◌, Bool};
+ghost use Rattle.std.specs.Prelude.{Bool};
 ghost use Rattle.parser_input.specs.Kinds.{PATH_EXPR};
 ghost use Rattle.rust_grammar.specs.Calls.{ExprPath};
 ghost use Rattle.rust_grammar.specs.Notation.{◌!, ◌⟨◌⟩};
@@ -73,7 +73,7 @@ fn const_value(p: &mut Parser<'_>)
 /// Parses a path expression as a const argument.
 // N
 #[cycle(grammar)]
-fn const_path(p: &mut Parser<'_>)
+pub(crate) fn const_path(p: &mut Parser<'_>)
     ensures reads { (c : Bool) → Reads c (PATH_EXPR ⟨ ExprPath ⟩) p.old p.new }
     ensures asks { Asks 3 p.old p.new }
 {

@@ -4,7 +4,8 @@ ghost use Rattle.std.specs.Prelude.{◌≤◌, Bool, Some, None, true};
 ghost use Rattle.parser_events.specs.Forest.{ExpectedExpression};
 ghost use Rattle.parser_events.specs.Stack.{IsInnermost};
 ghost use Rattle.rust_grammar.specs.Calls.{Expression, Operation};
-ghost use Rattle.rust_grammar.specs.Notation.{◌!, more};
+ghost use Rattle.parser_input.specs.Kinds.{RANGE_EXPR};
+ghost use Rattle.rust_grammar.specs.Notation.{◌!, ◌⟨◌⟩, more};
 ghost use Rattle.rust_grammar.specs.Rule as rules;
 ghost use Rattle.rust_grammar.specs.Rule.{Call, Want, begins};
 ghost use Rattle.rust_grammar.specs.Expressions as rows;
@@ -12,7 +13,7 @@ ghost use Rattle.grammar_reader.specs.Told.{level_of};
 ghost use Rattle.rust_productions.specs.Looks.{tokens, Takes, Asks, AsksIn};
 ghost use Rattle.rust_productions.specs.Operators.{IsMark, IsNext, spelling_of};
 ghost use Rattle.rust_productions.specs.Reads.{looks, Gives, Reads, Saw};
-ghost use Rattle.rust_productions.specs.Starts.{StartsIn};
+ghost use Rattle.rust_productions.specs.Starts.{Starts, StartsIn};
 ghost use Rattle.rust_productions.specs.Moves.{Keeps};
 ghost use Rattle.grammar_reader.specs.Next.{EndsRange};
 
@@ -23,7 +24,7 @@ use parser_events::parser::{Marker, Parser};
 use parser_input::syntax_kind::SyntaxKind;
 use rust_productions::grammar::expressions::{at_expression, at_operation, at_range_operand};
 use rust_productions::grammar::operators::{
-    Operator, RangeMark, current_op, range_mark, take_mark, take_operator,
+    Operator, RangeMark, current_op, present_mark, range_mark, take_mark, take_operator,
 };
 use rust_productions::grammar::{abandon, complete, error, start, wrap};
 
@@ -66,7 +67,7 @@ pub(crate) fn expect_expression(p: &mut Parser<'_>, level: Level, condition: boo
 #[cycle(grammar)]
 fn expect_any(p: &mut Parser<'_>, condition: bool)
     ensures reads { Reads condition (Expression !) p.old p.new }
-    ensures asks { Asks 14 p.old p.new }
+    ensures asks { Asks 19 p.old p.new }
 {
     if at_expression(p, condition) {
         expression(p, condition);
@@ -80,7 +81,7 @@ fn expect_any(p: &mut Parser<'_>, condition: bool)
 #[cycle(grammar)]
 fn expect_operation(p: &mut Parser<'_>, condition: bool)
     ensures reads { Reads condition (Operation !) p.old p.new }
-    ensures asks { Asks 14 p.old p.new }
+    ensures asks { Asks 19 p.old p.new }
 {
     if at_operation(p, condition) {
         operation(p, condition);
@@ -162,6 +163,20 @@ fn range(p: &mut Parser<'_>, mark: RangeMark, condition: bool)
     abandon(p, frame);
 }
 
+/// Parses a range without a start, as an operand.
+// ..a
+#[cycle(grammar)]
+pub(crate) fn open_range(p: &mut Parser<'_>, condition: bool)
+    requires begins { Starts rows.mark_begins p.old }
+    ensures reads { Reads condition (RANGE_EXPR ⟨ rows.open_range ⟩) p.old p.new }
+    ensures takes { Takes 4060 p.old p.new }
+{
+    let range = start(p);
+    let mark = present_mark(p);
+    range_end(p, mark, condition);
+    complete(p, range, SyntaxKind::RANGE_EXPR);
+}
+
 /// Parses a range operator and its optional end. Returns `true` if there is an end.
 // ..=a
 #[cycle(grammar)]
@@ -169,7 +184,7 @@ fn range_end(p: &mut Parser<'_>, mark: RangeMark, condition: bool) -> bool
     requires marked { IsMark (Some mark) p.old }
     ensures ends { EndsRange condition (spelling_of mark) result p.old p.new }
     ensures keeps { Keeps p.old p.new }
-    ensures takes { Takes 4080 p.old p.new }
+    ensures takes { Takes 4070 p.old p.new }
 {
     take_mark(p, mark);
     if at_range_operand(p, condition) {
@@ -182,7 +197,7 @@ fn range_end(p: &mut Parser<'_>, mark: RangeMark, condition: bool) -> bool
 /// Parses what follows an operand and its operators: ranges, operands after `|>`, an assignment.
 // ..b = c
 #[cycle(grammar)]
-fn operation_tail(p: &mut Parser<'_>, frame: Marker, condition: bool) -> Marker
+pub(crate) fn operation_tail(p: &mut Parser<'_>, frame: Marker, condition: bool) -> Marker
     requires innermost { IsInnermost frame p.old.nodes }
     ensures reads { Reads condition (more rules.operation_tail) p.old p.new }
     ensures asks { AsksIn result 7 p.old p.new }

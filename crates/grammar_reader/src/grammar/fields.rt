@@ -1,7 +1,7 @@
 //! Fields of record expressions and of record patterns.
 
 ghost use Rattle.std.specs.Prelude.{◌≡◌, ◌≤◌, ◌+◌, Bool, true};
-ghost use Rattle.parser_input.specs.Kinds.{IDENT_PAT, NAME_REF, RECORD_EXPR_FIELD, RECORD_PAT_FIELD};
+ghost use Rattle.parser_input.specs.Kinds.{IDENT_PAT, RECORD_EXPR_FIELD, RECORD_PAT_FIELD};
 ghost use Rattle.parser_events.specs.Stack.{IsInnermost};
 ghost use Rattle.rust_grammar.specs.Calls.{Expression, Name, Pattern};
 ghost use Rattle.rust_grammar.specs.Notation.{◌▸◌, ⁅◌⁆, ◌!, ◌⟨◌⟩};
@@ -15,9 +15,10 @@ ghost use Rattle.rust_productions.specs.Looks.{tokens, spent, Takes, Asks};
 ghost use Rattle.rust_productions.specs.Reads.{looks, Anew, Completes, Gives, Reads, Saw};
 
 use crate::grammar::attributes::attribute;
+use crate::grammar::const_args::const_path;
 use crate::grammar::expressions::{Level, expect_expression, expression};
 use crate::grammar::items::attributes;
-use crate::grammar::or_patterns::expect_pattern;
+use crate::grammar::parts::{Part, expect_part};
 use crate::grammar::paths::{Mode, path_with_args};
 use crate::grammar::patterns::rest_pat;
 use parser_events::parser::{Marker, Parser};
@@ -25,7 +26,9 @@ use parser_input::syntax_kind::SyntaxKind;
 use rust_productions::grammar::expressions::at_expression;
 use rust_productions::grammar::names::{expect_name, name};
 use rust_productions::grammar::patterns::{at_attributed_named_field, at_named_field};
-use rust_productions::grammar::{at_new, at_pair, complete, current, eat, start, take, take_pair};
+use rust_productions::grammar::{
+    abandon, at_new, at_pair, complete, current, eat, start, take, take_pair,
+};
 
 /// Parses a field of a record expression.
 // a: 1
@@ -36,6 +39,10 @@ pub(crate) fn field_value(p: &mut Parser<'_>, condition: bool)
     ensures gives { Gives rules.field_value condition p.old p.new }
     ensures takes { Takes 3300 p.old p.new }
 {
+    if at_new(p, SyntaxKind::POUND) {
+        attributed_value(p, condition);
+        return;
+    }
     if at_named_field(p) {
         named_value(p, condition);
         return;
@@ -45,6 +52,44 @@ pub(crate) fn field_value(p: &mut Parser<'_>, condition: bool)
         return;
     }
     path_value(p);
+}
+
+/// Parses a field of a record expression that has attributes.
+// #[a] b: 1
+#[cycle(grammar)]
+fn attributed_value(p: &mut Parser<'_>, condition: bool)
+    requires some { 1 ≤ tokens p.old }
+    ensures anew { Anew condition (attributed expression_rows.attributed_value) p.old p.new }
+    ensures takes { Takes 4000 p.old p.new }
+{
+    let node = start(p);
+    attribute(p);
+    attributes(p);
+    value_after_attributes(p, node, condition);
+}
+
+/// Parses a field of a record expression after its attributes, and closes its node.
+// b: 1
+#[cycle(grammar)]
+fn value_after_attributes(p: &mut Parser<'_>, node: Marker, condition: bool)
+    requires innermost { IsInnermost node p.old.nodes }
+    ensures completes { Completes condition expression_rows.attributed_value p.old p.new }
+    ensures asks { Asks 40 p.old p.new }
+{
+    if at_attributed_named_field(p) {
+        name_of_field(p);
+        take(p, SyntaxKind::COLON);
+        expect_expression(p, Level::Expression, condition);
+        complete(p, node, SyntaxKind::RECORD_EXPR_FIELD);
+        return;
+    }
+    if at_pair(p, SyntaxKind::DOT, SyntaxKind::DOT) {
+        other_fields(p, condition);
+        abandon(p, node);
+        return;
+    }
+    const_path(p);
+    complete(p, node, SyntaxKind::RECORD_EXPR_FIELD);
 }
 
 /// Parses the token of a field's name or number.
@@ -107,7 +152,7 @@ fn other_fields(p: &mut Parser<'_>, condition: bool)
 #[cycle(grammar)]
 fn opt_expression(p: &mut Parser<'_>, condition: bool)
     ensures reads { Reads condition ⁅ Expression ⁆ p.old p.new }
-    ensures asks { Asks 14 p.old p.new }
+    ensures asks { Asks 19 p.old p.new }
 {
     if at_expression(p, condition) {
         expression(p, condition);
@@ -184,7 +229,7 @@ fn after_attributes(p: &mut Parser<'_>, node: Marker)
     if at_attributed_named_field(p) {
         name_of_field(p);
         take(p, SyntaxKind::COLON);
-        expect_pattern(p);
+        expect_part(p, Part::Pattern);
         complete(p, node, SyntaxKind::RECORD_PAT_FIELD);
         return;
     }
@@ -217,7 +262,7 @@ fn named_pattern(p: &mut Parser<'_>)
     let node = start(p);
     name_of_field(p);
     take(p, SyntaxKind::COLON);
-    expect_pattern(p);
+    expect_part(p, Part::Pattern);
     complete(p, node, SyntaxKind::RECORD_PAT_FIELD);
 }
 

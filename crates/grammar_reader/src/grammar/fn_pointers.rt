@@ -1,20 +1,20 @@
 //! Function pointer types.
 
-ghost use Rattle.std.specs.Prelude.{◌≤◌, Bool, false, true};
+ghost use Rattle.std.specs.Prelude.{Bool, false};
 ghost use Rattle.rust_grammar.specs.Notation.{◌! };
 ghost use Rattle.rust_grammar.specs.Rule as rules;
 ghost use Rattle.rust_grammar.specs.Rule.{begins};
 ghost use Rattle.rust_grammar.specs.Paths.{first_segment, type_args};
 ghost use Rattle.rust_grammar.specs.Types as rows;
-ghost use Rattle.rust_productions.specs.Looks.{tokens, Takes, Asks};
+ghost use Rattle.rust_productions.specs.Looks.{Takes, Asks};
 ghost use Rattle.rust_productions.specs.Reads.{looks, Gives, Reads, Saw};
 ghost use Rattle.rust_productions.specs.Starts.{Starts};
 
 use crate::grammar::attributes::{attribute, outer_attributes};
-use crate::grammar::lists::{Element, rest_of_list};
+use crate::grammar::parts::{Part, expect_part};
 use crate::grammar::paths::{Mode, next_segments, opt_type_args};
 use crate::grammar::patterns::single_pattern;
-use crate::grammar::types::{any_type, expect_type, opt_ret_type};
+use crate::grammar::types::{any_type, opt_ret_type};
 use parser_events::message::Message;
 use parser_events::parser::Parser;
 use parser_input::syntax_kind::SyntaxKind;
@@ -22,7 +22,7 @@ use rust_productions::grammar::item_words::{opt_abi, read_abi};
 use rust_productions::grammar::pattern_ranges::take_three_dots;
 use rust_productions::grammar::types::{at_named_param, at_type};
 use rust_productions::grammar::{
-    abandon, at, at_dots_dot, at_new, complete, current, error, expect, start, take,
+    abandon, at_dots_dot, at_new, complete, current, error, expect, start, take,
 };
 
 /// Parses a function pointer type.
@@ -35,7 +35,7 @@ pub(crate) fn fn_ptr_type(p: &mut Parser<'_>)
 {
     let node = start(p);
     fn_ptr_words(p);
-    expect_params(p);
+    expect_part(p, Part::FnPtrParams);
     opt_ret_type(p);
     complete(p, node, SyntaxKind::FN_PTR_TYPE);
 }
@@ -59,39 +59,6 @@ fn fn_ptr_words(p: &mut Parser<'_>)
         }
         _ => take(p, SyntaxKind::FN_KW),
     }
-}
-
-/// Parses the parameters; emits an error if there are none.
-// (u8, b: u8)
-#[cycle(grammar)]
-fn expect_params(p: &mut Parser<'_>)
-    ensures reads { (c : Bool) → Reads c (rows.fn_ptr_params !) p.old p.new }
-    ensures asks { Asks 1 p.old p.new }
-{
-    if at(p, SyntaxKind::L_PAREN) {
-        params(p);
-        return;
-    }
-    error(p, Message::Expected(SyntaxKind::PARAM_LIST));
-}
-
-/// Parses the parameters.
-// (u8, b: u8)
-#[cycle(grammar)]
-fn params(p: &mut Parser<'_>)
-    requires some { 1 ≤ tokens p.old }
-    ensures reads { (c : Bool) → Reads c rows.fn_ptr_params p.old p.new }
-    ensures takes { Takes 3300 p.old p.new }
-{
-    let list = start(p);
-    take(p, SyntaxKind::L_PAREN);
-    rest_of_list(
-        p,
-        SyntaxKind::PARAM_LIST,
-        Element::FnPtrParam,
-        SyntaxKind::R_PAREN,
-    );
-    complete(p, list, SyntaxKind::PARAM_LIST);
 }
 
 /// Parses a parameter.
@@ -230,5 +197,5 @@ fn dots_or_type(p: &mut Parser<'_>)
         take_three_dots(p);
         return;
     }
-    expect_type(p);
+    expect_part(p, Part::Type);
 }

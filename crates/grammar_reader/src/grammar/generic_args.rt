@@ -1,6 +1,6 @@
 //! Arguments of generics.
 
-ghost use Rattle.std.specs.Prelude.{◌≡◌, ◌≤◌, ◌+◌, Bool, true, false};
+ghost use Rattle.std.specs.Prelude.{◌≡◌, ◌≤◌, ◌+◌, Bool, false};
 ghost use Rattle.parser_input.specs.Kinds as kinds;
 ghost use Rattle.parser_input.specs.Kinds.{ASSOC_TYPE_ARG, CONST_ARG, NAME_REF};
 ghost use Rattle.rust_grammar.specs.Calls.{AnyType, Literal};
@@ -18,8 +18,9 @@ ghost use Rattle.rust_productions.specs.Starts.{Starts};
 use crate::grammar::const_args::const_arg;
 use crate::grammar::expressions::blocks::block;
 use crate::grammar::generic_params::bounds;
+use crate::grammar::parts::{Part, expect_part};
 use crate::grammar::paths::{Mode, next_segments, opt_type_args};
-use crate::grammar::types::{any_type, expect_type, opt_plus_bounds, type_of_path, word_type};
+use crate::grammar::types::{any_type, opt_plus_bounds, type_of_path, word_type};
 use parser_events::parser::{Marker, Parser};
 use parser_input::syntax_kind::SyntaxKind;
 use rust_productions::grammar::generic_args::{at_const_value, at_new_arg, at_single_colon};
@@ -121,7 +122,7 @@ fn const_or_type(p: &mut Parser<'_>)
         const_arg(p);
         return;
     }
-    expect_type(p);
+    expect_part(p, Part::Type);
 }
 
 /// Parses a type argument after its first name and the arguments of that, within `frame`.
@@ -207,7 +208,7 @@ fn assoc_type_arg(p: &mut Parser<'_>)
     let node = start(p);
     word_type(p, SyntaxKind::IDENT, SyntaxKind::NAME_REF);
     take(p, SyntaxKind::EQ);
-    expect_type(p);
+    expect_part(p, Part::Type);
     complete(p, node, SyntaxKind::ASSOC_TYPE_ARG);
 }
 

@@ -2,7 +2,7 @@
 
 ghost use Rattle.std.specs.Prelude.{◌≤◌, Bool, true, false};
 ghost use Rattle.parser_input.specs.Kinds.{TYPE_BOUND, WHERE_PRED};
-ghost use Rattle.rust_grammar.specs.Calls.{AnyType, Bound, GenericParams, WherePred};
+ghost use Rattle.rust_grammar.specs.Calls.{AnyType, Bound};
 ghost use Rattle.rust_grammar.specs.Notation.{◌▸◌, ⁅◌⁆, ◌*, ◌!, ◌⟨◌⟩, wide};
 ghost use Rattle.rust_grammar.specs.Rule as rules;
 ghost use Rattle.rust_grammar.specs.Rule.{One};
@@ -13,18 +13,16 @@ ghost use Rattle.rust_productions.specs.Looks.{tokens, Takes, Asks};
 ghost use Rattle.rust_productions.specs.Reads.{looks, Gives, Reads, Saw};
 ghost use Rattle.rust_productions.specs.Starts.{Starts};
 
-use crate::grammar::lists::generic_params;
 use crate::grammar::new_bounds::new_bound;
 use crate::grammar::new_params::new_param;
-use crate::grammar::types::{any_type, expect_type, opt_type_after, path_type};
-use parser_events::message::Message;
+use crate::grammar::parts::{Part, expect_part, opt_part};
+use crate::grammar::types::{any_type, opt_type_after, path_type};
 use parser_events::parser::Parser;
 use parser_input::syntax_kind::SyntaxKind;
 use rust_productions::grammar::generic_params::{
     at_bound, at_new_bound, at_new_param, at_new_pred, at_where_pred,
 };
 use rust_productions::grammar::names::{lifetime, name};
-use rust_productions::grammar::paths::at_path;
 use rust_productions::grammar::{at, complete, current, error, expect, start, take};
 
 /// Parses a bound.
@@ -82,21 +80,7 @@ fn path_after_question(p: &mut Parser<'_>)
     ensures takes { Takes 4090 p.old p.new }
 {
     take(p, SyntaxKind::QUESTION);
-    expect_path_type(p);
-}
-
-/// Parses a path type; emits an error if there is none.
-// Sized
-#[cycle(grammar)]
-pub(crate) fn expect_path_type(p: &mut Parser<'_>)
-    ensures reads { (c : Bool) → Reads c (shared.path_type !) p.old p.new }
-    ensures asks { Asks 3 p.old p.new }
-{
-    if at_path(p) {
-        path_type(p);
-        return;
-    }
-    error(p, Message::Expected(SyntaxKind::PATH_TYPE));
+    expect_part(p, Part::PathType);
 }
 
 /// Parses bounds.
@@ -182,21 +166,7 @@ pub(crate) fn for_binder(p: &mut Parser<'_>)
     ensures takes { Takes 4090 p.old p.new }
 {
     take(p, SyntaxKind::FOR_KW);
-    expect_generic_params(p);
-}
-
-/// Parses generic parameters; emits an error if there are none.
-// <'a>
-#[cycle(grammar)]
-fn expect_generic_params(p: &mut Parser<'_>)
-    ensures reads { (c : Bool) → Reads c (GenericParams !) p.old p.new }
-    ensures asks { Asks 1 p.old p.new }
-{
-    if at(p, SyntaxKind::L_ANGLE) {
-        generic_params(p);
-        return;
-    }
-    error(p, Message::Expected(SyntaxKind::GENERIC_PARAM_LIST));
+    expect_part(p, Part::GenericParams);
 }
 
 /// Parses a lifetime and its optional bounds.
@@ -288,7 +258,7 @@ fn pred_bounds(p: &mut Parser<'_>)
 /// Parses a where predicate.
 // T: A
 #[cycle(grammar)]
-fn where_pred(p: &mut Parser<'_>)
+pub(crate) fn where_pred(p: &mut Parser<'_>)
     requires begins { Starts (looks rules.where_pred) p.old }
     ensures gives { (c : Bool) → Gives rules.where_pred c p.old p.new }
     ensures takes { Takes 2700 p.old p.new }
@@ -311,7 +281,7 @@ fn binder_pred(p: &mut Parser<'_>)
 {
     let node = start(p);
     for_binder(p);
-    expect_type(p);
+    expect_part(p, Part::Type);
     pred_bounds(p);
     complete(p, node, SyntaxKind::WHERE_PRED);
 }
@@ -380,17 +350,5 @@ fn further_pred(p: &mut Parser<'_>)
     ensures takes { Takes 4070 p.old p.new }
 {
     take(p, SyntaxKind::COMMA);
-    opt_pred(p);
-}
-
-/// Parses an optional where predicate.
-// U: B
-#[cycle(grammar)]
-fn opt_pred(p: &mut Parser<'_>)
-    ensures reads { (c : Bool) → Reads c ⁅ WherePred ⁆ p.old p.new }
-    ensures asks { Asks 20 p.old p.new }
-{
-    if at_where_pred(p) {
-        where_pred(p);
-    }
+    opt_part(p, Part::WherePred);
 }

@@ -2,10 +2,10 @@
 
 ghost use Rattle.std.specs.Prelude.{◌≡◌, ◌≤◌, Bool, IsTrue, true, false};
 ghost use Rattle.parser_input.specs.Kind.{raw_of};
-ghost use Rattle.parser_input.specs.Kinds.{POUND, PUB_KW};
+ghost use Rattle.parser_input.specs.Kinds.{PUB_KW};
 ghost use Rattle.parser_events.specs.Stack.{IsInnermost};
 ghost use Rattle.grammar_reader.specs.Told.{ends_of, item_or_attribute};
-ghost use Rattle.rust_grammar.specs.Calls.{Attribute, GenericParams, WhereClause, Visibility};
+ghost use Rattle.rust_grammar.specs.Calls.{Attribute, Visibility};
 ghost use Rattle.rust_grammar.specs.Items.{items_in_braces, items_until};
 ghost use Rattle.rust_grammar.specs.Notation.{◌▸◌, ⁅◌⁆, ◌*, ◌⟨◌⟩};
 ghost use Rattle.rust_grammar.specs.Rule as rules;
@@ -19,14 +19,12 @@ ghost use Rattle.rust_productions.specs.Moves.{Keeps};
 ghost use Rattle.grammar_reader.specs.Next.{IsBare};
 
 use crate::grammar::attributes::attribute;
-use crate::grammar::generic_params::where_clause;
 use crate::grammar::items::adt::{enum_item, struct_item};
 use crate::grammar::items::consts::{const_item, static_item, type_alias};
 use crate::grammar::items::functions::fn_item;
 use crate::grammar::items::new_items::new_item;
 use crate::grammar::items::traits::{impl_item, trait_item};
 use crate::grammar::list_end::{ListEnd, at_end_of};
-use crate::grammar::lists::generic_params;
 use crate::grammar::statements::at_inner_attribute;
 use parser_events::parser::{Marker, Parser};
 use parser_input::syntax_kind::SyntaxKind;
@@ -35,7 +33,7 @@ use rust_productions::grammar::items::{at_fn, at_unsafe, no_item, path_item, use
 use rust_productions::grammar::names::expect_name;
 use rust_productions::grammar::paths::at_path;
 use rust_productions::grammar::visibility::{opt_visibility, visibility};
-use rust_productions::grammar::{at, at_new, complete, current, expect, start, take};
+use rust_productions::grammar::{at, complete, current, expect, start, take};
 
 pub(crate) mod adt;
 pub(crate) mod consts;
@@ -257,63 +255,4 @@ pub(crate) fn items(p: &mut Parser<'_>, end: ListEnd)
     ensures asks { Asks 2 p.old p.new }
 {
     'turns: while item_turn(p, end) {}
-}
-
-/// Parses the associated items of a trait or of an implementation.
-// { fn f(); }
-#[cycle(grammar)]
-pub(crate) fn assoc_items(p: &mut Parser<'_>)
-    requires some { 1 ≤ tokens p.old }
-    ensures gives { (c : Bool) → Gives rules.assoc_items c p.old p.new }
-    ensures takes { Takes 4080 p.old p.new }
-{
-    item_list(p, SyntaxKind::ASSOC_ITEM_LIST);
-}
-
-/// Parses optional generic parameters.
-// <T>
-#[cycle(grammar)]
-pub(crate) fn opt_generic_params(p: &mut Parser<'_>)
-    ensures reads { (c : Bool) → Reads c ⁅ GenericParams ⁆ p.old p.new }
-    ensures asks { Asks 1 p.old p.new }
-{
-    if at(p, SyntaxKind::L_ANGLE) {
-        generic_params(p);
-    }
-}
-
-/// Parses optional generic parameters of the whole language.
-// <T>
-#[cycle(grammar)]
-pub(crate) fn opt_new_generics(p: &mut Parser<'_>)
-    ensures reads { (c : Bool) → Reads c rows.new_generics p.old p.new }
-    ensures asks { Asks 1 p.old p.new }
-{
-    if at_new(p, SyntaxKind::L_ANGLE) {
-        generic_params(p);
-    }
-}
-
-/// Parses an optional where clause of the whole language.
-// where T: A
-#[cycle(grammar)]
-pub(crate) fn opt_new_where(p: &mut Parser<'_>)
-    ensures reads { (c : Bool) → Reads c rows.new_where p.old p.new }
-    ensures asks { Asks 1 p.old p.new }
-{
-    if at_new(p, SyntaxKind::WHERE_KW) {
-        where_clause(p);
-    }
-}
-
-/// Parses an optional where clause.
-// where T: A
-#[cycle(grammar)]
-pub(crate) fn opt_where_clause(p: &mut Parser<'_>)
-    ensures reads { (c : Bool) → Reads c ⁅ WhereClause ⁆ p.old p.new }
-    ensures asks { Asks 1 p.old p.new }
-{
-    if at(p, SyntaxKind::WHERE_KW) {
-        where_clause(p);
-    }
 }

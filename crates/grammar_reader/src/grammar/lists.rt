@@ -5,13 +5,13 @@ ghost use Rattle.parser_input.specs.Kind.{raw_of};
 ghost use Rattle.parser_input.specs.Kinds as kinds;
 ghost use Rattle.parser_events.specs.Stack.{IsInnermost};
 ghost use Rattle.rust_grammar.specs.Notation.{◌*, rest_listed};
-ghost use Rattle.rust_grammar.specs.Rule as rules;
 ghost use Rattle.rust_grammar.specs.Rule.{begins};
 ghost use Rattle.rust_grammar.specs.Words.{one};
 ghost use Rattle.rust_grammar.specs.Notation as rows;
+ghost use Rattle.grammar_reader.specs.Lists.{closing_in, element_in, kind_in, left_by, list_of, opening_in};
 ghost use Rattle.grammar_reader.specs.Told.{element_of, list_turn, looks_before, looks_in};
 ghost use Rattle.rust_productions.specs.Looks.{tokens, spent, Takes, Asks, Peeks, AsksIn};
-ghost use Rattle.rust_productions.specs.Reads.{looks, Gives, Reads, Saw};
+ghost use Rattle.rust_productions.specs.Reads.{looks, Reads, Saw};
 ghost use Rattle.rust_productions.specs.Turns.{TakesTurn};
 ghost use Rattle.rust_productions.specs.Moves.{Keeps};
 
@@ -35,8 +35,8 @@ use rust_productions::grammar::fields::at_field_value;
 use rust_productions::grammar::generic_args::at_generic_arg;
 use rust_productions::grammar::generic_params::{at_captured, at_generic_param, captured};
 use rust_productions::grammar::lists::{at_list_end, at_unexpected, comma};
-use rust_productions::grammar::params::at_param;
-use rust_productions::grammar::patterns::{at_pattern, at_pattern_field, at_single_pattern};
+use rust_productions::grammar::params::{at_closure_param, at_param};
+use rust_productions::grammar::patterns::{at_pattern, at_pattern_field};
 use rust_productions::grammar::types::{at_fn_ptr_param, at_type};
 use rust_productions::grammar::{at, complete, expect, skip, start, take, tokens_left, wrap};
 
@@ -60,6 +60,108 @@ pub(crate) enum Element {
     Variant,
 }
 
+/// The lists that open with one token, each in a node of its own.
+#[derive(Clone, Copy)]
+pub(crate) enum ListKind {
+    Arguments,
+    Captures,
+    ClosureParams,
+    FieldValues,
+    FnPtrParams,
+    GenericParams,
+    Params,
+    PatternFields,
+    RecordFields,
+    SlicePattern,
+    TupleFields,
+    TuplePattern,
+    Variants,
+}
+
+/// Returns the kind of a list's node.
+fn kind_of(list: ListKind) -> SyntaxKind
+    ensures is { raw_of result ≡ kind_in list }
+{
+    match list {
+        ListKind::Arguments => SyntaxKind::ARG_LIST,
+        ListKind::Captures => SyntaxKind::GENERIC_ARG_LIST,
+        ListKind::ClosureParams => SyntaxKind::PARAM_LIST,
+        ListKind::FieldValues => SyntaxKind::RECORD_EXPR_FIELD_LIST,
+        ListKind::FnPtrParams => SyntaxKind::PARAM_LIST,
+        ListKind::GenericParams => SyntaxKind::GENERIC_PARAM_LIST,
+        ListKind::Params => SyntaxKind::PARAM_LIST,
+        ListKind::PatternFields => SyntaxKind::RECORD_PAT_FIELD_LIST,
+        ListKind::RecordFields => SyntaxKind::RECORD_FIELD_LIST,
+        ListKind::SlicePattern => SyntaxKind::SLICE_PAT,
+        ListKind::TupleFields => SyntaxKind::TUPLE_FIELD_LIST,
+        ListKind::TuplePattern => SyntaxKind::TUPLE_PAT,
+        ListKind::Variants => SyntaxKind::VARIANT_LIST,
+    }
+}
+
+/// Returns the token that opens a list.
+fn opening(list: ListKind) -> SyntaxKind
+    ensures is { raw_of result ≡ opening_in list }
+{
+    match list {
+        ListKind::Arguments => SyntaxKind::L_PAREN,
+        ListKind::Captures => SyntaxKind::L_ANGLE,
+        ListKind::ClosureParams => SyntaxKind::PIPE,
+        ListKind::FieldValues => SyntaxKind::L_CURLY,
+        ListKind::FnPtrParams => SyntaxKind::L_PAREN,
+        ListKind::GenericParams => SyntaxKind::L_ANGLE,
+        ListKind::Params => SyntaxKind::L_PAREN,
+        ListKind::PatternFields => SyntaxKind::L_CURLY,
+        ListKind::RecordFields => SyntaxKind::L_CURLY,
+        ListKind::SlicePattern => SyntaxKind::L_BRACK,
+        ListKind::TupleFields => SyntaxKind::L_PAREN,
+        ListKind::TuplePattern => SyntaxKind::L_PAREN,
+        ListKind::Variants => SyntaxKind::L_CURLY,
+    }
+}
+
+/// Returns what the elements of a list are.
+fn kind_of_element(list: ListKind) -> Element
+    ensures is { result ≡ element_in list }
+{
+    match list {
+        ListKind::Arguments => Element::Expression,
+        ListKind::Captures => Element::Captured,
+        ListKind::ClosureParams => Element::ClosureParam,
+        ListKind::FieldValues => Element::FieldValue,
+        ListKind::FnPtrParams => Element::FnPtrParam,
+        ListKind::GenericParams => Element::GenericParam,
+        ListKind::Params => Element::Param,
+        ListKind::PatternFields => Element::PatternField,
+        ListKind::RecordFields => Element::RecordField,
+        ListKind::SlicePattern => Element::Pattern,
+        ListKind::TupleFields => Element::TupleField,
+        ListKind::TuplePattern => Element::Pattern,
+        ListKind::Variants => Element::Variant,
+    }
+}
+
+/// Returns the token that closes a list.
+fn closing(list: ListKind) -> SyntaxKind
+    ensures is { raw_of result ≡ closing_in list }
+{
+    match list {
+        ListKind::Arguments => SyntaxKind::R_PAREN,
+        ListKind::Captures => SyntaxKind::R_ANGLE,
+        ListKind::ClosureParams => SyntaxKind::PIPE,
+        ListKind::FieldValues => SyntaxKind::R_CURLY,
+        ListKind::FnPtrParams => SyntaxKind::R_PAREN,
+        ListKind::GenericParams => SyntaxKind::R_ANGLE,
+        ListKind::Params => SyntaxKind::R_PAREN,
+        ListKind::PatternFields => SyntaxKind::R_CURLY,
+        ListKind::RecordFields => SyntaxKind::R_CURLY,
+        ListKind::SlicePattern => SyntaxKind::R_BRACK,
+        ListKind::TupleFields => SyntaxKind::R_PAREN,
+        ListKind::TuplePattern => SyntaxKind::R_PAREN,
+        ListKind::Variants => SyntaxKind::R_CURLY,
+    }
+}
+
 /// Returns `true` if an element starts here.
 fn at_element(p: &mut Parser<'_>, element: Element) -> bool
     ensures sees { Saw false (begins looks (element_of element)) p.old result }
@@ -67,7 +169,7 @@ fn at_element(p: &mut Parser<'_>, element: Element) -> bool
 {
     match element {
         Element::Captured => at_captured(p),
-        Element::ClosureParam => at_single_pattern(p),
+        Element::ClosureParam => at_closure_param(p),
         Element::Expression => at_expression(p, false),
         Element::FieldValue => at_field_value(p),
         Element::FnPtrParam => at_fn_ptr_param(p),
@@ -193,154 +295,17 @@ pub(crate) fn tuple_tail(
     wrap(p, frame, paren)
 }
 
-/// Parses call arguments.
+/// Parses a list.
 // (a, b)
 #[cycle(grammar)]
-pub(crate) fn arguments(p: &mut Parser<'_>)
+pub(crate) fn list(p: &mut Parser<'_>, which: ListKind)
     requires some { 1 ≤ tokens p.old }
-    ensures gives { (c : Bool) → Gives rules.arguments c p.old p.new }
-    ensures takes { Takes 3300 p.old p.new }
+    ensures reads { (c : Bool) → Reads c (list_of which) p.old p.new }
+    ensures takes { Takes (left_by (element_in which)) p.old p.new }
 {
-    let list = start(p);
-    take(p, SyntaxKind::L_PAREN);
-    rest_of_list(
-        p,
-        SyntaxKind::ARG_LIST,
-        Element::Expression,
-        SyntaxKind::R_PAREN,
-    );
-    complete(p, list, SyntaxKind::ARG_LIST);
-}
-
-/// Parses the fields of a record expression.
-// { a: 1, ..b }
-#[cycle(grammar)]
-pub(crate) fn field_values(p: &mut Parser<'_>)
-    requires some { 1 ≤ tokens p.old }
-    ensures gives { (c : Bool) → Gives rules.field_values c p.old p.new }
-    ensures takes { Takes 3300 p.old p.new }
-{
-    let list = start(p);
-    take(p, SyntaxKind::L_CURLY);
-    rest_of_list(
-        p,
-        SyntaxKind::RECORD_EXPR_FIELD_LIST,
-        Element::FieldValue,
-        SyntaxKind::R_CURLY,
-    );
-    complete(p, list, SyntaxKind::RECORD_EXPR_FIELD_LIST);
-}
-
-/// Parses the fields of a record pattern.
-// { a: Some(b), .. }
-#[cycle(grammar)]
-pub(crate) fn pattern_fields(p: &mut Parser<'_>)
-    requires some { 1 ≤ tokens p.old }
-    ensures gives { (c : Bool) → Gives rules.pattern_fields c p.old p.new }
-    ensures takes { Takes 3300 p.old p.new }
-{
-    let list = start(p);
-    take(p, SyntaxKind::L_CURLY);
-    rest_of_list(
-        p,
-        SyntaxKind::RECORD_PAT_FIELD_LIST,
-        Element::PatternField,
-        SyntaxKind::R_CURLY,
-    );
-    complete(p, list, SyntaxKind::RECORD_PAT_FIELD_LIST);
-}
-
-/// Parses function parameters.
-// (&self, a: u8)
-#[cycle(grammar)]
-pub(crate) fn params(p: &mut Parser<'_>)
-    requires some { 1 ≤ tokens p.old }
-    ensures gives { (c : Bool) → Gives rules.params c p.old p.new }
-    ensures takes { Takes 3300 p.old p.new }
-{
-    let list = start(p);
-    take(p, SyntaxKind::L_PAREN);
-    rest_of_list(
-        p,
-        SyntaxKind::PARAM_LIST,
-        Element::Param,
-        SyntaxKind::R_PAREN,
-    );
-    complete(p, list, SyntaxKind::PARAM_LIST);
-}
-
-/// Parses generic parameters.
-// <'a, T: A>
-#[cycle(grammar)]
-pub(crate) fn generic_params(p: &mut Parser<'_>)
-    requires some { 1 ≤ tokens p.old }
-    ensures gives { (c : Bool) → Gives rules.generic_params c p.old p.new }
-    ensures takes { Takes 3300 p.old p.new }
-{
-    let list = start(p);
-    take(p, SyntaxKind::L_ANGLE);
-    rest_of_list(
-        p,
-        SyntaxKind::GENERIC_PARAM_LIST,
-        Element::GenericParam,
-        SyntaxKind::R_ANGLE,
-    );
-    complete(p, list, SyntaxKind::GENERIC_PARAM_LIST);
-}
-
-/// Parses the variants of an enum.
-// { A, B(u8) }
-#[cycle(grammar)]
-pub(crate) fn variants(p: &mut Parser<'_>)
-    requires some { 1 ≤ tokens p.old }
-    ensures gives { (c : Bool) → Gives rules.variants c p.old p.new }
-    ensures takes { Takes 3300 p.old p.new }
-{
-    let list = start(p);
-    take(p, SyntaxKind::L_CURLY);
-    rest_of_list(
-        p,
-        SyntaxKind::VARIANT_LIST,
-        Element::Variant,
-        SyntaxKind::R_CURLY,
-    );
-    complete(p, list, SyntaxKind::VARIANT_LIST);
-}
-
-/// Parses named fields.
-// { a: u8, pub b: u8 }
-#[cycle(grammar)]
-pub(crate) fn record_fields(p: &mut Parser<'_>)
-    requires some { 1 ≤ tokens p.old }
-    ensures gives { (c : Bool) → Gives rules.record_fields c p.old p.new }
-    ensures takes { Takes 3300 p.old p.new }
-{
-    let list = start(p);
-    take(p, SyntaxKind::L_CURLY);
-    rest_of_list(
-        p,
-        SyntaxKind::RECORD_FIELD_LIST,
-        Element::RecordField,
-        SyntaxKind::R_CURLY,
-    );
-    complete(p, list, SyntaxKind::RECORD_FIELD_LIST);
-}
-
-/// Parses tuple fields.
-// (u8, pub u8)
-#[cycle(grammar)]
-pub(crate) fn tuple_fields(p: &mut Parser<'_>)
-    requires some { 1 ≤ tokens p.old }
-    ensures gives { (c : Bool) → Gives rules.tuple_fields c p.old p.new }
-    ensures takes { Takes 3300 p.old p.new }
-{
-    let list = start(p);
-    take(p, SyntaxKind::L_PAREN);
-    rest_of_list(
-        p,
-        SyntaxKind::TUPLE_FIELD_LIST,
-        Element::TupleField,
-        SyntaxKind::R_PAREN,
-    );
-    complete(p, list, SyntaxKind::TUPLE_FIELD_LIST);
+    let node = start(p);
+    take(p, opening(which));
+    let kind = kind_of(which);
+    rest_of_list(p, kind, kind_of_element(which), closing(which));
+    complete(p, node, kind);
 }

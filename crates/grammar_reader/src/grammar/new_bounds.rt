@@ -12,8 +12,9 @@ ghost use Rattle.rust_grammar.specs.Words.{'l_paren', 'r_paren', 'use'};
 ghost use Rattle.rust_productions.specs.Looks.{tokens, spent, Takes, Asks};
 ghost use Rattle.rust_productions.specs.Reads.{Reads};
 
-use crate::grammar::generic_params::{expect_path_type, for_binder};
-use crate::grammar::lists::{Element, rest_of_list};
+use crate::grammar::generic_params::for_binder;
+use crate::grammar::lists::{ListKind, list};
+use crate::grammar::parts::{Part, expect_part};
 use parser_events::parser::Parser;
 use parser_input::syntax_kind::SyntaxKind;
 use rust_productions::grammar::generic_params::{at_binder, at_captures, opt_const_words};
@@ -87,26 +88,7 @@ fn use_captures(p: &mut Parser<'_>)
     ensures takes { Takes 4090 p.old p.new }
 {
     take(p, SyntaxKind::USE_KW);
-    captures(p);
-}
-
-/// Parses captured parameters in angle brackets.
-// <'a, T>
-#[cycle(grammar)]
-fn captures(p: &mut Parser<'_>)
-    requires some { 1 ≤ tokens p.old }
-    ensures reads { (c : Bool) → Reads c rows.captures p.old p.new }
-    ensures takes { Takes 3300 p.old p.new }
-{
-    let list = start(p);
-    take(p, SyntaxKind::L_ANGLE);
-    rest_of_list(
-        p,
-        SyntaxKind::GENERIC_ARG_LIST,
-        Element::Captured,
-        SyntaxKind::R_ANGLE,
-    );
-    complete(p, list, SyntaxKind::GENERIC_ARG_LIST);
+    list(p, ListKind::Captures);
 }
 
 /// Parses a path type with optional words before it; emits an error if there is no path.
@@ -120,7 +102,7 @@ fn words_and_path(p: &mut Parser<'_>)
     opt_const_words(p);
     eat(p, SyntaxKind::ASYNC_KW);
     eat(p, SyntaxKind::QUESTION);
-    expect_path_type(p);
+    expect_part(p, Part::PathType);
 }
 
 /// Parses an optional binder.

@@ -15,7 +15,8 @@ use crate::grammar::attributes::attribute;
 use crate::grammar::const_args::expect_const_arg;
 use crate::grammar::generic_params::{bounds_after_colon, lifetime_and_bounds};
 use crate::grammar::items::attributes;
-use crate::grammar::types::{expect_type, opt_type_after};
+use crate::grammar::parts::{Part, expect_part};
+use crate::grammar::types::opt_type_after;
 use parser_events::parser::{Marker, Parser};
 use parser_input::syntax_kind::SyntaxKind;
 use rust_productions::grammar::names::expect_name;
@@ -60,7 +61,7 @@ fn inside_const_param(p: &mut Parser<'_>)
     take(p, SyntaxKind::CONST_KW);
     expect_name(p);
     expect(p, SyntaxKind::COLON);
-    expect_type(p);
+    expect_part(p, Part::Type);
     const_default(p);
 }
 

@@ -2,7 +2,6 @@
 
 ghost use Rattle.std.specs.Prelude.{◌≤◌, Bool, true};
 ghost use Rattle.parser_events.specs.Stack.{IsInnermost};
-ghost use Rattle.rust_grammar.specs.Calls.{Pattern};
 ghost use Rattle.rust_grammar.specs.Notation.{⁅◌⁆, ◌*, ◌! };
 ghost use Rattle.rust_grammar.specs.Rule as rules;
 ghost use Rattle.rust_grammar.specs.Whole.{rule};
@@ -11,26 +10,12 @@ ghost use Rattle.rust_productions.specs.Looks.{tokens, Takes, Asks, TakesIn, Ask
 ghost use Rattle.rust_productions.specs.Reads.{looks, Gives, Reads, Saw};
 ghost use Rattle.rust_productions.specs.Starts.{Starts};
 
-use crate::grammar::patterns::{expect_single, single_pattern};
-use parser_events::message::Message;
+use crate::grammar::parts::{Part, expect_part};
+use crate::grammar::patterns::{single_or_missing, single_pattern};
 use parser_events::parser::{Marker, Parser};
 use parser_input::syntax_kind::SyntaxKind;
 use rust_productions::grammar::patterns::at_pattern;
-use rust_productions::grammar::{abandon, at, error, start, take, wrap};
-
-/// Parses a pattern; emits an error if there is none.
-// A | B
-#[cycle(grammar)]
-pub(crate) fn expect_pattern(p: &mut Parser<'_>)
-    ensures reads { (c : Bool) → Reads c (Pattern !) p.old p.new }
-    ensures asks { Asks 9 p.old p.new }
-{
-    if at_pattern(p) {
-        pattern(p);
-        return;
-    }
-    error(p, Message::ExpectedPattern);
-}
+use rust_productions::grammar::{abandon, at, start, take, wrap};
 
 /// Parses a pattern.
 // A | B
@@ -57,7 +42,7 @@ fn alternatives(p: &mut Parser<'_>, frame: Marker) -> Marker
 {
     if at(p, SyntaxKind::PIPE) {
         take(p, SyntaxKind::PIPE);
-        expect_single(p);
+        expect_part(p, Part::SinglePattern);
         further(p);
         return wrap(p, frame, SyntaxKind::OR_PAT);
     }
@@ -74,7 +59,7 @@ fn one_further(p: &mut Parser<'_>)
     ensures takes { Takes 4080 p.old p.new }
 {
     take(p, SyntaxKind::PIPE);
-    expect_single(p);
+    expect_part(p, Part::SinglePattern);
 }
 
 /// Parses further alternatives, each with its `|`.
@@ -103,4 +88,21 @@ fn opt_further(p: &mut Parser<'_>, frame: Marker) -> Marker
         return wrap(p, frame, SyntaxKind::OR_PAT);
     }
     frame
+}
+
+/// Parses a pattern, or an error within the nodes of its path if none starts here.
+// A | B
+#[cycle(grammar)]
+pub(crate) fn pattern_or_missing(p: &mut Parser<'_>)
+    ensures gives { (c : Bool) → Gives rules.pattern c p.old p.new }
+    ensures asks { Asks 30 p.old p.new }
+{
+    if at_pattern(p) {
+        pattern(p);
+        return;
+    }
+    let frame = start(p);
+    single_or_missing(p);
+    let frame = opt_further(p, frame);
+    abandon(p, frame);
 }

@@ -19,8 +19,9 @@ ghost use Rattle.rust_productions.specs.Starts.{Starts};
 use crate::grammar::attributes::attribute;
 use crate::grammar::expressions::closures::opt_type;
 use crate::grammar::items::attributes;
-use crate::grammar::or_patterns::{expect_pattern, pattern};
-use crate::grammar::types::{expect_type, word_type};
+use crate::grammar::or_patterns::pattern;
+use crate::grammar::parts::{Part, expect_part};
+use crate::grammar::types::word_type;
 use parser_events::parser::{Marker, Parser};
 use parser_input::syntax_kind::SyntaxKind;
 use rust_productions::grammar::names::opt_lifetime;
@@ -170,7 +171,7 @@ fn dots_or_param(p: &mut Parser<'_>)
         take_three_dots(p);
         return;
     }
-    expect_pattern(p);
+    expect_part(p, Part::Pattern);
     param_type(p);
 }
 
@@ -196,7 +197,7 @@ fn dots_or_type(p: &mut Parser<'_>)
         take_three_dots(p);
         return;
     }
-    expect_type(p);
+    expect_part(p, Part::Type);
 }
 
 /// Parses a parameter with a pattern.

@@ -5,7 +5,6 @@ ghost use Rattle.parser_input.specs.Kinds.{PARENTHESIZED_ARG_LIST};
 ghost use Rattle.parser_events.specs.Stack.{IsInnermost};
 ghost use Rattle.rust_grammar.specs.Notation.{⁅◌⁆, ◌!, ◌▸◌, ◌⟨◌⟩, ◌before◌, wide};
 ghost use Rattle.rust_grammar.specs.Words.{'::', '<', 'dots', 'l_paren', 'r_paren'};
-ghost use Rattle.rust_grammar.specs.Calls.{GenericArgs};
 ghost use Rattle.rust_grammar.specs.Rule as rules;
 ghost use Rattle.rust_grammar.specs.Rule.{One};
 ghost use Rattle.rust_grammar.specs.Paths as rows;
@@ -14,9 +13,9 @@ ghost use Rattle.rust_productions.specs.Looks.{tokens, Takes, Asks, Peeks, Takes
 ghost use Rattle.rust_productions.specs.Reads.{looks, Gives, Reads, Saw};
 ghost use Rattle.rust_productions.specs.Starts.{Starts};
 
-use crate::grammar::generic_params::expect_path_type;
 use crate::grammar::lists::{Element, rest_of_list};
-use crate::grammar::types::{expect_type, opt_ret_type};
+use crate::grammar::parts::{Part, expect_part};
+use crate::grammar::types::opt_ret_type;
 use parser_events::message::Message;
 use parser_events::parser::{Marker, Parser};
 use parser_input::syntax_kind::SyntaxKind;
@@ -221,7 +220,7 @@ pub(crate) fn generic_args(p: &mut Parser<'_>)
 }
 
 /// Returns `true` if generic arguments are next.
-fn at_generic_args(p: &mut Parser<'_>) -> bool
+pub(crate) fn at_generic_args(p: &mut Parser<'_>) -> bool
     ensures sees { (c : Bool) → Saw c (looks rules.generic_args) p.old result }
     ensures some { IsTrue result → 1 ≤ tokens p.old }
     ensures peeks { Peeks 4 p.old p.new }
@@ -230,18 +229,6 @@ fn at_generic_args(p: &mut Parser<'_>) -> bool
         return true;
     }
     at(p, SyntaxKind::L_ANGLE)
-}
-
-/// Parses optional generic arguments.
-// ::<u8>
-#[cycle(grammar)]
-pub(crate) fn opt_generic_args(p: &mut Parser<'_>)
-    ensures reads { (c : Bool) → Reads c ⁅ GenericArgs ⁆ p.old p.new }
-    ensures asks { Asks 4 p.old p.new }
-{
-    if at_generic_args(p) {
-        generic_args(p);
-    }
 }
 
 /// Parses the optional generic arguments of a segment.
@@ -370,7 +357,7 @@ fn anchor(p: &mut Parser<'_>)
 {
     let node = start(p);
     take(p, SyntaxKind::L_ANGLE);
-    expect_type(p);
+    expect_part(p, Part::Type);
     opt_as_trait(p);
     expect(p, SyntaxKind::R_ANGLE);
     complete(p, node, SyntaxKind::TYPE_ANCHOR);
@@ -385,7 +372,7 @@ fn opt_as_trait(p: &mut Parser<'_>)
 {
     if at(p, SyntaxKind::AS_KW) {
         take(p, SyntaxKind::AS_KW);
-        expect_path_type(p);
+        expect_part(p, Part::PathType);
     }
 }
 

@@ -2,7 +2,6 @@
 
 ghost use Rattle.std.specs.Prelude.{◌≤◌, Bool, true};
 ghost use Rattle.parser_events.specs.Stack.{IsInnermost};
-ghost use Rattle.rust_grammar.specs.Notation.{wide};
 ghost use Rattle.rust_grammar.specs.Patterns as rows;
 ghost use Rattle.rust_grammar.specs.Rule as rules;
 ghost use Rattle.rust_grammar.specs.Whole.{rule};
@@ -78,7 +77,7 @@ fn pattern_atom(p: &mut Parser<'_>)
 /// Parses an optional range operator and the optional end after it. Completes the range pattern.
 // ..=2
 #[cycle(grammar)]
-fn opt_range(p: &mut Parser<'_>, frame: Marker) -> Marker
+pub(crate) fn opt_range(p: &mut Parser<'_>, frame: Marker) -> Marker
     requires innermost { IsInnermost frame p.old.nodes }
     ensures reads { (c : Bool) → Reads c rows.range_tail p.old p.new }
     ensures asks { AsksIn result 2 p.old p.new }

@@ -1,9 +1,9 @@
 //! Patterns.
 
-ghost use Rattle.std.specs.Prelude.{◌≡◌, ◌≤◌, ◌+◌, Bool, true, IsTrue};
+ghost use Rattle.std.specs.Prelude.{◌≡◌, ◌≤◌, ◌+◌, Bool, true, false, IsTrue};
 ghost use Rattle.parser_input.specs.Kinds.{IDENT_PAT, LITERAL_PAT};
 ghost use Rattle.parser_events.specs.Stack.{IsInnermost};
-ghost use Rattle.rust_grammar.specs.Calls.{Literal, Name, SinglePattern};
+ghost use Rattle.rust_grammar.specs.Calls.{Literal, Name};
 ghost use Rattle.rust_grammar.specs.Notation.{◌▸◌, ⁅◌⁆, ◌!, ◌⟨◌⟩, ◌before◌};
 ghost use Rattle.rust_grammar.specs.Rule as rules;
 ghost use Rattle.rust_grammar.specs.Rule.{One};
@@ -14,20 +14,20 @@ ghost use Rattle.rust_productions.specs.Looks.{tokens, spent, Takes, Asks, Peeks
 ghost use Rattle.rust_productions.specs.Reads.{looks, Gives, Reads, Saw};
 ghost use Rattle.rust_productions.specs.Starts.{Starts};
 
-use crate::grammar::lists::{Element, pattern_fields, rest_of_list, tuple_tail};
-use crate::grammar::or_patterns::expect_pattern;
+use crate::grammar::lists::{Element, ListKind, list, rest_of_list, tuple_tail};
+use crate::grammar::parts::{Part, expect_part};
 use crate::grammar::paths::{Mode, path_with_args, qualified_path};
-use crate::grammar::pattern_ranges::range_or_atom;
+use crate::grammar::pattern_ranges::{opt_range, range_or_atom};
 use crate::grammar::types::word_type;
-use parser_events::message::Message;
 use parser_events::parser::{Marker, Parser};
 use parser_input::syntax_kind::SyntaxKind;
+use rust_productions::grammar::const_args::missing_expr_path;
 use rust_productions::grammar::names::{at_literal, expect_literal, expect_name, literal, name};
 use rust_productions::grammar::patterns::at_single_pattern;
 use rust_productions::grammar::token_trees::expect_token_tree;
 use rust_productions::grammar::{
-    abandon, at, at_new, at_pair, at_pair_after, complete, current, eat, error, expect, nth, start,
-    take, take_pair, wrap,
+    abandon, at, at_new, at_pair, at_pair_after, complete, current, eat, nth, start, take,
+    take_pair, wrap,
 };
 
 /// Returns `true` if an identifier is next that is a pattern: before none of `::`, `(`, `{` and
@@ -99,7 +99,7 @@ pub(crate) fn inside(p: &mut Parser<'_>, frame: Marker) -> Marker
             frame
         }
         SyntaxKind::L_BRACK => {
-            slice_pat(p);
+            list(p, ListKind::SlicePattern);
             frame
         }
         SyntaxKind::REF_KW => {
@@ -113,7 +113,7 @@ pub(crate) fn inside(p: &mut Parser<'_>, frame: Marker) -> Marker
         SyntaxKind::L_ANGLE => qualified_pat(p, frame),
         SyntaxKind::L_PAREN => {
             if at_paren_before_dots(p) {
-                tuple_pat(p);
+                list(p, ListKind::TuplePattern);
                 return frame;
             }
             paren_pat(p, frame)
@@ -175,20 +175,6 @@ pub(crate) fn rest_pat(p: &mut Parser<'_>)
     complete(p, node, SyntaxKind::REST_PAT);
 }
 
-/// Parses a pattern without top-level alternatives; emits an error if there is none.
-// (a, ..)
-#[cycle(grammar)]
-pub(crate) fn expect_single(p: &mut Parser<'_>)
-    ensures reads { (c : Bool) → Reads c (SinglePattern !) p.old p.new }
-    ensures asks { Asks 8 p.old p.new }
-{
-    if at_single_pattern(p) {
-        single_pattern(p);
-        return;
-    }
-    error(p, Message::ExpectedPattern);
-}
-
 /// Parses a reference pattern.
 // &mut a
 #[cycle(grammar)]
@@ -200,46 +186,8 @@ fn ref_pat(p: &mut Parser<'_>)
     let node = start(p);
     take(p, SyntaxKind::AMP);
     eat(p, SyntaxKind::MUT_KW);
-    expect_single(p);
+    expect_part(p, Part::SinglePattern);
     complete(p, node, SyntaxKind::REF_PAT);
-}
-
-/// Parses a slice pattern.
-// [a, .., b]
-#[cycle(grammar)]
-fn slice_pat(p: &mut Parser<'_>)
-    requires some { 1 ≤ tokens p.old }
-    ensures reads { (c : Bool) → Reads c rows.slice_pat p.old p.new }
-    ensures takes { Takes 3300 p.old p.new }
-{
-    let node = start(p);
-    take(p, SyntaxKind::L_BRACK);
-    rest_of_list(
-        p,
-        SyntaxKind::SLICE_PAT,
-        Element::Pattern,
-        SyntaxKind::R_BRACK,
-    );
-    complete(p, node, SyntaxKind::SLICE_PAT);
-}
-
-/// Parses a tuple pattern that starts with a rest pattern.
-// (.., a)
-#[cycle(grammar)]
-fn tuple_pat(p: &mut Parser<'_>)
-    requires some { 1 ≤ tokens p.old }
-    ensures reads { (c : Bool) → Reads c rows.tuple_pat p.old p.new }
-    ensures takes { Takes 3300 p.old p.new }
-{
-    let node = start(p);
-    take(p, SyntaxKind::L_PAREN);
-    rest_of_list(
-        p,
-        SyntaxKind::TUPLE_PAT,
-        Element::Pattern,
-        SyntaxKind::R_PAREN,
-    );
-    complete(p, node, SyntaxKind::TUPLE_PAT);
 }
 
 /// Parses the optional subpattern of an identifier pattern.
@@ -251,7 +199,7 @@ fn opt_at(p: &mut Parser<'_>)
 {
     if at(p, SyntaxKind::AT) {
         take(p, SyntaxKind::AT);
-        expect_single(p);
+        expect_part(p, Part::SinglePattern);
     }
 }
 
@@ -327,7 +275,7 @@ fn after_paren(p: &mut Parser<'_>, frame: Marker) -> Marker
         take(p, SyntaxKind::R_PAREN);
         return wrap(p, frame, SyntaxKind::TUPLE_PAT);
     }
-    expect_pattern(p);
+    expect_part(p, Part::Pattern);
     tuple_tail(
         p,
         frame,
@@ -382,7 +330,7 @@ fn after_path(p: &mut Parser<'_>, frame: Marker) -> Marker
         return wrap(p, frame, SyntaxKind::TUPLE_STRUCT_PAT);
     }
     if at(p, SyntaxKind::L_CURLY) {
-        pattern_fields(p);
+        list(p, ListKind::PatternFields);
         return wrap(p, frame, SyntaxKind::RECORD_PAT);
     }
     if at_new(p, SyntaxKind::BANG) {
@@ -391,4 +339,33 @@ fn after_path(p: &mut Parser<'_>, frame: Marker) -> Marker
         return wrap(p, frame, SyntaxKind::MACRO_CALL);
     }
     wrap(p, frame, SyntaxKind::PATH_PAT)
+}
+
+/// Parses a pattern without alternatives, or an error within the nodes of its path if none starts
+/// here.
+// Some(a)
+#[cycle(grammar)]
+pub(crate) fn single_or_missing(p: &mut Parser<'_>)
+    ensures gives { (c : Bool) → Gives rules.single_pattern c p.old p.new }
+    ensures asks { Asks 20 p.old p.new }
+{
+    if at_single_pattern(p) {
+        single_pattern(p);
+        return;
+    }
+    missing_single(p);
+}
+
+/// Parses a pattern where none starts: emits an error within the nodes of its path.
+#[cycle(grammar)]
+fn missing_single(p: &mut Parser<'_>)
+    requires none { (c : Bool) → Saw c (looks rules.single_pattern) p.old false }
+    ensures gives { (c : Bool) → Gives rules.single_pattern c p.old p.new }
+    ensures asks { Asks 12 p.old p.new }
+{
+    let frame = start(p);
+    missing_expr_path(p);
+    let frame = after_path(p, frame);
+    let frame = opt_range(p, frame);
+    abandon(p, frame);
 }

@@ -5,7 +5,8 @@ ghost use Rattle.parser_events.specs.Stack.{IsInnermost};
 ghost use Rattle.rust_grammar.specs.Calls.{BlockLike};
 ghost use Rattle.rust_grammar.specs.Notation.{◌▸◌, ⁅◌⁆, ◌before◌, more, one_of};
 ghost use Rattle.rust_grammar.specs.Rule as rules;
-ghost use Rattle.rust_grammar.specs.Statements.{goes_on, item_begins};
+ghost use Rattle.rust_grammar.specs.Expressions.{goes_on};
+ghost use Rattle.rust_grammar.specs.Statements.{item_begins};
 ghost use Rattle.rust_grammar.specs.Words.{'#', '!', 'fn', 'impl', 'trait'};
 ghost use Rattle.rust_grammar.specs.Statements as rows;
 ghost use Rattle.grammar_reader.specs.Told.{after_block_of, listing_of};
@@ -15,13 +16,13 @@ ghost use Rattle.rust_productions.specs.Starts.{StartsIn};
 
 use crate::grammar::attributes::attribute;
 use crate::grammar::expressions::closures::opt_type;
-use crate::grammar::expressions::control::{block_like, expect_block};
+use crate::grammar::expressions::control::block_like;
 use crate::grammar::expressions::expression;
 use crate::grammar::expressions::operand::{postfix, postfixes};
 use crate::grammar::items::consts::opt_value;
 use crate::grammar::items::item;
 use crate::grammar::list_end::{ListEnd, at_end_of};
-use crate::grammar::or_patterns::expect_pattern;
+use crate::grammar::parts::{Part, expect_part};
 use parser_events::message::Message;
 use parser_events::parser::{Marker, Parser};
 use parser_input::syntax_kind::SyntaxKind;
@@ -114,7 +115,7 @@ fn defer_stmt(p: &mut Parser<'_>)
 {
     let node = start(p);
     take(p, SyntaxKind::DEFER_KW);
-    expect_block(p);
+    expect_part(p, Part::Block);
     complete(p, node, SyntaxKind::DEFER_STMT);
 }
 
@@ -128,7 +129,7 @@ fn let_stmt(p: &mut Parser<'_>)
 {
     let node = start(p);
     take(p, SyntaxKind::LET_KW);
-    expect_pattern(p);
+    expect_part(p, Part::Pattern);
     opt_type(p, false);
     opt_value(p, false);
     opt_else(p);
@@ -158,7 +159,7 @@ fn let_else(p: &mut Parser<'_>)
 {
     let node = start(p);
     take(p, SyntaxKind::ELSE_KW);
-    expect_block(p);
+    expect_part(p, Part::Block);
     complete(p, node, SyntaxKind::LET_ELSE);
 }
 
@@ -200,7 +201,7 @@ fn block_statement(p: &mut Parser<'_>, end: ListEnd)
 
 /// Returns `true` if an expression that ends in a block continues: with a `?`, or with a dot that
 /// starts no range.
-fn at_more(p: &mut Parser<'_>) -> bool
+pub(crate) fn at_more(p: &mut Parser<'_>) -> bool
     ensures sees { (c : Bool) → Saw c goes_on p.old result }
     ensures some { IsTrue result → 1 ≤ tokens p.old }
     ensures peeks { Peeks 3 p.old p.new }

@@ -4,7 +4,7 @@ ghost use Rattle.std.specs.Prelude.{◌≡◌, ◌≢◌, ◌≤◌, ◌+◌, Bo
 ghost use Rattle.parser_input.specs.Kind.{raw_of};
 ghost use Rattle.parser_input.specs.Kinds as kinds;
 ghost use Rattle.parser_events.specs.Stack.{IsInnermost};
-ghost use Rattle.rust_grammar.specs.Calls.{AnyType, Bounds, Lifetime, RetType, TypeNoBounds};
+ghost use Rattle.rust_grammar.specs.Calls.{AnyType, Bounds, RetType};
 ghost use Rattle.rust_grammar.specs.Notation.{◌▸◌, ⁅◌⁆, ◌!, ◌⟨◌⟩, wide};
 ghost use Rattle.rust_grammar.specs.Rule as rules;
 ghost use Rattle.rust_grammar.specs.Rule.{One};
@@ -22,16 +22,14 @@ use crate::grammar::fn_pointers::fn_ptr_type;
 use crate::grammar::generic_params::{bounds, for_binder, further_bounds, opt_bound};
 use crate::grammar::lists::{Element, tuple_tail};
 use crate::grammar::new_bounds::lifetime_bound;
+use crate::grammar::parts::{Part, expect_part};
 use crate::grammar::paths::{Mode, path_with_args, qualified_path};
-use parser_events::message::Message;
 use parser_events::parser::{Marker, Parser};
 use parser_input::syntax_kind::SyntaxKind;
 use rust_productions::grammar::names::opt_lifetime;
 use rust_productions::grammar::paths::at_macro_call;
 use rust_productions::grammar::token_trees::expect_token_tree;
-use rust_productions::grammar::types::{
-    at_bare_type, at_dyn_word, at_fn_ptr, at_new_type, at_type, at_type_no_bounds,
-};
+use rust_productions::grammar::types::{at_bare_type, at_dyn_word, at_fn_ptr, at_new_type};
 use rust_productions::grammar::{
     abandon, at, at_pair, complete, current, eat, error, expect, start, take, take_pair, wrap,
 };
@@ -127,20 +125,6 @@ fn bare_or_any(p: &mut Parser<'_>, frame: Marker) -> Marker
     inside(p, frame)
 }
 
-/// Parses a type without bounds after it; emits an error if there is none.
-// u8
-#[cycle(grammar)]
-pub(crate) fn expect_type_no_bounds(p: &mut Parser<'_>)
-    ensures reads { (c : Bool) → Reads c (TypeNoBounds !) p.old p.new }
-    ensures asks { Asks 24 p.old p.new }
-{
-    if at_type_no_bounds(p) {
-        type_no_bounds(p);
-        return;
-    }
-    error(p, Message::ExpectedType);
-}
-
 /// Parses a type that only the whole language has, or that may have bounds after it there, within
 /// `frame`.
 // A + Send
@@ -206,7 +190,7 @@ fn for_type(p: &mut Parser<'_>)
 {
     let node = start(p);
     for_binder(p);
-    expect_type_no_bounds(p);
+    expect_part(p, Part::TypeNoBounds);
     complete(p, node, SyntaxKind::FOR_TYPE);
 }
 
@@ -313,20 +297,6 @@ pub(crate) fn path_type(p: &mut Parser<'_>)
     complete(p, node, SyntaxKind::PATH_TYPE);
 }
 
-/// Parses a type; emits an error if there is none.
-// u8
-#[cycle(grammar)]
-pub(crate) fn expect_type(p: &mut Parser<'_>)
-    ensures reads { (c : Bool) → Reads c (AnyType !) p.old p.new }
-    ensures asks { Asks 16 p.old p.new }
-{
-    if at_type(p) {
-        any_type(p);
-        return;
-    }
-    error(p, Message::ExpectedType);
-}
-
 /// Parses a raw pointer type.
 // *const u8
 #[cycle(grammar)]
@@ -338,7 +308,7 @@ fn ptr_type(p: &mut Parser<'_>)
     let node = start(p);
     take(p, SyntaxKind::STAR);
     const_or_mut(p);
-    expect_type_no_bounds(p);
+    expect_part(p, Part::TypeNoBounds);
     complete(p, node, SyntaxKind::PTR_TYPE);
 }
 
@@ -367,7 +337,7 @@ fn ref_type(p: &mut Parser<'_>)
     take(p, SyntaxKind::AMP);
     opt_lifetime(p);
     eat(p, SyntaxKind::MUT_KW);
-    expect_type_no_bounds(p);
+    expect_part(p, Part::TypeNoBounds);
     complete(p, node, SyntaxKind::REF_TYPE);
 }
 
@@ -396,7 +366,7 @@ fn after_paren(p: &mut Parser<'_>, frame: Marker) -> Marker
         take(p, SyntaxKind::R_PAREN);
         return wrap(p, frame, SyntaxKind::TUPLE_TYPE);
     }
-    expect_type(p);
+    expect_part(p, Part::Type);
     tuple_tail(
         p,
         frame,
@@ -416,7 +386,7 @@ fn bracket_type(p: &mut Parser<'_>, frame: Marker) -> Marker
     ensures takes { TakesIn result 3200 p.old p.new }
 {
     take(p, SyntaxKind::L_BRACK);
-    expect_type(p);
+    expect_part(p, Part::Type);
     after_element(p, frame)
 }
 
@@ -460,7 +430,7 @@ pub(crate) fn ret_type(p: &mut Parser<'_>)
 {
     let node = start(p);
     take_pair(p, SyntaxKind::THIN_ARROW);
-    expect_type_no_bounds(p);
+    expect_part(p, Part::TypeNoBounds);
     complete(p, node, SyntaxKind::RET_TYPE);
 }
 
@@ -486,6 +456,6 @@ pub(crate) fn opt_type_after(p: &mut Parser<'_>, word: SyntaxKind)
 {
     if at(p, word) {
         take(p, word);
-        expect_type(p);
+        expect_part(p, Part::Type);
     }
 }

@@ -1,11 +1,12 @@
-//! What the parser sees.
+//! The input of the parser.
 use parser_input::{Edition, Input, LexedStr, SyntaxKind};
 use std::alloc::{AllocError, Global};
 
-/// What stands at a place of an input.
+/// An index of an input, with the token there: its kind, its contextual kind, and whether it is
+/// joint.
 type Place = (usize, SyntaxKind, SyntaxKind, bool);
 
-/// What the parser sees of a token: its kind, its contextual kind, and whether it is joint.
+/// A token of an input: its kind, its contextual kind, and whether it is joint.
 type Seen = (SyntaxKind, SyntaxKind, bool);
 
 const THREE: &[Place] = &[
@@ -52,7 +53,7 @@ fn an_input_of_three_tokens(rt: HostRuntime) -> Result<(), AllocError> {
     Ok(())
 }
 
-// Whether the input has these tokens and no other.
+// Returns `true` if the input has exactly these tokens.
 fn has(input: &Input, tokens: &[Seen]) -> bool {
     let mut same = input.len() == tokens.len();
     for (i, (kind, contextual, joint)) in tokens.iter().enumerate() {
@@ -61,7 +62,7 @@ fn has(input: &Input, tokens: &[Seen]) -> bool {
     same
 }
 
-// Returns `true` if no token of the input says `!whole`.
+// Returns `true` if the flag of each token of the input is `whole`, and that of its end is unset.
 fn is_all_whole(input: &Input, whole: bool) -> bool {
     let mut same = !input.is_whole(input.len());
     for i in 0..input.len() {
@@ -88,7 +89,7 @@ fn sees_in(
     )
 }
 
-// What the parser sees of a text, token by token.
+// Returns `true` if the input of a text in edition 2015 has these tokens, by either grammar.
 fn sees(alloc: Global, text: &str, tokens: &[Seen]) -> Result<bool, AllocError> {
     sees_in(alloc, Edition::Edition2015, text, tokens)
 }
@@ -235,7 +236,8 @@ fn push_pipe_is_not_joint(rt: HostRuntime) -> Result<(), AllocError> {
     Ok(())
 }
 
-// Returns `true` if two texts have equal inputs.
+// Returns `true` if two texts have equal inputs, and these differ from the input for the whole
+// language unless the text is empty.
 fn are_equal(alloc: Global, edition: Edition, one: &str, other: &str) -> Result<bool, AllocError> {
     let one = LexedStr::new(alloc, edition, one)?;
     let other = LexedStr::new(alloc, edition, other)?;

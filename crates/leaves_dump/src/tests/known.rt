@@ -7,14 +7,14 @@ use parser_input::{Edition, LexedStr};
 use rustc_lexer::{Token, tokenize};
 use std::alloc::{AllocError, Global};
 
-// The tokens of a text.
+// Returns the tokens of a text.
 fn tokens_of(alloc: Global, text: &str) -> Result<Vec<Token>, AllocError>
     ensures { IfOk result (λ tokens. tokens.items ≡ token_list (chars text.now)) }
 {
     tokenize(text).collect(alloc)
 }
 
-// Whether a text has the same leaves where its tokens are given.
+// Returns `true` if a text with given tokens has the expected leaves.
 fn reads_alike(alloc: Global, text: &str) -> Result<bool, AllocError> {
     let Ok(source) = ScriptSource::parse(text) else {
         return Ok(false);

@@ -1,15 +1,16 @@
-//! Leaves and what is wrong with them.
+//! Leaves and their errors.
 use parser_input::{Edition, LexedStr, SyntaxKind};
 use std::alloc::{AllocError, Global};
 
-/// What is wrong with a leaf, after its number.
+/// The index of a leaf, and its error.
 type Wrong = (usize, &'static str);
 
 fn is_wrong(messages: &[Wrong], place: usize, wrong: Wrong) -> bool {
     place < messages.len() && messages[place] == wrong
 }
 
-// The count of messages up to after a leaf, where it is of this kind and has the next message or none.
+// Returns the number of errors up to and including this leaf, or `None` if the leaf is of another
+// kind or has another error than the next one.
 fn read_leaf(
     lexed: &LexedStr<'_>,
     leaf: usize,
@@ -42,7 +43,7 @@ fn has_size(lexed: &LexedStr<'_>, text: &str, count: usize) -> bool {
     (lexed.as_str() == text) & (lexed.len() == count) & (lexed.is_empty() == (count == 0))
 }
 
-// The kinds of the leaves and the messages, each after the number of its leaf.
+// Returns `true` if a text has leaves of these kinds, and exactly these errors.
 fn reads(
     alloc: Global,
     edition: Edition,
@@ -139,7 +140,7 @@ fn prefaces_are_leaves(rt: HostRuntime) -> Result<(), AllocError> {
     Ok(())
 }
 
-/// A text that is one leaf, and what is wrong with it.
+/// A text that is one leaf, its kind, and its error.
 type Single = (&'static str, SyntaxKind, Option<&'static str>);
 
 fn is_single(alloc: Global, (text, kind, message): &Single) -> Result<bool, AllocError> {
@@ -211,7 +212,7 @@ fn messages_by_the_table(rt: HostRuntime) -> Result<(), AllocError> {
     Ok(())
 }
 
-/// A leaf's number, start, end and text.
+/// The index of a leaf, its start, its end, and its text.
 type Place = (usize, usize, usize, &'static str);
 
 const PLACES: &[Place] = &[

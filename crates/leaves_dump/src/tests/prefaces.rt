@@ -41,7 +41,7 @@ fn a_shebang_and_a_frontmatter(rt: HostRuntime) {
 /// A text without a frontmatter, its shebang and its content.
 type Bare = (&'static str, Option<&'static str>, &'static str);
 
-// A front without a line feed is not passed over, and an attribute is no shebang.
+// Leading whitespace is skipped only if a line feed ends it, and an attribute is no shebang.
 const BARE: &[Bare] = &[
     ("", None, ""),
     ("struct S;", None, "struct S;"),
@@ -82,7 +82,8 @@ type Front = (
     &'static str,
 );
 
-// White space around the info goes, other lines of dashes are passed over, and a carriage return is no part of a line.
+// Whitespace around the info is dropped, other lines that start with dashes are skipped, and a
+// carriage return is not part of a line.
 const FRONTS: &[Front] = &[
     ("---\n---\nstruct S;", None, "", "struct S;"),
     ("---\n---", None, "", ""),
@@ -116,7 +117,7 @@ fn frontmatters_by_their_lines(rt: HostRuntime) {
     }
 }
 
-/// A text, whether it has too few dashes, and where the dashes are that are wrong.
+/// A text, whether its error is too few dashes, and the start and the end of those dashes.
 type Refused = (&'static str, bool, usize, usize);
 
 const REFUSED: &[Refused] = &[

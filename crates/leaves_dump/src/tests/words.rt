@@ -140,7 +140,7 @@ fn keywords_of_each_edition(rt: HostRuntime) {
     }
 }
 
-/// When a word is one.
+/// The editions in which a word is a keyword.
 #[derive(Clone, Copy, PartialEq, Eq)]
 enum When {
     Always,

@@ -16,7 +16,7 @@ fn what_is_found_is_mapped(rt: HostRuntime) {
     assert!(rt; (leave == WalkEvent::Leave(3)) & (left == Some(3)) & (right == Some(4)));
 }
 
-/// What is asked.
+/// A question about a tree.
 #[derive(Clone, Copy)]
 enum Ask {
     TokensAt(u32),
@@ -36,10 +36,10 @@ enum Ask {
     NotFound,
 }
 
-/// A question, and what must be written for its answer.
+/// A question and the expected answer.
 type Row = (Ask, &'static str);
 
-/// The tokens that touch an offset.
+/// Appends the tokens that touch `offset`.
 fn tokens_at(alloc: Global, out: &mut String, root: &Node, offset: u32) -> Result<(), Fail> {
     let range = root.text_range();
     if (offset < range.start().0) | (range.end().0 < offset) {
@@ -59,7 +59,7 @@ fn covering(alloc: Global, out: &mut String, root: &Node, range: TextRange) -> R
     show_item(alloc, out, root.covering_element(alloc, range))
 }
 
-/// The first range that two numbers tell.
+/// Returns the range from `start` to `end`, or the empty range at `start` if `end` is less.
 fn range(start: u32, end: u32) -> TextRange {
     if end < start {
         return TextRange::empty(TextSize(start));
@@ -110,7 +110,8 @@ fn show_list(alloc: Global, out: &mut String, list: Option<ListNode>) -> Result<
     }
 }
 
-/// The tree with a list emptied, and the list as it was.
+/// Appends the text of the tree after `node`, a list, is replaced with an empty one, and the text
+/// of `node`, which is unchanged.
 fn replaced_node(alloc: Global, out: &mut String, node: &Node) -> Result<(), Fail> {
     let empty = green(alloc, "( )")?;
     if node.green().kind().0 != empty.kind().0 {
@@ -142,7 +143,7 @@ fn not_found(alloc: Global, out: &mut String, root: &Node) -> Result<(), Fail> {
     }
 }
 
-/// What a pointer to a list finds in a tree.
+/// Appends the node that a pointer to `list` finds in the tree of `root`, or the error.
 fn typed_found_in(
     alloc: Global,
     out: &mut String,
@@ -160,7 +161,7 @@ fn show_not_found(alloc: Global, out: &mut String, error: CursorError) -> Result
     Ok(out.push_str(word.as_str())?)
 }
 
-/// A pointer to a list of another tree.
+/// Looks up a pointer to `list` in another tree.
 fn typed_not_found(alloc: Global, out: &mut String, list: Node) -> Result<(), Fail> {
     let Some(list) = ListNode::cast(list) else {
         return Ok(out.push_str("no list ")?);
@@ -281,7 +282,8 @@ fn finding(rt: HostRuntime) -> Result<(), Fail> {
     Ok(())
 }
 
-/// Whether a pointer to the first list reads its node, and equals the plain pointer that is cast to one.
+/// Returns `true` if a pointer to the first list has its kind and range, and equals the untyped
+/// pointer after a cast.
 fn pointers_agree(list: &ListNode) -> bool {
     let pointer = AstPtr::new(list);
     let reads = (pointer.kind() == Kind(2)) & (pointer.text_range().start().0 == 2);
@@ -290,7 +292,7 @@ fn pointers_agree(list: &ListNode) -> bool {
     reads & alike & (plain == Some(pointer))
 }
 
-/// Whether pointers to a list are cast to one, and a root is none.
+/// Returns `true` if `list` and pointers to it cast to a list, and `root` does not.
 fn casts_by_kind(list: Node, root: Node) -> bool {
     let can = ListNode::can_cast(Kind(2)) & !ListNode::can_cast(Kind(1));
     let none = ListNode::cast(root).is_none();

@@ -1,4 +1,4 @@
-//! Trees as they are printed for those who look at them.
+//! Debug output of trees.
 use super::{Node, tree};
 use rowan::SyntaxNode;
 use rowan_green::{GreenError, GreenNode, GreenNodeBuilder, SyntaxKind};
@@ -19,7 +19,7 @@ fn elements_have_a_line_each(rt: HostRuntime) -> Result<(), Fail> {
     Ok(())
 }
 
-/// A root with one token.
+/// Returns a root with one token.
 fn one(alloc: Global, text: &str) -> Result<GreenNode, GreenError> {
     let mut builder = GreenNodeBuilder::new(alloc);
     builder.start_node(SyntaxKind(1))?;
@@ -36,7 +36,7 @@ fn line_of(alloc: Global, text: &str) -> Result<String, Fail> {
     Ok(root.debug_tree(alloc)?)
 }
 
-/// A token's text, and what its line ends with.
+/// The text of a token, and the expected line.
 const CUT: &[(&str, &str)] = &[
     (
         "abcdefghijklmnopqrstuvwx",

@@ -1,4 +1,4 @@
-//! Steps from nodes, tokens and elements to those next to them.
+//! Steps from nodes, tokens and elements to their neighbours.
 use super::{Element, Node, SAMPLE, Token, comma, first_list, hash_of, show_all, show_item, tree};
 use crate::Kind;
 use rowan::{Direction, ElementExt};
@@ -6,7 +6,7 @@ use rowan_green::NodeOrToken;
 use std::alloc::{AllocError, Global};
 use std::test::Fail;
 
-/// What is asked of the sample.
+/// A question about the sample.
 #[derive(Clone, Copy)]
 enum Ask {
     ChildSteps,
@@ -26,7 +26,7 @@ enum Ask {
     EmptyNodes,
 }
 
-/// A question, and what must be written for its answer.
+/// A question and the expected answer.
 type Row = (Ask, &'static str);
 
 fn child_steps(alloc: Global, out: &mut String, node: &Node) -> Result<(), Fail> {
@@ -57,7 +57,7 @@ fn element_steps(alloc: Global, out: &mut String, element: &Element) -> Result<(
     show_item(alloc, out, element.tree_top())
 }
 
-/// The tokens around the second of a node, and its last.
+/// Appends the neighbours of the second token of `node`, and its last token.
 fn tokens(alloc: Global, out: &mut String, node: &Node) -> Result<(), Fail> {
     match node.first_token(alloc)? {
         Some(first) => tokens_from(alloc, out, &first)?,
@@ -202,7 +202,7 @@ fn steps(rt: HostRuntime) -> Result<(), Fail> {
     Ok(())
 }
 
-/// The kind, the number and the start of a token, where both its texts are this.
+/// Returns the kind, the index and the start of `token` if its text and its green text are `text`.
 fn reading(token: &Token, text: &str) -> Option<(Kind, usize, u32)> {
     let same = (token.text() == text) & (token.green().text() == text);
     same.then_some((token.kind(), token.index(), token.text_range().start().0))
@@ -224,14 +224,15 @@ fn readings(rt: HostRuntime) -> Result<(), Fail> {
     Ok(())
 }
 
-/// Whether two nodes are equal and hash alike, and neither is the first one's subtree.
+/// Returns `true` if two nodes are equal and hash alike, and differ from a copy of the subtree of
+/// the first.
 fn nodes_agree(alloc: Global, node: &Node, same: &Node) -> Result<bool, AllocError> {
     let subtree = node.clone_subtree(alloc)?;
     let alike = (node == same) & (hash_of(node) == hash_of(same));
     Ok(alike & (subtree != *node) & (subtree.index() == 0) & (node.index() == 1))
 }
 
-/// Whether two tokens are equal and hash alike, and the next one is another.
+/// Returns `true` if two tokens are equal and hash alike, and the next token differs from them.
 fn tokens_agree(alloc: Global, token: &Token, same: &Token) -> Result<bool, AllocError> {
     let alike = (token == same) & (hash_of(token) == hash_of(same));
     match token.next_token(alloc)? {

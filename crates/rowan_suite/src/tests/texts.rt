@@ -1,4 +1,4 @@
-//! Texts of nodes: what is found in them, their pieces, and when two are equal.
+//! Texts of nodes: search, pieces, and equality.
 use super::{Node, first_list, tree};
 use crate::Lists;
 use rowan::{SyntaxNode, SyntaxText};
@@ -6,7 +6,7 @@ use rowan_green::{GreenError, GreenNode, GreenNodeBuilder, SyntaxKind, TextRange
 use std::alloc::{AllocError, Global};
 use std::test::Fail;
 
-/// A root with these tokens, which a space parts.
+/// Returns a root with the tokens of `pieces`, which are separated by spaces.
 fn flat(alloc: Global, pieces: &str) -> Result<GreenNode, GreenError> {
     let mut builder = GreenNodeBuilder::new(alloc);
     put_flat(&mut builder, pieces)?;
@@ -24,13 +24,13 @@ fn put_flat(builder: &mut GreenNodeBuilder<'_>, pieces: &str) -> Result<(), Gree
     builder.finish_node()
 }
 
-/// The text of that root.
+/// Returns the text of that root.
 fn text_of(alloc: Global, pieces: &str) -> Result<SyntaxText, GreenError> {
     let root: SyntaxNode<Lists> = SyntaxNode::new_root(alloc, flat(alloc, pieces)?)?;
     Ok(root.text()?)
 }
 
-/// What is asked of a text.
+/// A question about a text.
 #[derive(Clone, Copy)]
 enum Ask {
     Find(char),
@@ -44,7 +44,7 @@ enum Ask {
     Shown,
 }
 
-/// Pieces, a question of their text, and what must be written for its answer.
+/// Pieces, a question about their text, and the expected answer.
 type Row = (&'static str, Ask, &'static str);
 
 fn show_number(alloc: Global, number: u64) -> Result<String, AllocError> {
@@ -69,7 +69,7 @@ fn show_test(alloc: Global, holds: bool) -> Result<String, AllocError> {
     String::from_str(alloc, if holds { "yes" } else { "no" })
 }
 
-/// The pieces, each after a bar.
+/// Returns the pieces, each after a bar.
 fn show_pieces(alloc: Global, text: &SyntaxText) -> Result<String, AllocError> {
     let mut out = String::new(alloc);
     text.try_for_each_chunk(|piece| {
@@ -85,7 +85,8 @@ fn count_of_pieces(text: &SyntaxText) -> u64 {
     count
 }
 
-/// The length of what stands before a piece, or of all.
+/// Returns the length of the text before the first piece `stop`, or of the whole text if there is
+/// none.
 fn length_before(text: &SyntaxText, stop: &str) -> u64 {
     let folded = text.try_fold_chunks(0u64, |total, piece| {
         if piece == stop {
@@ -162,7 +163,7 @@ fn texts_are_read(rt: HostRuntime) -> Result<(), Fail> {
     Ok(())
 }
 
-/// The length of a node's text, and of the part of it that stands at its end and is empty.
+/// Returns the length of the text of `node`, and of the empty slice at its end.
 fn text_lengths(node: &Node) -> Result<(u32, u32), AllocError> {
     let text = node.text()?;
     let end = text.slice(TextRange::empty(text.len()))?;
@@ -180,7 +181,7 @@ fn texts(rt: HostRuntime) -> Result<(), Fail> {
     Ok(())
 }
 
-/// Two trees, and whether they have one text.
+/// Two trees, and whether their texts are equal.
 type Pair = (&'static str, &'static str, bool);
 
 fn tree_text(alloc: Global, words: &str) -> Result<SyntaxText, GreenError> {

@@ -5,7 +5,7 @@ use rowan::{Preorder, PreorderWithTokens};
 use std::alloc::{AllocError, Global};
 use std::test::Fail;
 
-/// What is asked of the first list of the sample.
+/// A question about the first list of the sample.
 #[derive(Clone, Copy)]
 enum Ask {
     WithTokens,
@@ -16,10 +16,10 @@ enum Ask {
     SkippedWalk,
 }
 
-/// A question, and what must be written for its answer.
+/// A question and the expected answer.
 type Row = (Ask, &'static str);
 
-/// A walk from after the subtree of the second element on.
+/// Returns the rest of a walk after the subtree of its second element.
 fn after_second(
     mut walk: PreorderWithTokens<Lists>,
 ) -> Result<PreorderWithTokens<Lists>, AllocError> {

@@ -161,6 +161,22 @@ impl Document {
         Ok(self.accept(alloc, clean, ids)?)
     }
 
+    /// Returns the text that [`Document::commit`] of `editor` would make, if it would accept it. It
+    /// changes nothing.
+    ///
+    /// # Errors
+    ///
+    /// As of [`Document::commit`], but never [`CommitError::NoTreeNumber`].
+    pub fn try_commit(&self, alloc: Global, editor: &SyntaxEditor) -> Result<String, CommitError>
+        ensures accepted { OnOk result (verdict self.now editor.now ≡ Accepted) }
+        ensures text { IfOk result (λ text. string_bytes text ≡ tree_text (rewritten editor.now)) }
+        ensures refused { IfErr result (λ error. (number : ℕ)
+            → RefusesCommit (verdict self.now editor.now) number error) }
+    {
+        let rewritten = self.rewritten(alloc, editor)?;
+        Ok(rewritten.text)
+    }
+
     /// Returns the first difference between the rewritten tree of `editor` and the reading of its
     /// text, whitespace and comments aside; `None` exactly if `commit` would find the new text to
     /// read as the rewritten tree. Nodes are compared by kind, then their children; tokens by kind and

@@ -9,10 +9,12 @@ ghost use Rattle.rust_grammar.specs.Rule.{begins};
 ghost use Rattle.rust_grammar.specs.Expressions as rows;
 ghost use Rattle.rust_productions.specs.Reads.{looks, Saw};
 
+use crate::grammar::expression_words::{at_new_atom, at_new_block};
 use crate::grammar::names::at_literal;
-use crate::grammar::operators::range_mark;
+use crate::grammar::operands::at_new_mark;
+use crate::grammar::operators::{at_joint, range_mark};
 use crate::grammar::paths::at_path;
-use crate::grammar::{at, at_pair, at_second, at_third, current};
+use crate::grammar::{at, at_second, at_third, at_whole, current};
 use parser_events::parser::Parser;
 use parser_input::syntax_kind::SyntaxKind;
 
@@ -53,20 +55,36 @@ fn at_let(p: &mut Parser<'_>, condition: bool) -> bool
 pub fn at_block_like(p: &mut Parser<'_>) -> bool
     ensures sees { (c : Bool) → Saw c (looks rules.block_like) p.old result }
     ensures some { IsTrue result → 1 ≤ tokens p.old }
-    ensures peeks { Peeks 4 p.old p.new }
+    ensures peeks { Peeks 5 p.old p.new }
 {
-    if at_macro_block(p) {
-        return true;
-    }
     match current(p) {
         SyntaxKind::L_CURLY
         | SyntaxKind::UNSAFE_KW
         | SyntaxKind::IF_KW
         | SyntaxKind::WHILE_KW
         | SyntaxKind::LOOP_KW
-        | SyntaxKind::FOR_KW
         | SyntaxKind::MATCH_KW => true,
-        _ => false,
+        SyntaxKind::FOR_KW => {
+            if !at_whole(p) {
+                return true;
+            }
+            if at_second(p, SyntaxKind::L_ANGLE) {
+                return false;
+            }
+            true
+        }
+        SyntaxKind::IDENT => {
+            if at_macro_block(p) {
+                return true;
+            }
+            false
+        }
+        _ => {
+            if at_new_block(p) {
+                return true;
+            }
+            false
+        }
     }
 }
 
@@ -74,7 +92,7 @@ pub fn at_block_like(p: &mut Parser<'_>) -> bool
 pub(crate) fn at_atom(p: &mut Parser<'_>, condition: bool) -> bool
     ensures sees { Saw condition (looks rules.atom) p.old result }
     ensures some { IsTrue result → 1 ≤ tokens p.old }
-    ensures peeks { Peeks 10 p.old p.new }
+    ensures peeks { Peeks 14 p.old p.new }
 {
     if at_path(p) {
         return true;
@@ -83,6 +101,9 @@ pub(crate) fn at_atom(p: &mut Parser<'_>, condition: bool) -> bool
         return true;
     }
     if at_block_like(p) {
+        return true;
+    }
+    if at_new_atom(p) {
         return true;
     }
     if at_let(p, condition) {
@@ -104,13 +125,25 @@ pub(crate) fn at_atom(p: &mut Parser<'_>, condition: bool) -> bool
 pub fn at_operand(p: &mut Parser<'_>, condition: bool) -> bool
     ensures sees { Saw condition (looks rules.prefixed) p.old result }
     ensures some { IsTrue result → 1 ≤ tokens p.old }
-    ensures peeks { Peeks 11 p.old p.new }
+    ensures peeks { Peeks 16 p.old p.new }
 {
     if at_atom(p, condition) {
         return true;
     }
     match current(p) {
         SyntaxKind::MINUS | SyntaxKind::BANG | SyntaxKind::STAR | SyntaxKind::AMP => true,
+        SyntaxKind::DOT => {
+            if !at_whole(p) {
+                return false;
+            }
+            if !at_joint(p) {
+                return false;
+            }
+            if at_second(p, SyntaxKind::DOT) {
+                return true;
+            }
+            false
+        }
         _ => false,
     }
 }
@@ -119,7 +152,7 @@ pub fn at_operand(p: &mut Parser<'_>, condition: bool) -> bool
 pub fn at_operation(p: &mut Parser<'_>, condition: bool) -> bool
     ensures sees { Saw condition (looks rules.operation) p.old result }
     ensures some { IsTrue result → 1 ≤ tokens p.old }
-    ensures peeks { Peeks 14 p.old p.new }
+    ensures peeks { Peeks 19 p.old p.new }
 {
     match range_mark(p) {
         Some(_) => true,
@@ -131,7 +164,7 @@ pub fn at_operation(p: &mut Parser<'_>, condition: bool) -> bool
 pub fn at_expression(p: &mut Parser<'_>, condition: bool) -> bool
     ensures sees { Saw condition (looks rules.expression) p.old result }
     ensures some { IsTrue result → 1 ≤ tokens p.old }
-    ensures peeks { Peeks 14 p.old p.new }
+    ensures peeks { Peeks 19 p.old p.new }
 {
     at_operation(p, condition)
 }
@@ -147,14 +180,18 @@ pub fn at_body(p: &mut Parser<'_>, condition: bool) -> bool
     at(p, SyntaxKind::L_CURLY)
 }
 
-/// Returns `true` if the end of a range starts here. In a condition a `{` starts none.
+/// Returns `true` if the end of a range starts here. In a condition a `{` starts none, and in the
+/// whole language a range operator starts none.
 pub fn at_range_operand(p: &mut Parser<'_>, condition: bool) -> bool
     ensures sees { Saw condition (begins looks rows.range_operand) p.old result }
     ensures operand { IsTrue result → Saw condition (looks rules.prefixed) p.old true }
     ensures some { IsTrue result → 1 ≤ tokens p.old }
-    ensures peeks { Peeks 12 p.old p.new }
+    ensures peeks { Peeks 19 p.old p.new }
 {
     if at_body(p, condition) {
+        return false;
+    }
+    if at_new_mark(p) {
         return false;
     }
     at_operand(p, condition)

@@ -5,9 +5,9 @@ ghost use Rattle.rust_productions.specs.Looks.{tokens, Peeks};
 ghost use Rattle.rust_grammar.specs.Rule as rules;
 ghost use Rattle.rust_productions.specs.Reads.{looks, Saw};
 
-use crate::grammar::at_pair;
 use crate::grammar::paths::at_path;
 use crate::grammar::patterns::at_named_field;
+use crate::grammar::{at_new, at_pair};
 use parser_events::parser::Parser;
 use parser_input::syntax_kind::SyntaxKind;
 
@@ -15,8 +15,11 @@ use parser_input::syntax_kind::SyntaxKind;
 pub fn at_field_value(p: &mut Parser<'_>) -> bool
     ensures sees { (c : Bool) → Saw c (looks rules.field_value) p.old result }
     ensures some { IsTrue result → 1 ≤ tokens p.old }
-    ensures peeks { Peeks 7 p.old p.new }
+    ensures peeks { Peeks 8 p.old p.new }
 {
+    if at_new(p, SyntaxKind::POUND) {
+        return true;
+    }
     if at_path(p) {
         return true;
     }

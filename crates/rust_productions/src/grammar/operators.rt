@@ -4,11 +4,13 @@ ghost use Rattle.std.specs.Prelude.{◌≡◌, ◌≢◌, ◌≤◌, Bool, IsTru
 ghost use Rattle.parser_input.specs.Kind.{raw_of};
 ghost use Rattle.parser_input.specs.Kinds as kinds;
 ghost use Rattle.rust_grammar.specs.Rule.{Both, Joint, Kind, One, spelled_at};
+ghost use Rattle.rust_grammar.specs.Expressions.{mark_begins};
 ghost use Rattle.rust_grammar.specs.Words.{'|>'};
 ghost use Rattle.rust_productions.specs.Layers.{operators_at};
 ghost use Rattle.rust_productions.specs.Looks.{tokens, Takes, Peeks, Stays};
 ghost use Rattle.rust_productions.specs.Operators.{IsMark, IsNext, spelling_of};
 ghost use Rattle.rust_productions.specs.Reads.{Does, Reads, Saw};
+ghost use Rattle.rust_productions.specs.Starts.{Starts};
 
 use crate::grammar::{at, at_contextual, at_second, at_third, current};
 use parser_events::parser::Parser;
@@ -125,6 +127,18 @@ pub fn range_mark(p: &mut Parser<'_>) -> Option<RangeMark>
         return Some(RangeMark::Inclusive);
     }
     Some(RangeMark::Exclusive)
+}
+
+/// Returns the range operator that is next, where one is.
+pub fn present_mark(p: &mut Parser<'_>) -> RangeMark
+    requires { Starts mark_begins p.old }
+    ensures mark { IsMark (Some result) p.old }
+    ensures peeks { Peeks 1 p.old p.new }
+{
+    if at_joined_after(p, SyntaxKind::EQ) {
+        return RangeMark::Inclusive;
+    }
+    RangeMark::Exclusive
 }
 
 /// Takes the range operator that is next.

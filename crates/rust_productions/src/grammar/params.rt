@@ -2,14 +2,16 @@
 
 ghost use Rattle.std.specs.Prelude.{◌≤◌, Bool, IsTrue};
 ghost use Rattle.rust_productions.specs.Looks.{tokens, Peeks};
+ghost use Rattle.rust_grammar.specs.Expressions.{closure_param};
 ghost use Rattle.rust_grammar.specs.Items as rows;
 ghost use Rattle.rust_grammar.specs.Notation.{wide};
 ghost use Rattle.rust_grammar.specs.Rule as rules;
+ghost use Rattle.rust_grammar.specs.Rule.{begins};
 ghost use Rattle.rust_grammar.specs.Shared.{dots_dot};
 ghost use Rattle.rust_productions.specs.Reads.{looks, Saw};
 
-use crate::grammar::patterns::at_pattern;
-use crate::grammar::{at, at_dots_dot, at_whole};
+use crate::grammar::patterns::{at_pattern, at_single_pattern};
+use crate::grammar::{at, at_dots_dot, at_new, at_whole};
 use parser_events::parser::Parser;
 use parser_input::syntax_kind::SyntaxKind;
 
@@ -55,6 +57,21 @@ pub fn at_new_dots(p: &mut Parser<'_>) -> bool
         return false;
     }
     if at_dots_dot(p) {
+        return true;
+    }
+    false
+}
+
+/// Returns `true` if a parameter of a closure starts here.
+pub fn at_closure_param(p: &mut Parser<'_>) -> bool
+    ensures sees { (c : Bool) → Saw c (begins looks closure_param) p.old result }
+    ensures some { IsTrue result → 1 ≤ tokens p.old }
+    ensures peeks { Peeks 9 p.old p.new }
+{
+    if at_new(p, SyntaxKind::POUND) {
+        return true;
+    }
+    if at_single_pattern(p) {
         return true;
     }
     false

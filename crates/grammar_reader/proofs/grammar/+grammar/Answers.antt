@@ -22,6 +22,7 @@ mod NewItems
 mod NewParams
 mod Operand
 mod Params
+mod Parts
 mod Paths
 mod PatternRanges
 mod Patterns
@@ -51,6 +52,7 @@ use Rattle.grammar_reader.proofs.grammar.+grammar.Answers.NewBounds as new_bound
 use Rattle.grammar_reader.proofs.grammar.+grammar.Answers.NewParams as new_params
 use Rattle.grammar_reader.proofs.grammar.+grammar.Answers.Operand as operand
 use Rattle.grammar_reader.proofs.grammar.+grammar.Answers.Params as params
+use Rattle.grammar_reader.proofs.grammar.+grammar.Answers.Parts as parts
 use Rattle.grammar_reader.proofs.grammar.+grammar.Answers.Paths as paths
 use Rattle.grammar_reader.proofs.grammar.+grammar.Answers.Patterns as patterns
 use Rattle.grammar_reader.proofs.grammar.+grammar.Answers.Statements as statements
@@ -78,8 +80,8 @@ items::adt::enum_item-complete-requires = adt.items::adt::enum_item-complete-req
 pub items::adt::enum_item-returns-clause-completes : goal.items::adt::enum_item-returns-clause-completes
 items::adt::enum_item-returns-clause-completes = adt.items::adt::enum_item-returns-clause-completes
 
-pub items::adt::named_fields-record_fields-requires : goal.items::adt::named_fields-record_fields-requires
-items::adt::named_fields-record_fields-requires = adt.items::adt::named_fields-record_fields-requires
+pub items::adt::named_fields-list-requires : goal.items::adt::named_fields-list-requires
+items::adt::named_fields-list-requires = adt.items::adt::named_fields-list-requires
 
 pub items::adt::named_fields-returns-then-at-clause-reads : goal.items::adt::named_fields-returns-then-at-clause-reads
 items::adt::named_fields-returns-then-at-clause-reads = adt.items::adt::named_fields-returns-then-at-clause-reads
@@ -87,17 +89,8 @@ items::adt::named_fields-returns-then-at-clause-reads = adt.items::adt::named_fi
 pub items::adt::named_fields-returns-clause-reads : goal.items::adt::named_fields-returns-clause-reads
 items::adt::named_fields-returns-clause-reads = adt.items::adt::named_fields-returns-clause-reads
 
-pub items::adt::expect_variants-variants-requires : goal.items::adt::expect_variants-variants-requires
-items::adt::expect_variants-variants-requires = adt.items::adt::expect_variants-variants-requires
-
-pub items::adt::expect_variants-returns-then-at-clause-reads : goal.items::adt::expect_variants-returns-then-at-clause-reads
-items::adt::expect_variants-returns-then-at-clause-reads = adt.items::adt::expect_variants-returns-then-at-clause-reads
-
-pub items::adt::expect_variants-returns-clause-reads : goal.items::adt::expect_variants-returns-clause-reads
-items::adt::expect_variants-returns-clause-reads = adt.items::adt::expect_variants-returns-clause-reads
-
-pub items::adt::fields-tuple_fields-requires : goal.items::adt::fields-tuple_fields-requires
-items::adt::fields-tuple_fields-requires = adt.items::adt::fields-tuple_fields-requires
+pub items::adt::fields-list-requires : goal.items::adt::fields-list-requires
+items::adt::fields-list-requires = adt.items::adt::fields-list-requires
 
 pub expressions::atom::inside-paren_expr-requires : goal.expressions::atom::inside-paren_expr-requires
 expressions::atom::inside-paren_expr-requires = atom.expressions::atom::inside-paren_expr-requires
@@ -111,20 +104,11 @@ expressions::atom::inside-returns-in-L_BRACK-clause-reads = atom.expressions::at
 pub expressions::atom::inside-returns-in-L_BRACK-clause-takes : goal.expressions::atom::inside-returns-in-L_BRACK-clause-takes
 expressions::atom::inside-returns-in-L_BRACK-clause-takes = atom.expressions::atom::inside-returns-in-L_BRACK-clause-takes
 
-pub expressions::atom::inside-returns-in-RETURN_KW-clause-reads : goal.expressions::atom::inside-returns-in-RETURN_KW-clause-reads
-expressions::atom::inside-returns-in-RETURN_KW-clause-reads = atom.expressions::atom::inside-returns-in-RETURN_KW-clause-reads
-
 pub expressions::atom::inside-returns-in-RETURN_KW-clause-takes : goal.expressions::atom::inside-returns-in-RETURN_KW-clause-takes
 expressions::atom::inside-returns-in-RETURN_KW-clause-takes = atom.expressions::atom::inside-returns-in-RETURN_KW-clause-takes
 
-pub expressions::atom::inside-returns-in-BREAK_KW-clause-reads : goal.expressions::atom::inside-returns-in-BREAK_KW-clause-reads
-expressions::atom::inside-returns-in-BREAK_KW-clause-reads = atom.expressions::atom::inside-returns-in-BREAK_KW-clause-reads
-
 pub expressions::atom::inside-returns-in-BREAK_KW-clause-takes : goal.expressions::atom::inside-returns-in-BREAK_KW-clause-takes
 expressions::atom::inside-returns-in-BREAK_KW-clause-takes = atom.expressions::atom::inside-returns-in-BREAK_KW-clause-takes
-
-pub expressions::atom::inside-returns-in-CONTINUE_KW-clause-reads : goal.expressions::atom::inside-returns-in-CONTINUE_KW-clause-reads
-expressions::atom::inside-returns-in-CONTINUE_KW-clause-reads = atom.expressions::atom::inside-returns-in-CONTINUE_KW-clause-reads
 
 pub expressions::atom::inside-returns-in-CONTINUE_KW-clause-takes : goal.expressions::atom::inside-returns-in-CONTINUE_KW-clause-takes
 expressions::atom::inside-returns-in-CONTINUE_KW-clause-takes = atom.expressions::atom::inside-returns-in-CONTINUE_KW-clause-takes
@@ -141,9 +125,6 @@ expressions::atom::inside-returns-in-MOVE_KW-clause-reads = atom.expressions::at
 pub expressions::atom::inside-returns-in-MOVE_KW-clause-takes : goal.expressions::atom::inside-returns-in-MOVE_KW-clause-takes
 expressions::atom::inside-returns-in-MOVE_KW-clause-takes = atom.expressions::atom::inside-returns-in-MOVE_KW-clause-takes
 
-pub expressions::atom::inside-returns-in-LET_KW-clause-reads : goal.expressions::atom::inside-returns-in-LET_KW-clause-reads
-expressions::atom::inside-returns-in-LET_KW-clause-reads = atom.expressions::atom::inside-returns-in-LET_KW-clause-reads
-
 pub expressions::atom::inside-returns-in-LET_KW-clause-takes : goal.expressions::atom::inside-returns-in-LET_KW-clause-takes
 expressions::atom::inside-returns-in-LET_KW-clause-takes = atom.expressions::atom::inside-returns-in-LET_KW-clause-takes
 
@@ -155,12 +136,6 @@ expressions::atom::inside-block_like-requires = atom.expressions::atom::inside-b
 
 pub expressions::atom::inside-returns-then-at_block_like : goal.expressions::atom::inside-returns-then-at_block_like
 expressions::atom::inside-returns-then-at_block_like = atom.expressions::atom::inside-returns-then-at_block_like
-
-pub expressions::atom::inside-path_expr-requires : goal.expressions::atom::inside-path_expr-requires
-expressions::atom::inside-path_expr-requires = atom.expressions::atom::inside-path_expr-requires
-
-pub expressions::atom::inside-returns-else-at_block_like : goal.expressions::atom::inside-returns-else-at_block_like
-expressions::atom::inside-returns-else-at_block_like = atom.expressions::atom::inside-returns-else-at_block_like
 
 pub expressions::atom::path_expr-path_with_args-requires : goal.expressions::atom::path_expr-path_with_args-requires
 expressions::atom::path_expr-path_with_args-requires = atom.expressions::atom::path_expr-path_with_args-requires
@@ -243,12 +218,6 @@ expressions::atom::after_element-returns-then-at-2-clause-reads = atom.expressio
 pub expressions::atom::after_element-returns-clause-reads : goal.expressions::atom::after_element-returns-clause-reads
 expressions::atom::after_element-returns-clause-reads = atom.expressions::atom::after_element-returns-clause-reads
 
-pub expressions::atom::value_expr-complete-requires : goal.expressions::atom::value_expr-complete-requires
-expressions::atom::value_expr-complete-requires = atom.expressions::atom::value_expr-complete-requires
-
-pub expressions::atom::value_expr-returns-clause-reads : goal.expressions::atom::value_expr-returns-clause-reads
-expressions::atom::value_expr-returns-clause-reads = atom.expressions::atom::value_expr-returns-clause-reads
-
 pub expressions::atom::opt_value-operation-requires : goal.expressions::atom::opt_value-operation-requires
 expressions::atom::opt_value-operation-requires = atom.expressions::atom::opt_value-operation-requires
 
@@ -273,27 +242,6 @@ expressions::closures::move_closure-complete-requires = atom.expressions::closur
 pub expressions::closures::move_closure-returns-clause-reads : goal.expressions::closures::move_closure-returns-clause-reads
 expressions::closures::move_closure-returns-clause-reads = atom.expressions::closures::move_closure-returns-clause-reads
 
-pub expressions::closures::expect_closure_params-returns-then-at-clause-reads : goal.expressions::closures::expect_closure_params-returns-then-at-clause-reads
-expressions::closures::expect_closure_params-returns-then-at-clause-reads = atom.expressions::closures::expect_closure_params-returns-then-at-clause-reads
-
-pub expressions::closures::expect_closure_params-returns-clause-reads : goal.expressions::closures::expect_closure_params-returns-clause-reads
-expressions::closures::expect_closure_params-returns-clause-reads = atom.expressions::closures::expect_closure_params-returns-clause-reads
-
-pub expressions::closures::closure_params-complete-requires : goal.expressions::closures::closure_params-complete-requires
-expressions::closures::closure_params-complete-requires = atom.expressions::closures::closure_params-complete-requires
-
-pub expressions::closures::closure_params-returns-clause-reads : goal.expressions::closures::closure_params-returns-clause-reads
-expressions::closures::closure_params-returns-clause-reads = atom.expressions::closures::closure_params-returns-clause-reads
-
-pub expressions::closures::closure_param-single_pattern-requires : goal.expressions::closures::closure_param-single_pattern-requires
-expressions::closures::closure_param-single_pattern-requires = atom.expressions::closures::closure_param-single_pattern-requires
-
-pub expressions::closures::closure_param-complete-requires : goal.expressions::closures::closure_param-complete-requires
-expressions::closures::closure_param-complete-requires = atom.expressions::closures::closure_param-complete-requires
-
-pub expressions::closures::closure_param-returns-clause-reads : goal.expressions::closures::closure_param-returns-clause-reads
-expressions::closures::closure_param-returns-clause-reads = atom.expressions::closures::closure_param-returns-clause-reads
-
 pub expressions::closures::opt_type-returns-then-at-clause-reads : goal.expressions::closures::opt_type-returns-then-at-clause-reads
 expressions::closures::opt_type-returns-then-at-clause-reads = atom.expressions::closures::opt_type-returns-then-at-clause-reads
 
@@ -305,12 +253,6 @@ expressions::closures::closure_body-returns-then-at_pair-clause-reads = atom.exp
 
 pub expressions::closures::closure_body-returns-clause-reads : goal.expressions::closures::closure_body-returns-clause-reads
 expressions::closures::closure_body-returns-clause-reads = atom.expressions::closures::closure_body-returns-clause-reads
-
-pub expressions::atom::let_expr-complete-requires : goal.expressions::atom::let_expr-complete-requires
-expressions::atom::let_expr-complete-requires = atom.expressions::atom::let_expr-complete-requires
-
-pub expressions::atom::let_expr-returns-clause-reads : goal.expressions::atom::let_expr-returns-clause-reads
-expressions::atom::let_expr-returns-clause-reads = atom.expressions::atom::let_expr-returns-clause-reads
 
 pub attributes::attribute-complete-requires : goal.attributes::attribute-complete-requires
 attributes::attribute-complete-requires = attributes.attributes::attribute-complete-requires
@@ -372,80 +314,17 @@ items::consts::opt_value-returns-then-at-clause-reads = consts.items::consts::op
 pub items::consts::opt_value-returns-else-at-clause-reads : goal.items::consts::opt_value-returns-else-at-clause-reads
 items::consts::opt_value-returns-else-at-clause-reads = consts.items::consts::opt_value-returns-else-at-clause-reads
 
-pub expressions::control::block_like-returns-in-L_CURLY-clause-gives : goal.expressions::control::block_like-returns-in-L_CURLY-clause-gives
-expressions::control::block_like-returns-in-L_CURLY-clause-gives = control.expressions::control::block_like-returns-in-L_CURLY-clause-gives
-
-pub expressions::control::block_like-returns-in-UNSAFE_KW-clause-gives : goal.expressions::control::block_like-returns-in-UNSAFE_KW-clause-gives
-expressions::control::block_like-returns-in-UNSAFE_KW-clause-gives = control.expressions::control::block_like-returns-in-UNSAFE_KW-clause-gives
-
-pub expressions::control::block_like-returns-in-IF_KW-clause-gives : goal.expressions::control::block_like-returns-in-IF_KW-clause-gives
-expressions::control::block_like-returns-in-IF_KW-clause-gives = control.expressions::control::block_like-returns-in-IF_KW-clause-gives
-
-pub expressions::control::block_like-returns-in-WHILE_KW-clause-gives : goal.expressions::control::block_like-returns-in-WHILE_KW-clause-gives
-expressions::control::block_like-returns-in-WHILE_KW-clause-gives = control.expressions::control::block_like-returns-in-WHILE_KW-clause-gives
-
-pub expressions::control::block_like-returns-in-LOOP_KW-clause-gives : goal.expressions::control::block_like-returns-in-LOOP_KW-clause-gives
-expressions::control::block_like-returns-in-LOOP_KW-clause-gives = control.expressions::control::block_like-returns-in-LOOP_KW-clause-gives
-
-pub expressions::control::block_like-returns-in-FOR_KW-clause-gives : goal.expressions::control::block_like-returns-in-FOR_KW-clause-gives
-expressions::control::block_like-returns-in-FOR_KW-clause-gives = control.expressions::control::block_like-returns-in-FOR_KW-clause-gives
-
-pub expressions::control::block_like-returns-in-MATCH_KW-clause-gives : goal.expressions::control::block_like-returns-in-MATCH_KW-clause-gives
-expressions::control::block_like-returns-in-MATCH_KW-clause-gives = control.expressions::control::block_like-returns-in-MATCH_KW-clause-gives
-
-pub expressions::control::block_like-macro_block-requires : goal.expressions::control::block_like-macro_block-requires
-expressions::control::block_like-macro_block-requires = control.expressions::control::block_like-macro_block-requires
-
-pub expressions::control::block_like-returns-in_default-clause-gives : goal.expressions::control::block_like-returns-in_default-clause-gives
-expressions::control::block_like-returns-in_default-clause-gives = control.expressions::control::block_like-returns-in_default-clause-gives
-
-pub expressions::control::expect_statement_list-returns-then-at-clause-reads : goal.expressions::control::expect_statement_list-returns-then-at-clause-reads
-expressions::control::expect_statement_list-returns-then-at-clause-reads = control.expressions::control::expect_statement_list-returns-then-at-clause-reads
-
-pub expressions::control::expect_statement_list-returns-clause-reads : goal.expressions::control::expect_statement_list-returns-clause-reads
-expressions::control::expect_statement_list-returns-clause-reads = control.expressions::control::expect_statement_list-returns-clause-reads
-
-pub expressions::control::expect_block-returns-then-at-clause-reads : goal.expressions::control::expect_block-returns-then-at-clause-reads
-expressions::control::expect_block-returns-then-at-clause-reads = control.expressions::control::expect_block-returns-then-at-clause-reads
-
-pub expressions::control::expect_block-returns-clause-reads : goal.expressions::control::expect_block-returns-clause-reads
-expressions::control::expect_block-returns-clause-reads = control.expressions::control::expect_block-returns-clause-reads
-
-pub expressions::control::expect_match_arms-returns-then-at-clause-reads : goal.expressions::control::expect_match_arms-returns-then-at-clause-reads
-expressions::control::expect_match_arms-returns-then-at-clause-reads = control.expressions::control::expect_match_arms-returns-then-at-clause-reads
-
-pub expressions::control::expect_match_arms-returns-clause-reads : goal.expressions::control::expect_match_arms-returns-clause-reads
-expressions::control::expect_match_arms-returns-clause-reads = control.expressions::control::expect_match_arms-returns-clause-reads
-
 pub expressions::control::unsafe_block-complete-requires : goal.expressions::control::unsafe_block-complete-requires
 expressions::control::unsafe_block-complete-requires = control.expressions::control::unsafe_block-complete-requires
 
 pub expressions::control::unsafe_block-returns-clause-reads : goal.expressions::control::unsafe_block-returns-clause-reads
 expressions::control::unsafe_block-returns-clause-reads = control.expressions::control::unsafe_block-returns-clause-reads
 
-pub expressions::control::while_expr-complete-requires : goal.expressions::control::while_expr-complete-requires
-expressions::control::while_expr-complete-requires = control.expressions::control::while_expr-complete-requires
-
-pub expressions::control::while_expr-returns-clause-reads : goal.expressions::control::while_expr-returns-clause-reads
-expressions::control::while_expr-returns-clause-reads = control.expressions::control::while_expr-returns-clause-reads
-
-pub expressions::control::loop_expr-complete-requires : goal.expressions::control::loop_expr-complete-requires
-expressions::control::loop_expr-complete-requires = control.expressions::control::loop_expr-complete-requires
-
-pub expressions::control::loop_expr-returns-clause-reads : goal.expressions::control::loop_expr-returns-clause-reads
-expressions::control::loop_expr-returns-clause-reads = control.expressions::control::loop_expr-returns-clause-reads
-
 pub expressions::control::match_expr-complete-requires : goal.expressions::control::match_expr-complete-requires
 expressions::control::match_expr-complete-requires = control.expressions::control::match_expr-complete-requires
 
 pub expressions::control::match_expr-returns-clause-reads : goal.expressions::control::match_expr-returns-clause-reads
 expressions::control::match_expr-returns-clause-reads = control.expressions::control::match_expr-returns-clause-reads
-
-pub expressions::control::for_expr-complete-requires : goal.expressions::control::for_expr-complete-requires
-expressions::control::for_expr-complete-requires = control.expressions::control::for_expr-complete-requires
-
-pub expressions::control::for_expr-returns-clause-reads : goal.expressions::control::for_expr-returns-clause-reads
-expressions::control::for_expr-returns-clause-reads = control.expressions::control::for_expr-returns-clause-reads
 
 pub expressions::control::if_expr-complete-requires : goal.expressions::control::if_expr-complete-requires
 expressions::control::if_expr-complete-requires = control.expressions::control::if_expr-complete-requires
@@ -476,21 +355,6 @@ expressions::control::arms-turns-preserved = control.expressions::control::arms-
 
 pub expressions::control::arms-returns-clause-reads : goal.expressions::control::arms-returns-clause-reads
 expressions::control::arms-returns-clause-reads = control.expressions::control::arms-returns-clause-reads
-
-pub expressions::control::arm_turn-returns-then-at_list_end-clause-ends : goal.expressions::control::arm_turn-returns-then-at_list_end-clause-ends
-expressions::control::arm_turn-returns-then-at_list_end-clause-ends = control.expressions::control::arm_turn-returns-then-at_list_end-clause-ends
-
-pub expressions::control::arm_turn-match_arm-requires : goal.expressions::control::arm_turn-match_arm-requires
-expressions::control::arm_turn-match_arm-requires = control.expressions::control::arm_turn-match_arm-requires
-
-pub expressions::control::arm_turn-returns-then-at_pattern-clause-goes : goal.expressions::control::arm_turn-returns-then-at_pattern-clause-goes
-expressions::control::arm_turn-returns-then-at_pattern-clause-goes = control.expressions::control::arm_turn-returns-then-at_pattern-clause-goes
-
-pub expressions::control::arm_turn-skip-requires : goal.expressions::control::arm_turn-skip-requires
-expressions::control::arm_turn-skip-requires = control.expressions::control::arm_turn-skip-requires
-
-pub expressions::control::arm_turn-returns-clause-goes : goal.expressions::control::arm_turn-returns-clause-goes
-expressions::control::arm_turn-returns-clause-goes = control.expressions::control::arm_turn-returns-clause-goes
 
 pub expressions::expect_expression-returns-in-Comparison-clause-reads : goal.expressions::expect_expression-returns-in-Comparison-clause-reads
 expressions::expect_expression-returns-in-Comparison-clause-reads = expressions.expressions::expect_expression-returns-in-Comparison-clause-reads
@@ -627,20 +491,8 @@ expressions::operation_tail-returns-clause-asks = expressions.expressions::opera
 pub fields::field_value-named_value-requires : goal.fields::field_value-named_value-requires
 fields::field_value-named_value-requires = fields.fields::field_value-named_value-requires
 
-pub fields::field_value-returns-then-at_named_field-clause-gives : goal.fields::field_value-returns-then-at_named_field-clause-gives
-fields::field_value-returns-then-at_named_field-clause-gives = fields.fields::field_value-returns-then-at_named_field-clause-gives
-
 pub fields::field_value-other_fields-requires : goal.fields::field_value-other_fields-requires
 fields::field_value-other_fields-requires = fields.fields::field_value-other_fields-requires
-
-pub fields::field_value-returns-then-at_pair-clause-gives : goal.fields::field_value-returns-then-at_pair-clause-gives
-fields::field_value-returns-then-at_pair-clause-gives = fields.fields::field_value-returns-then-at_pair-clause-gives
-
-pub fields::field_value-path_value-requires : goal.fields::field_value-path_value-requires
-fields::field_value-path_value-requires = fields.fields::field_value-path_value-requires
-
-pub fields::field_value-returns-clause-gives : goal.fields::field_value-returns-clause-gives
-fields::field_value-returns-clause-gives = fields.fields::field_value-returns-clause-gives
 
 pub fields::named_value-complete-requires : goal.fields::named_value-complete-requires
 fields::named_value-complete-requires = fields.fields::named_value-complete-requires
@@ -680,12 +532,6 @@ fields::named_pattern-returns-clause-reads = fields.fields::named_pattern-return
 
 pub items::functions::fn_item-fn_words-requires : goal.items::functions::fn_item-fn_words-requires
 items::functions::fn_item-fn_words-requires = functions.items::functions::fn_item-fn_words-requires
-
-pub items::functions::expect_params-returns-then-at-clause-reads : goal.items::functions::expect_params-returns-then-at-clause-reads
-items::functions::expect_params-returns-then-at-clause-reads = functions.items::functions::expect_params-returns-then-at-clause-reads
-
-pub items::functions::expect_params-returns-clause-reads : goal.items::functions::expect_params-returns-clause-reads
-items::functions::expect_params-returns-clause-reads = functions.items::functions::expect_params-returns-clause-reads
 
 pub items::functions::fn_body-returns-then-at-clause-reads : goal.items::functions::fn_body-returns-then-at-clause-reads
 items::functions::fn_body-returns-then-at-clause-reads = functions.items::functions::fn_body-returns-then-at-clause-reads
@@ -789,15 +635,6 @@ generic_params::lifetime_or_path-returns-in_default-clause-reads = generic_param
 pub generic_params::path_after_question-returns-clause-reads : goal.generic_params::path_after_question-returns-clause-reads
 generic_params::path_after_question-returns-clause-reads = generic_params.generic_params::path_after_question-returns-clause-reads
 
-pub generic_params::expect_path_type-path_type-requires : goal.generic_params::expect_path_type-path_type-requires
-generic_params::expect_path_type-path_type-requires = generic_params.generic_params::expect_path_type-path_type-requires
-
-pub generic_params::expect_path_type-returns-then-at_path-clause-reads : goal.generic_params::expect_path_type-returns-then-at_path-clause-reads
-generic_params::expect_path_type-returns-then-at_path-clause-reads = generic_params.generic_params::expect_path_type-returns-then-at_path-clause-reads
-
-pub generic_params::expect_path_type-returns-clause-reads : goal.generic_params::expect_path_type-returns-clause-reads
-generic_params::expect_path_type-returns-clause-reads = generic_params.generic_params::expect_path_type-returns-clause-reads
-
 pub generic_params::bounds-complete-requires : goal.generic_params::bounds-complete-requires
 generic_params::bounds-complete-requires = generic_params.generic_params::bounds-complete-requires
 
@@ -839,12 +676,6 @@ generic_params::bounds_after_colon-returns-else-at-clause-reads = generic_params
 
 pub generic_params::for_binder-returns-clause-reads : goal.generic_params::for_binder-returns-clause-reads
 generic_params::for_binder-returns-clause-reads = generic_params.generic_params::for_binder-returns-clause-reads
-
-pub generic_params::expect_generic_params-returns-then-at-clause-reads : goal.generic_params::expect_generic_params-returns-then-at-clause-reads
-generic_params::expect_generic_params-returns-then-at-clause-reads = generic_params.generic_params::expect_generic_params-returns-then-at-clause-reads
-
-pub generic_params::expect_generic_params-returns-clause-reads : goal.generic_params::expect_generic_params-returns-clause-reads
-generic_params::expect_generic_params-returns-clause-reads = generic_params.generic_params::expect_generic_params-returns-clause-reads
 
 pub generic_params::lifetime_and_bounds-returns-clause-reads : goal.generic_params::lifetime_and_bounds-returns-clause-reads
 generic_params::lifetime_and_bounds-returns-clause-reads = generic_params.generic_params::lifetime_and_bounds-returns-clause-reads
@@ -936,15 +767,6 @@ generic_params::further_preds-returns-clause-reads = generic_params.generic_para
 pub generic_params::further_pred-returns-clause-reads : goal.generic_params::further_pred-returns-clause-reads
 generic_params::further_pred-returns-clause-reads = generic_params.generic_params::further_pred-returns-clause-reads
 
-pub generic_params::opt_pred-where_pred-requires : goal.generic_params::opt_pred-where_pred-requires
-generic_params::opt_pred-where_pred-requires = generic_params.generic_params::opt_pred-where_pred-requires
-
-pub generic_params::opt_pred-returns-then-at_where_pred-clause-reads : goal.generic_params::opt_pred-returns-then-at_where_pred-clause-reads
-generic_params::opt_pred-returns-then-at_where_pred-clause-reads = generic_params.generic_params::opt_pred-returns-then-at_where_pred-clause-reads
-
-pub generic_params::opt_pred-returns-else-at_where_pred-clause-reads : goal.generic_params::opt_pred-returns-else-at_where_pred-clause-reads
-generic_params::opt_pred-returns-else-at_where_pred-clause-reads = generic_params.generic_params::opt_pred-returns-else-at_where_pred-clause-reads
-
 pub new_bounds::new_bound-complete-requires : goal.new_bounds::new_bound-complete-requires
 new_bounds::new_bound-complete-requires = new_bounds.new_bounds::new_bound-complete-requires
 
@@ -971,12 +793,6 @@ new_bounds::bound_inside-returns-clause-reads = new_bounds.new_bounds::bound_ins
 
 pub new_bounds::use_captures-returns-clause-reads : goal.new_bounds::use_captures-returns-clause-reads
 new_bounds::use_captures-returns-clause-reads = new_bounds.new_bounds::use_captures-returns-clause-reads
-
-pub new_bounds::captures-complete-requires : goal.new_bounds::captures-complete-requires
-new_bounds::captures-complete-requires = new_bounds.new_bounds::captures-complete-requires
-
-pub new_bounds::captures-returns-clause-reads : goal.new_bounds::captures-returns-clause-reads
-new_bounds::captures-returns-clause-reads = new_bounds.new_bounds::captures-returns-clause-reads
 
 pub new_bounds::words_and_path-returns-clause-reads : goal.new_bounds::words_and_path-returns-clause-reads
 new_bounds::words_and_path-returns-clause-reads = new_bounds.new_bounds::words_and_path-returns-clause-reads
@@ -1179,24 +995,6 @@ items::item_list-complete-requires = items.items::item_list-complete-requires
 pub items::item_list-returns-clause-reads : goal.items::item_list-returns-clause-reads
 items::item_list-returns-clause-reads = items.items::item_list-returns-clause-reads
 
-pub items::assoc_items-item_list-requires : goal.items::assoc_items-item_list-requires
-items::assoc_items-item_list-requires = items.items::assoc_items-item_list-requires
-
-pub items::assoc_items-returns-clause-gives : goal.items::assoc_items-returns-clause-gives
-items::assoc_items-returns-clause-gives = items.items::assoc_items-returns-clause-gives
-
-pub items::opt_generic_params-returns-then-at-clause-reads : goal.items::opt_generic_params-returns-then-at-clause-reads
-items::opt_generic_params-returns-then-at-clause-reads = items.items::opt_generic_params-returns-then-at-clause-reads
-
-pub items::opt_generic_params-returns-else-at-clause-reads : goal.items::opt_generic_params-returns-else-at-clause-reads
-items::opt_generic_params-returns-else-at-clause-reads = items.items::opt_generic_params-returns-else-at-clause-reads
-
-pub items::opt_where_clause-returns-then-at-clause-reads : goal.items::opt_where_clause-returns-then-at-clause-reads
-items::opt_where_clause-returns-then-at-clause-reads = items.items::opt_where_clause-returns-then-at-clause-reads
-
-pub items::opt_where_clause-returns-else-at-clause-reads : goal.items::opt_where_clause-returns-else-at-clause-reads
-items::opt_where_clause-returns-else-at-clause-reads = items.items::opt_where_clause-returns-else-at-clause-reads
-
 pub items::item_turn-returns-then-at_end_of-clause-ends : goal.items::item_turn-returns-then-at_end_of-clause-ends
 items::item_turn-returns-then-at_end_of-clause-ends = items.items::item_turn-returns-then-at_end_of-clause-ends
 
@@ -1365,36 +1163,6 @@ lists::tuple_tail-returns-then-at-clause-reads = lists.lists::tuple_tail-returns
 pub lists::tuple_tail-returns-clause-reads : goal.lists::tuple_tail-returns-clause-reads
 lists::tuple_tail-returns-clause-reads = lists.lists::tuple_tail-returns-clause-reads
 
-pub lists::arguments-complete-requires : goal.lists::arguments-complete-requires
-lists::arguments-complete-requires = lists.lists::arguments-complete-requires
-
-pub lists::arguments-returns-clause-gives : goal.lists::arguments-returns-clause-gives
-lists::arguments-returns-clause-gives = lists.lists::arguments-returns-clause-gives
-
-pub lists::field_values-complete-requires : goal.lists::field_values-complete-requires
-lists::field_values-complete-requires = lists.lists::field_values-complete-requires
-
-pub lists::field_values-returns-clause-gives : goal.lists::field_values-returns-clause-gives
-lists::field_values-returns-clause-gives = lists.lists::field_values-returns-clause-gives
-
-pub lists::generic_params-complete-requires : goal.lists::generic_params-complete-requires
-lists::generic_params-complete-requires = lists.lists::generic_params-complete-requires
-
-pub lists::generic_params-returns-clause-gives : goal.lists::generic_params-returns-clause-gives
-lists::generic_params-returns-clause-gives = lists.lists::generic_params-returns-clause-gives
-
-pub lists::params-complete-requires : goal.lists::params-complete-requires
-lists::params-complete-requires = lists.lists::params-complete-requires
-
-pub lists::params-returns-clause-gives : goal.lists::params-returns-clause-gives
-lists::params-returns-clause-gives = lists.lists::params-returns-clause-gives
-
-pub lists::pattern_fields-complete-requires : goal.lists::pattern_fields-complete-requires
-lists::pattern_fields-complete-requires = lists.lists::pattern_fields-complete-requires
-
-pub lists::pattern_fields-returns-clause-gives : goal.lists::pattern_fields-returns-clause-gives
-lists::pattern_fields-returns-clause-gives = lists.lists::pattern_fields-returns-clause-gives
-
 pub lists::read_element-record_field-requires : goal.lists::read_element-record_field-requires
 lists::read_element-record_field-requires = lists.lists::read_element-record_field-requires
 
@@ -1412,51 +1180,6 @@ lists::read_element-variant-requires = lists.lists::read_element-variant-require
 
 pub lists::read_element-returns-in-Variant-clause-reads : goal.lists::read_element-returns-in-Variant-clause-reads
 lists::read_element-returns-in-Variant-clause-reads = lists.lists::read_element-returns-in-Variant-clause-reads
-
-pub lists::variants-complete-requires : goal.lists::variants-complete-requires
-lists::variants-complete-requires = lists.lists::variants-complete-requires
-
-pub lists::variants-returns-clause-gives : goal.lists::variants-returns-clause-gives
-lists::variants-returns-clause-gives = lists.lists::variants-returns-clause-gives
-
-pub lists::record_fields-complete-requires : goal.lists::record_fields-complete-requires
-lists::record_fields-complete-requires = lists.lists::record_fields-complete-requires
-
-pub lists::record_fields-returns-clause-gives : goal.lists::record_fields-returns-clause-gives
-lists::record_fields-returns-clause-gives = lists.lists::record_fields-returns-clause-gives
-
-pub lists::tuple_fields-complete-requires : goal.lists::tuple_fields-complete-requires
-lists::tuple_fields-complete-requires = lists.lists::tuple_fields-complete-requires
-
-pub lists::tuple_fields-returns-clause-gives : goal.lists::tuple_fields-returns-clause-gives
-lists::tuple_fields-returns-clause-gives = lists.lists::tuple_fields-returns-clause-gives
-
-pub expressions::match_arm::match_arm-pattern-requires : goal.expressions::match_arm::match_arm-pattern-requires
-expressions::match_arm::match_arm-pattern-requires = match_arm.expressions::match_arm::match_arm-pattern-requires
-
-pub expressions::match_arm::match_arm-complete-requires : goal.expressions::match_arm::match_arm-complete-requires
-expressions::match_arm::match_arm-complete-requires = match_arm.expressions::match_arm::match_arm-complete-requires
-
-pub expressions::match_arm::match_arm-returns-clause-gives : goal.expressions::match_arm::match_arm-returns-clause-gives
-expressions::match_arm::match_arm-returns-clause-gives = match_arm.expressions::match_arm::match_arm-returns-clause-gives
-
-pub expressions::match_arm::opt_guard-complete-requires : goal.expressions::match_arm::opt_guard-complete-requires
-expressions::match_arm::opt_guard-complete-requires = match_arm.expressions::match_arm::opt_guard-complete-requires
-
-pub expressions::match_arm::opt_guard-returns-then-at-clause-reads : goal.expressions::match_arm::opt_guard-returns-then-at-clause-reads
-expressions::match_arm::opt_guard-returns-then-at-clause-reads = match_arm.expressions::match_arm::opt_guard-returns-then-at-clause-reads
-
-pub expressions::match_arm::opt_guard-returns-else-at-clause-reads : goal.expressions::match_arm::opt_guard-returns-else-at-clause-reads
-expressions::match_arm::opt_guard-returns-else-at-clause-reads = match_arm.expressions::match_arm::opt_guard-returns-else-at-clause-reads
-
-pub expressions::match_arm::arm_value-block_like-requires : goal.expressions::match_arm::arm_value-block_like-requires
-expressions::match_arm::arm_value-block_like-requires = match_arm.expressions::match_arm::arm_value-block_like-requires
-
-pub expressions::match_arm::arm_value-returns-then-at_block_like-clause-reads : goal.expressions::match_arm::arm_value-returns-then-at_block_like-clause-reads
-expressions::match_arm::arm_value-returns-then-at_block_like-clause-reads = match_arm.expressions::match_arm::arm_value-returns-then-at_block_like-clause-reads
-
-pub expressions::match_arm::arm_value-returns-clause-reads : goal.expressions::match_arm::arm_value-returns-clause-reads
-expressions::match_arm::arm_value-returns-clause-reads = match_arm.expressions::match_arm::arm_value-returns-clause-reads
 
 pub items::members::tuple_field-typed-requires : goal.items::members::tuple_field-typed-requires
 items::members::tuple_field-typed-requires = members.items::members::tuple_field-typed-requires
@@ -1494,38 +1217,20 @@ items::members::typed-any_type-requires = members.items::members::typed-any_type
 pub items::members::typed-returns-in_default-clause-reads : goal.items::members::typed-returns-in_default-clause-reads
 items::members::typed-returns-in_default-clause-reads = members.items::members::typed-returns-in_default-clause-reads
 
-pub items::members::opt_fields-record_fields-requires : goal.items::members::opt_fields-record_fields-requires
-items::members::opt_fields-record_fields-requires = members.items::members::opt_fields-record_fields-requires
+pub items::members::opt_fields-list-requires : goal.items::members::opt_fields-list-requires
+items::members::opt_fields-list-requires = members.items::members::opt_fields-list-requires
 
 pub items::members::opt_fields-returns-in-L_CURLY-clause-reads : goal.items::members::opt_fields-returns-in-L_CURLY-clause-reads
 items::members::opt_fields-returns-in-L_CURLY-clause-reads = members.items::members::opt_fields-returns-in-L_CURLY-clause-reads
 
-pub items::members::opt_fields-tuple_fields-requires : goal.items::members::opt_fields-tuple_fields-requires
-items::members::opt_fields-tuple_fields-requires = members.items::members::opt_fields-tuple_fields-requires
+pub items::members::opt_fields-list-requires-in-L_PAREN : goal.items::members::opt_fields-list-requires-in-L_PAREN
+items::members::opt_fields-list-requires-in-L_PAREN = members.items::members::opt_fields-list-requires-in-L_PAREN
 
 pub items::members::opt_fields-returns-in-L_PAREN-clause-reads : goal.items::members::opt_fields-returns-in-L_PAREN-clause-reads
 items::members::opt_fields-returns-in-L_PAREN-clause-reads = members.items::members::opt_fields-returns-in-L_PAREN-clause-reads
 
 pub items::members::opt_fields-returns-in_default-clause-reads : goal.items::members::opt_fields-returns-in_default-clause-reads
 items::members::opt_fields-returns-in_default-clause-reads = members.items::members::opt_fields-returns-in_default-clause-reads
-
-pub expressions::operand::prefixed-returns-in-MINUS-clause-gives : goal.expressions::operand::prefixed-returns-in-MINUS-clause-gives
-expressions::operand::prefixed-returns-in-MINUS-clause-gives = operand.expressions::operand::prefixed-returns-in-MINUS-clause-gives
-
-pub expressions::operand::prefixed-returns-in-BANG-clause-gives : goal.expressions::operand::prefixed-returns-in-BANG-clause-gives
-expressions::operand::prefixed-returns-in-BANG-clause-gives = operand.expressions::operand::prefixed-returns-in-BANG-clause-gives
-
-pub expressions::operand::prefixed-returns-in-STAR-clause-gives : goal.expressions::operand::prefixed-returns-in-STAR-clause-gives
-expressions::operand::prefixed-returns-in-STAR-clause-gives = operand.expressions::operand::prefixed-returns-in-STAR-clause-gives
-
-pub expressions::operand::prefixed-returns-in-AMP-clause-gives : goal.expressions::operand::prefixed-returns-in-AMP-clause-gives
-expressions::operand::prefixed-returns-in-AMP-clause-gives = operand.expressions::operand::prefixed-returns-in-AMP-clause-gives
-
-pub expressions::operand::prefixed-operand-requires : goal.expressions::operand::prefixed-operand-requires
-expressions::operand::prefixed-operand-requires = operand.expressions::operand::prefixed-operand-requires
-
-pub expressions::operand::prefixed-returns-in_default-clause-gives : goal.expressions::operand::prefixed-returns-in_default-clause-gives
-expressions::operand::prefixed-returns-in_default-clause-gives = operand.expressions::operand::prefixed-returns-in_default-clause-gives
 
 pub expressions::operand::prefix_expr-complete-requires : goal.expressions::operand::prefix_expr-complete-requires
 expressions::operand::prefix_expr-complete-requires = operand.expressions::operand::prefix_expr-complete-requires
@@ -1581,44 +1286,8 @@ expressions::operand::postfix-returns-in_default-clause-reads = operand.expressi
 pub expressions::operand::index-returns-clause-reads : goal.expressions::operand::index-returns-clause-reads
 expressions::operand::index-returns-clause-reads = operand.expressions::operand::index-returns-clause-reads
 
-pub expressions::operand::after_dot-wrap-requires : goal.expressions::operand::after_dot-wrap-requires
-expressions::operand::after_dot-wrap-requires = operand.expressions::operand::after_dot-wrap-requires
-
-pub expressions::operand::after_dot-returns-then-at_method-clause-reads : goal.expressions::operand::after_dot-returns-then-at_method-clause-reads
-expressions::operand::after_dot-returns-then-at_method-clause-reads = operand.expressions::operand::after_dot-returns-then-at_method-clause-reads
-
-pub expressions::operand::after_dot-wrap-requires-in-IDENT : goal.expressions::operand::after_dot-wrap-requires-in-IDENT
-expressions::operand::after_dot-wrap-requires-in-IDENT = operand.expressions::operand::after_dot-wrap-requires-in-IDENT
-
-pub expressions::operand::after_dot-returns-in-IDENT-clause-reads : goal.expressions::operand::after_dot-returns-in-IDENT-clause-reads
-expressions::operand::after_dot-returns-in-IDENT-clause-reads = operand.expressions::operand::after_dot-returns-in-IDENT-clause-reads
-
-pub expressions::operand::after_dot-wrap-requires-in-INT_NUMBER : goal.expressions::operand::after_dot-wrap-requires-in-INT_NUMBER
-expressions::operand::after_dot-wrap-requires-in-INT_NUMBER = operand.expressions::operand::after_dot-wrap-requires-in-INT_NUMBER
-
-pub expressions::operand::after_dot-returns-in-INT_NUMBER-clause-reads : goal.expressions::operand::after_dot-returns-in-INT_NUMBER-clause-reads
-expressions::operand::after_dot-returns-in-INT_NUMBER-clause-reads = operand.expressions::operand::after_dot-returns-in-INT_NUMBER-clause-reads
-
-pub expressions::operand::after_dot-float-requires : goal.expressions::operand::after_dot-float-requires
-expressions::operand::after_dot-float-requires = operand.expressions::operand::after_dot-float-requires
-
-pub expressions::operand::after_dot-returns-in-FLOAT_NUMBER-clause-reads : goal.expressions::operand::after_dot-returns-in-FLOAT_NUMBER-clause-reads
-expressions::operand::after_dot-returns-in-FLOAT_NUMBER-clause-reads = operand.expressions::operand::after_dot-returns-in-FLOAT_NUMBER-clause-reads
-
-pub expressions::operand::after_dot-wrap-requires-in_default : goal.expressions::operand::after_dot-wrap-requires-in_default
-expressions::operand::after_dot-wrap-requires-in_default = operand.expressions::operand::after_dot-wrap-requires-in_default
-
-pub expressions::operand::after_dot-returns-in_default-clause-reads : goal.expressions::operand::after_dot-returns-in_default-clause-reads
-expressions::operand::after_dot-returns-in_default-clause-reads = operand.expressions::operand::after_dot-returns-in_default-clause-reads
-
 pub expressions::operand::method_call-returns-clause-reads : goal.expressions::operand::method_call-returns-clause-reads
 expressions::operand::method_call-returns-clause-reads = operand.expressions::operand::method_call-returns-clause-reads
-
-pub expressions::operand::expect_arguments-returns-then-at-clause-reads : goal.expressions::operand::expect_arguments-returns-then-at-clause-reads
-expressions::operand::expect_arguments-returns-then-at-clause-reads = operand.expressions::operand::expect_arguments-returns-then-at-clause-reads
-
-pub expressions::operand::expect_arguments-returns-clause-reads : goal.expressions::operand::expect_arguments-returns-clause-reads
-expressions::operand::expect_arguments-returns-clause-reads = operand.expressions::operand::expect_arguments-returns-clause-reads
 
 pub expressions::operand::float-split-frame-requires : goal.expressions::operand::float-split-frame-requires
 expressions::operand::float-split-frame-requires = operand.expressions::operand::float-split-frame-requires
@@ -1707,15 +1376,6 @@ paths::path_with_args-next_segments-frame-requires = paths.paths::path_with_args
 pub paths::path_with_args-returns-clause-gives : goal.paths::path_with_args-returns-clause-gives
 paths::path_with_args-returns-clause-gives = paths.paths::path_with_args-returns-clause-gives
 
-pub paths::opt_generic_args-generic_args-requires : goal.paths::opt_generic_args-generic_args-requires
-paths::opt_generic_args-generic_args-requires = paths.paths::opt_generic_args-generic_args-requires
-
-pub paths::opt_generic_args-returns-then-at_generic_args-clause-reads : goal.paths::opt_generic_args-returns-then-at_generic_args-clause-reads
-paths::opt_generic_args-returns-then-at_generic_args-clause-reads = paths.paths::opt_generic_args-returns-then-at_generic_args-clause-reads
-
-pub paths::opt_generic_args-returns-else-at_generic_args-clause-reads : goal.paths::opt_generic_args-returns-else-at_generic_args-clause-reads
-paths::opt_generic_args-returns-else-at_generic_args-clause-reads = paths.paths::opt_generic_args-returns-else-at_generic_args-clause-reads
-
 pub patterns::inside-returns-in-MINUS-clause-reads : goal.patterns::inside-returns-in-MINUS-clause-reads
 patterns::inside-returns-in-MINUS-clause-reads = patterns.patterns::inside-returns-in-MINUS-clause-reads
 
@@ -1773,41 +1433,11 @@ patterns::inside-returns-else-at_literal = patterns.patterns::inside-returns-els
 pub patterns::inside-path_pat-requires : goal.patterns::inside-path_pat-requires
 patterns::inside-path_pat-requires = patterns.patterns::inside-path_pat-requires
 
-pub patterns::expect_single-single_pattern-requires : goal.patterns::expect_single-single_pattern-requires
-patterns::expect_single-single_pattern-requires = patterns.patterns::expect_single-single_pattern-requires
-
-pub patterns::expect_single-returns-then-at_single_pattern-clause-reads : goal.patterns::expect_single-returns-then-at_single_pattern-clause-reads
-patterns::expect_single-returns-then-at_single_pattern-clause-reads = patterns.patterns::expect_single-returns-then-at_single_pattern-clause-reads
-
-pub patterns::expect_single-returns-clause-reads : goal.patterns::expect_single-returns-clause-reads
-patterns::expect_single-returns-clause-reads = patterns.patterns::expect_single-returns-clause-reads
-
-pub or_patterns::expect_pattern-pattern-requires : goal.or_patterns::expect_pattern-pattern-requires
-or_patterns::expect_pattern-pattern-requires = patterns.or_patterns::expect_pattern-pattern-requires
-
-pub or_patterns::expect_pattern-returns-then-at_pattern-clause-reads : goal.or_patterns::expect_pattern-returns-then-at_pattern-clause-reads
-or_patterns::expect_pattern-returns-then-at_pattern-clause-reads = patterns.or_patterns::expect_pattern-returns-then-at_pattern-clause-reads
-
-pub or_patterns::expect_pattern-returns-clause-reads : goal.or_patterns::expect_pattern-returns-clause-reads
-or_patterns::expect_pattern-returns-clause-reads = patterns.or_patterns::expect_pattern-returns-clause-reads
-
 pub patterns::ref_pat-complete-requires : goal.patterns::ref_pat-complete-requires
 patterns::ref_pat-complete-requires = patterns.patterns::ref_pat-complete-requires
 
 pub patterns::ref_pat-returns-clause-reads : goal.patterns::ref_pat-returns-clause-reads
 patterns::ref_pat-returns-clause-reads = patterns.patterns::ref_pat-returns-clause-reads
-
-pub patterns::slice_pat-complete-requires : goal.patterns::slice_pat-complete-requires
-patterns::slice_pat-complete-requires = patterns.patterns::slice_pat-complete-requires
-
-pub patterns::slice_pat-returns-clause-reads : goal.patterns::slice_pat-returns-clause-reads
-patterns::slice_pat-returns-clause-reads = patterns.patterns::slice_pat-returns-clause-reads
-
-pub patterns::tuple_pat-complete-requires : goal.patterns::tuple_pat-complete-requires
-patterns::tuple_pat-complete-requires = patterns.patterns::tuple_pat-complete-requires
-
-pub patterns::tuple_pat-returns-clause-reads : goal.patterns::tuple_pat-returns-clause-reads
-patterns::tuple_pat-returns-clause-reads = patterns.patterns::tuple_pat-returns-clause-reads
 
 pub patterns::ident_pat-complete-requires : goal.patterns::ident_pat-complete-requires
 patterns::ident_pat-complete-requires = patterns.patterns::ident_pat-complete-requires
@@ -2013,12 +1643,6 @@ items::traits::impl_item-unsafe_word-requires = traits.items::traits::impl_item-
 pub items::traits::trait_item-unsafe_word-requires : goal.items::traits::trait_item-unsafe_word-requires
 items::traits::trait_item-unsafe_word-requires = traits.items::traits::trait_item-unsafe_word-requires
 
-pub items::traits::expect_assoc_items-returns-then-at-clause-reads : goal.items::traits::expect_assoc_items-returns-then-at-clause-reads
-items::traits::expect_assoc_items-returns-then-at-clause-reads = traits.items::traits::expect_assoc_items-returns-then-at-clause-reads
-
-pub items::traits::expect_assoc_items-returns-clause-reads : goal.items::traits::expect_assoc_items-returns-clause-reads
-items::traits::expect_assoc_items-returns-clause-reads = traits.items::traits::expect_assoc_items-returns-clause-reads
-
 pub types::any_type-returns-clause-gives : goal.types::any_type-returns-clause-gives
 types::any_type-returns-clause-gives = types.types::any_type-returns-clause-gives
 
@@ -2075,12 +1699,6 @@ types::path_type-complete-requires = types.types::path_type-complete-requires
 
 pub types::path_type-returns-clause-reads : goal.types::path_type-returns-clause-reads
 types::path_type-returns-clause-reads = types.types::path_type-returns-clause-reads
-
-pub types::expect_type-returns-then-at_type-clause-reads : goal.types::expect_type-returns-then-at_type-clause-reads
-types::expect_type-returns-then-at_type-clause-reads = types.types::expect_type-returns-then-at_type-clause-reads
-
-pub types::expect_type-returns-clause-reads : goal.types::expect_type-returns-clause-reads
-types::expect_type-returns-clause-reads = types.types::expect_type-returns-clause-reads
 
 pub types::ptr_type-complete-requires : goal.types::ptr_type-complete-requires
 types::ptr_type-complete-requires = types.types::ptr_type-complete-requires
@@ -2142,18 +1760,6 @@ types::opt_type_after-returns-then-at-clause-reads = types.types::opt_type_after
 pub types::opt_type_after-returns-else-at-clause-reads : goal.types::opt_type_after-returns-else-at-clause-reads
 types::opt_type_after-returns-else-at-clause-reads = types.types::opt_type_after-returns-else-at-clause-reads
 
-pub expressions::control::arm_turn-returns-then-at_pattern-clause-keeps : goal.expressions::control::arm_turn-returns-then-at_pattern-clause-keeps
-expressions::control::arm_turn-returns-then-at_pattern-clause-keeps = control.expressions::control::arm_turn-returns-then-at_pattern-clause-keeps
-
-pub expressions::control::arm_turn-returns-then-at_pattern-clause-asks : goal.expressions::control::arm_turn-returns-then-at_pattern-clause-asks
-expressions::control::arm_turn-returns-then-at_pattern-clause-asks = control.expressions::control::arm_turn-returns-then-at_pattern-clause-asks
-
-pub expressions::control::arm_turn-returns-clause-keeps : goal.expressions::control::arm_turn-returns-clause-keeps
-expressions::control::arm_turn-returns-clause-keeps = control.expressions::control::arm_turn-returns-clause-keeps
-
-pub expressions::control::arm_turn-returns-clause-asks : goal.expressions::control::arm_turn-returns-clause-asks
-expressions::control::arm_turn-returns-clause-asks = control.expressions::control::arm_turn-returns-clause-asks
-
 pub expressions::range_end-returns-then-at_range_operand-clause-ends : goal.expressions::range_end-returns-then-at_range_operand-clause-ends
 expressions::range_end-returns-then-at_range_operand-clause-ends = expressions.expressions::range_end-returns-then-at_range_operand-clause-ends
 
@@ -2213,15 +1819,6 @@ types::bare_or_any-returns-then-at_bare_type-clause-reads = types.types::bare_or
 
 pub types::bare_or_any-returns-clause-reads : goal.types::bare_or_any-returns-clause-reads
 types::bare_or_any-returns-clause-reads = types.types::bare_or_any-returns-clause-reads
-
-pub types::expect_type_no_bounds-type_no_bounds-requires : goal.types::expect_type_no_bounds-type_no_bounds-requires
-types::expect_type_no_bounds-type_no_bounds-requires = types.types::expect_type_no_bounds-type_no_bounds-requires
-
-pub types::expect_type_no_bounds-returns-then-at_type_no_bounds-clause-reads : goal.types::expect_type_no_bounds-returns-then-at_type_no_bounds-clause-reads
-types::expect_type_no_bounds-returns-then-at_type_no_bounds-clause-reads = types.types::expect_type_no_bounds-returns-then-at_type_no_bounds-clause-reads
-
-pub types::expect_type_no_bounds-returns-clause-reads : goal.types::expect_type_no_bounds-returns-clause-reads
-types::expect_type_no_bounds-returns-clause-reads = types.types::expect_type_no_bounds-returns-clause-reads
 
 pub types::for_or_path-returns-then-at-clause-reads : goal.types::for_or_path-returns-then-at-clause-reads
 types::for_or_path-returns-then-at-clause-reads = types.types::for_or_path-returns-then-at-clause-reads
@@ -2288,9 +1885,6 @@ types::inside-path_type-requires = types.types::inside-path_type-requires
 
 pub types::inside-returns-else-at_new_type : goal.types::inside-returns-else-at_new_type
 types::inside-returns-else-at_new_type = types.types::inside-returns-else-at_new_type
-
-pub types::expect_type-any_type-requires : goal.types::expect_type-any_type-requires
-types::expect_type-any_type-requires = types.types::expect_type-any_type-requires
 
 pub paths::paren_args-opt_colons_before_paren-requires : goal.paths::paren_args-opt_colons_before_paren-requires
 paths::paren_args-opt_colons_before_paren-requires = paths.paths::paren_args-opt_colons_before_paren-requires
@@ -2516,18 +2110,6 @@ fn_pointers::fn_ptr_type-complete-requires = fn_pointers.fn_pointers::fn_ptr_typ
 
 pub fn_pointers::fn_ptr_type-fn_ptr_words-requires : goal.fn_pointers::fn_ptr_type-fn_ptr_words-requires
 fn_pointers::fn_ptr_type-fn_ptr_words-requires = fn_pointers.fn_pointers::fn_ptr_type-fn_ptr_words-requires
-
-pub fn_pointers::expect_params-returns-then-at-clause-reads : goal.fn_pointers::expect_params-returns-then-at-clause-reads
-fn_pointers::expect_params-returns-then-at-clause-reads = fn_pointers.fn_pointers::expect_params-returns-then-at-clause-reads
-
-pub fn_pointers::expect_params-returns-clause-reads : goal.fn_pointers::expect_params-returns-clause-reads
-fn_pointers::expect_params-returns-clause-reads = fn_pointers.fn_pointers::expect_params-returns-clause-reads
-
-pub fn_pointers::params-returns-clause-reads : goal.fn_pointers::params-returns-clause-reads
-fn_pointers::params-returns-clause-reads = fn_pointers.fn_pointers::params-returns-clause-reads
-
-pub fn_pointers::params-complete-requires : goal.fn_pointers::params-complete-requires
-fn_pointers::params-complete-requires = fn_pointers.fn_pointers::params-complete-requires
 
 pub fn_pointers::dots_or_type-returns-then-at_dots_dot-clause-reads : goal.fn_pointers::dots_or_type-returns-then-at_dots_dot-clause-reads
 fn_pointers::dots_or_type-returns-then-at_dots_dot-clause-reads = fn_pointers.fn_pointers::dots_or_type-returns-then-at_dots_dot-clause-reads
@@ -2826,18 +2408,6 @@ items::body-returns-clause-completes = items.items::body-returns-clause-complete
 pub items::body-returns-clause-takes : goal.items::body-returns-clause-takes
 items::body-returns-clause-takes = items.items::body-returns-clause-takes
 
-pub items::opt_new_generics-returns-then-at_new-clause-reads : goal.items::opt_new_generics-returns-then-at_new-clause-reads
-items::opt_new_generics-returns-then-at_new-clause-reads = items.items::opt_new_generics-returns-then-at_new-clause-reads
-
-pub items::opt_new_generics-returns-else-at_new-clause-reads : goal.items::opt_new_generics-returns-else-at_new-clause-reads
-items::opt_new_generics-returns-else-at_new-clause-reads = items.items::opt_new_generics-returns-else-at_new-clause-reads
-
-pub items::opt_new_where-returns-then-at_new-clause-reads : goal.items::opt_new_where-returns-then-at_new-clause-reads
-items::opt_new_where-returns-then-at_new-clause-reads = items.items::opt_new_where-returns-then-at_new-clause-reads
-
-pub items::opt_new_where-returns-else-at_new-clause-reads : goal.items::opt_new_where-returns-else-at_new-clause-reads
-items::opt_new_where-returns-else-at_new-clause-reads = items.items::opt_new_where-returns-else-at_new-clause-reads
-
 pub items::functions::fn_item-returns-clause-completes : goal.items::functions::fn_item-returns-clause-completes
 items::functions::fn_item-returns-clause-completes = functions.items::functions::fn_item-returns-clause-completes
 
@@ -3075,12 +2645,6 @@ items::new_items::union_item-returns-clause-completes = new_items.items::new_ite
 pub items::new_items::union_item-complete-requires : goal.items::new_items::union_item-complete-requires
 items::new_items::union_item-complete-requires = new_items.items::new_items::union_item-complete-requires
 
-pub items::new_items::expect_record_fields-returns-then-at-clause-reads : goal.items::new_items::expect_record_fields-returns-then-at-clause-reads
-items::new_items::expect_record_fields-returns-then-at-clause-reads = new_items.items::new_items::expect_record_fields-returns-then-at-clause-reads
-
-pub items::new_items::expect_record_fields-returns-clause-reads : goal.items::new_items::expect_record_fields-returns-clause-reads
-items::new_items::expect_record_fields-returns-clause-reads = new_items.items::new_items::expect_record_fields-returns-clause-reads
-
 pub items::new_items::words_from_async-returns-clause-completes : goal.items::new_items::words_from_async-returns-clause-completes
 items::new_items::words_from_async-returns-clause-completes = new_items.items::new_items::words_from_async-returns-clause-completes
 
@@ -3230,3 +2794,678 @@ lists::read_element-fn_ptr_param-requires = lists.lists::read_element-fn_ptr_par
 
 pub lists::read_element-returns-in-FnPtrParam-clause-reads : goal.lists::read_element-returns-in-FnPtrParam-clause-reads
 lists::read_element-returns-in-FnPtrParam-clause-reads = lists.lists::read_element-returns-in-FnPtrParam-clause-reads
+
+pub parts::read_part-list-requires : goal.parts::read_part-list-requires
+parts::read_part-list-requires = parts.parts::read_part-list-requires
+
+pub parts::read_part-returns-in-Arguments-clause-reads : goal.parts::read_part-returns-in-Arguments-clause-reads
+parts::read_part-returns-in-Arguments-clause-reads = parts.parts::read_part-returns-in-Arguments-clause-reads
+
+pub parts::read_part-item_list-requires : goal.parts::read_part-item_list-requires
+parts::read_part-item_list-requires = parts.parts::read_part-item_list-requires
+
+pub parts::read_part-returns-in-AssocItems-clause-reads : goal.parts::read_part-returns-in-AssocItems-clause-reads
+parts::read_part-returns-in-AssocItems-clause-reads = parts.parts::read_part-returns-in-AssocItems-clause-reads
+
+pub parts::read_part-block-requires : goal.parts::read_part-block-requires
+parts::read_part-block-requires = parts.parts::read_part-block-requires
+
+pub parts::read_part-returns-in-Block-clause-reads : goal.parts::read_part-returns-in-Block-clause-reads
+parts::read_part-returns-in-Block-clause-reads = parts.parts::read_part-returns-in-Block-clause-reads
+
+pub parts::read_part-list-requires-in-ClosureParams : goal.parts::read_part-list-requires-in-ClosureParams
+parts::read_part-list-requires-in-ClosureParams = parts.parts::read_part-list-requires-in-ClosureParams
+
+pub parts::read_part-returns-in-ClosureParams-clause-reads : goal.parts::read_part-returns-in-ClosureParams-clause-reads
+parts::read_part-returns-in-ClosureParams-clause-reads = parts.parts::read_part-returns-in-ClosureParams-clause-reads
+
+pub parts::read_part-list-requires-in-FnPtrParams : goal.parts::read_part-list-requires-in-FnPtrParams
+parts::read_part-list-requires-in-FnPtrParams = parts.parts::read_part-list-requires-in-FnPtrParams
+
+pub parts::read_part-returns-in-FnPtrParams-clause-reads : goal.parts::read_part-returns-in-FnPtrParams-clause-reads
+parts::read_part-returns-in-FnPtrParams-clause-reads = parts.parts::read_part-returns-in-FnPtrParams-clause-reads
+
+pub parts::read_part-generic_args-requires : goal.parts::read_part-generic_args-requires
+parts::read_part-generic_args-requires = parts.parts::read_part-generic_args-requires
+
+pub parts::read_part-returns-in-GenericArgs-clause-reads : goal.parts::read_part-returns-in-GenericArgs-clause-reads
+parts::read_part-returns-in-GenericArgs-clause-reads = parts.parts::read_part-returns-in-GenericArgs-clause-reads
+
+pub parts::read_part-list-requires-in-GenericParams : goal.parts::read_part-list-requires-in-GenericParams
+parts::read_part-list-requires-in-GenericParams = parts.parts::read_part-list-requires-in-GenericParams
+
+pub parts::read_part-returns-in-GenericParams-clause-reads : goal.parts::read_part-returns-in-GenericParams-clause-reads
+parts::read_part-returns-in-GenericParams-clause-reads = parts.parts::read_part-returns-in-GenericParams-clause-reads
+
+pub parts::read_part-match_arms-requires : goal.parts::read_part-match_arms-requires
+parts::read_part-match_arms-requires = parts.parts::read_part-match_arms-requires
+
+pub parts::read_part-returns-in-MatchArms-clause-reads : goal.parts::read_part-returns-in-MatchArms-clause-reads
+parts::read_part-returns-in-MatchArms-clause-reads = parts.parts::read_part-returns-in-MatchArms-clause-reads
+
+pub parts::read_part-where_clause-requires : goal.parts::read_part-where_clause-requires
+parts::read_part-where_clause-requires = parts.parts::read_part-where_clause-requires
+
+pub parts::read_part-returns-in-NewWhereClause-clause-reads : goal.parts::read_part-returns-in-NewWhereClause-clause-reads
+parts::read_part-returns-in-NewWhereClause-clause-reads = parts.parts::read_part-returns-in-NewWhereClause-clause-reads
+
+pub parts::read_part-list-requires-in-Params : goal.parts::read_part-list-requires-in-Params
+parts::read_part-list-requires-in-Params = parts.parts::read_part-list-requires-in-Params
+
+pub parts::read_part-returns-in-Params-clause-reads : goal.parts::read_part-returns-in-Params-clause-reads
+parts::read_part-returns-in-Params-clause-reads = parts.parts::read_part-returns-in-Params-clause-reads
+
+pub parts::read_part-path_type-requires : goal.parts::read_part-path_type-requires
+parts::read_part-path_type-requires = parts.parts::read_part-path_type-requires
+
+pub parts::read_part-returns-in-PathType-clause-reads : goal.parts::read_part-returns-in-PathType-clause-reads
+parts::read_part-returns-in-PathType-clause-reads = parts.parts::read_part-returns-in-PathType-clause-reads
+
+pub parts::read_part-pattern-requires : goal.parts::read_part-pattern-requires
+parts::read_part-pattern-requires = parts.parts::read_part-pattern-requires
+
+pub parts::read_part-returns-in-Pattern-clause-reads : goal.parts::read_part-returns-in-Pattern-clause-reads
+parts::read_part-returns-in-Pattern-clause-reads = parts.parts::read_part-returns-in-Pattern-clause-reads
+
+pub parts::read_part-list-requires-in-RecordFields : goal.parts::read_part-list-requires-in-RecordFields
+parts::read_part-list-requires-in-RecordFields = parts.parts::read_part-list-requires-in-RecordFields
+
+pub parts::read_part-returns-in-RecordFields-clause-reads : goal.parts::read_part-returns-in-RecordFields-clause-reads
+parts::read_part-returns-in-RecordFields-clause-reads = parts.parts::read_part-returns-in-RecordFields-clause-reads
+
+pub parts::read_part-single_pattern-requires : goal.parts::read_part-single_pattern-requires
+parts::read_part-single_pattern-requires = parts.parts::read_part-single_pattern-requires
+
+pub parts::read_part-returns-in-SinglePattern-clause-reads : goal.parts::read_part-returns-in-SinglePattern-clause-reads
+parts::read_part-returns-in-SinglePattern-clause-reads = parts.parts::read_part-returns-in-SinglePattern-clause-reads
+
+pub parts::read_part-statement_list-requires : goal.parts::read_part-statement_list-requires
+parts::read_part-statement_list-requires = parts.parts::read_part-statement_list-requires
+
+pub parts::read_part-returns-in-StatementList-clause-reads : goal.parts::read_part-returns-in-StatementList-clause-reads
+parts::read_part-returns-in-StatementList-clause-reads = parts.parts::read_part-returns-in-StatementList-clause-reads
+
+pub parts::read_part-any_type-requires : goal.parts::read_part-any_type-requires
+parts::read_part-any_type-requires = parts.parts::read_part-any_type-requires
+
+pub parts::read_part-returns-in-Type-clause-reads : goal.parts::read_part-returns-in-Type-clause-reads
+parts::read_part-returns-in-Type-clause-reads = parts.parts::read_part-returns-in-Type-clause-reads
+
+pub parts::read_part-type_no_bounds-requires : goal.parts::read_part-type_no_bounds-requires
+parts::read_part-type_no_bounds-requires = parts.parts::read_part-type_no_bounds-requires
+
+pub parts::read_part-returns-in-TypeNoBounds-clause-reads : goal.parts::read_part-returns-in-TypeNoBounds-clause-reads
+parts::read_part-returns-in-TypeNoBounds-clause-reads = parts.parts::read_part-returns-in-TypeNoBounds-clause-reads
+
+pub parts::read_part-list-requires-in-Variants : goal.parts::read_part-list-requires-in-Variants
+parts::read_part-list-requires-in-Variants = parts.parts::read_part-list-requires-in-Variants
+
+pub parts::read_part-returns-in-Variants-clause-reads : goal.parts::read_part-returns-in-Variants-clause-reads
+parts::read_part-returns-in-Variants-clause-reads = parts.parts::read_part-returns-in-Variants-clause-reads
+
+pub parts::read_part-where_pred-requires : goal.parts::read_part-where_pred-requires
+parts::read_part-where_pred-requires = parts.parts::read_part-where_pred-requires
+
+pub parts::read_part-returns-in-WherePred-clause-reads : goal.parts::read_part-returns-in-WherePred-clause-reads
+parts::read_part-returns-in-WherePred-clause-reads = parts.parts::read_part-returns-in-WherePred-clause-reads
+
+pub parts::expect_part-read_part-requires : goal.parts::expect_part-read_part-requires
+parts::expect_part-read_part-requires = parts.parts::expect_part-read_part-requires
+
+pub parts::expect_part-returns-then-at_part-clause-reads : goal.parts::expect_part-returns-then-at_part-clause-reads
+parts::expect_part-returns-then-at_part-clause-reads = parts.parts::expect_part-returns-then-at_part-clause-reads
+
+pub parts::expect_part-returns-clause-reads : goal.parts::expect_part-returns-clause-reads
+parts::expect_part-returns-clause-reads = parts.parts::expect_part-returns-clause-reads
+
+pub parts::opt_part-read_part-requires : goal.parts::opt_part-read_part-requires
+parts::opt_part-read_part-requires = parts.parts::opt_part-read_part-requires
+
+pub parts::opt_part-returns-then-at_part-clause-reads : goal.parts::opt_part-returns-then-at_part-clause-reads
+parts::opt_part-returns-then-at_part-clause-reads = parts.parts::opt_part-returns-then-at_part-clause-reads
+
+pub parts::opt_part-returns-else-at_part-clause-reads : goal.parts::opt_part-returns-else-at_part-clause-reads
+parts::opt_part-returns-else-at_part-clause-reads = parts.parts::opt_part-returns-else-at_part-clause-reads
+
+pub lists::list-rest_of_list-requires : goal.lists::list-rest_of_list-requires
+lists::list-rest_of_list-requires = lists.lists::list-rest_of_list-requires
+
+pub lists::list-complete-requires : goal.lists::list-complete-requires
+lists::list-complete-requires = lists.lists::list-complete-requires
+
+pub lists::list-returns-clause-reads : goal.lists::list-returns-clause-reads
+lists::list-returns-clause-reads = lists.lists::list-returns-clause-reads
+
+pub lists::list-returns-clause-takes : goal.lists::list-returns-clause-takes
+lists::list-returns-clause-takes = lists.lists::list-returns-clause-takes
+
+pub expressions::control::while_expr-returns-clause-reads : goal.expressions::control::while_expr-returns-clause-reads
+expressions::control::while_expr-returns-clause-reads = control.expressions::control::while_expr-returns-clause-reads
+
+pub expressions::control::while_expr-complete-requires : goal.expressions::control::while_expr-complete-requires
+expressions::control::while_expr-complete-requires = control.expressions::control::while_expr-complete-requires
+
+pub expressions::control::loop_expr-returns-clause-reads : goal.expressions::control::loop_expr-returns-clause-reads
+expressions::control::loop_expr-returns-clause-reads = control.expressions::control::loop_expr-returns-clause-reads
+
+pub expressions::control::loop_expr-complete-requires : goal.expressions::control::loop_expr-complete-requires
+expressions::control::loop_expr-complete-requires = control.expressions::control::loop_expr-complete-requires
+
+pub expressions::control::for_expr-returns-clause-reads : goal.expressions::control::for_expr-returns-clause-reads
+expressions::control::for_expr-returns-clause-reads = control.expressions::control::for_expr-returns-clause-reads
+
+pub expressions::control::for_expr-complete-requires : goal.expressions::control::for_expr-complete-requires
+expressions::control::for_expr-complete-requires = control.expressions::control::for_expr-complete-requires
+
+pub expressions::control::while_rest-returns-clause-reads : goal.expressions::control::while_rest-returns-clause-reads
+expressions::control::while_rest-returns-clause-reads = control.expressions::control::while_rest-returns-clause-reads
+
+pub expressions::control::loop_rest-returns-clause-reads : goal.expressions::control::loop_rest-returns-clause-reads
+expressions::control::loop_rest-returns-clause-reads = control.expressions::control::loop_rest-returns-clause-reads
+
+pub expressions::control::for_rest-returns-clause-reads : goal.expressions::control::for_rest-returns-clause-reads
+expressions::control::for_rest-returns-clause-reads = control.expressions::control::for_rest-returns-clause-reads
+
+pub expressions::control::after_label-returns-in-WHILE_KW-clause-completes : goal.expressions::control::after_label-returns-in-WHILE_KW-clause-completes
+expressions::control::after_label-returns-in-WHILE_KW-clause-completes = control.expressions::control::after_label-returns-in-WHILE_KW-clause-completes
+
+pub expressions::control::after_label-returns-in-LOOP_KW-clause-completes : goal.expressions::control::after_label-returns-in-LOOP_KW-clause-completes
+expressions::control::after_label-returns-in-LOOP_KW-clause-completes = control.expressions::control::after_label-returns-in-LOOP_KW-clause-completes
+
+pub expressions::control::after_label-returns-in-FOR_KW-clause-completes : goal.expressions::control::after_label-returns-in-FOR_KW-clause-completes
+expressions::control::after_label-returns-in-FOR_KW-clause-completes = control.expressions::control::after_label-returns-in-FOR_KW-clause-completes
+
+pub expressions::control::after_label-returns-in_default-clause-completes : goal.expressions::control::after_label-returns-in_default-clause-completes
+expressions::control::after_label-returns-in_default-clause-completes = control.expressions::control::after_label-returns-in_default-clause-completes
+
+pub expressions::control::after_label-complete-requires : goal.expressions::control::after_label-complete-requires
+expressions::control::after_label-complete-requires = control.expressions::control::after_label-complete-requires
+
+pub expressions::control::after_label-complete-requires-in-LOOP_KW : goal.expressions::control::after_label-complete-requires-in-LOOP_KW
+expressions::control::after_label-complete-requires-in-LOOP_KW = control.expressions::control::after_label-complete-requires-in-LOOP_KW
+
+pub expressions::control::after_label-complete-requires-in-FOR_KW : goal.expressions::control::after_label-complete-requires-in-FOR_KW
+expressions::control::after_label-complete-requires-in-FOR_KW = control.expressions::control::after_label-complete-requires-in-FOR_KW
+
+pub expressions::control::after_label-complete-requires-in_default : goal.expressions::control::after_label-complete-requires-in_default
+expressions::control::after_label-complete-requires-in_default = control.expressions::control::after_label-complete-requires-in_default
+
+pub expressions::control::block_with_words-returns-clause-reads : goal.expressions::control::block_with_words-returns-clause-reads
+expressions::control::block_with_words-returns-clause-reads = control.expressions::control::block_with_words-returns-clause-reads
+
+pub expressions::control::block_with_words-complete-requires : goal.expressions::control::block_with_words-complete-requires
+expressions::control::block_with_words-complete-requires = control.expressions::control::block_with_words-complete-requires
+
+pub expressions::control::new_block-returns-then-at-clause-anew : goal.expressions::control::new_block-returns-then-at-clause-anew
+expressions::control::new_block-returns-then-at-clause-anew = control.expressions::control::new_block-returns-then-at-clause-anew
+
+pub expressions::control::new_block-returns-clause-anew : goal.expressions::control::new_block-returns-clause-anew
+expressions::control::new_block-returns-clause-anew = control.expressions::control::new_block-returns-clause-anew
+
+pub expressions::control::labelled-after_label-requires : goal.expressions::control::labelled-after_label-requires
+expressions::control::labelled-after_label-requires = control.expressions::control::labelled-after_label-requires
+
+pub expressions::control::labelled-returns-clause-anew : goal.expressions::control::labelled-returns-clause-anew
+expressions::control::labelled-returns-clause-anew = control.expressions::control::labelled-returns-clause-anew
+
+pub expressions::control::block_like-returns-in-L_CURLY-clause-gives : goal.expressions::control::block_like-returns-in-L_CURLY-clause-gives
+expressions::control::block_like-returns-in-L_CURLY-clause-gives = control.expressions::control::block_like-returns-in-L_CURLY-clause-gives
+
+pub expressions::control::block_like-returns-in-UNSAFE_KW-clause-gives : goal.expressions::control::block_like-returns-in-UNSAFE_KW-clause-gives
+expressions::control::block_like-returns-in-UNSAFE_KW-clause-gives = control.expressions::control::block_like-returns-in-UNSAFE_KW-clause-gives
+
+pub expressions::control::block_like-returns-in-IF_KW-clause-gives : goal.expressions::control::block_like-returns-in-IF_KW-clause-gives
+expressions::control::block_like-returns-in-IF_KW-clause-gives = control.expressions::control::block_like-returns-in-IF_KW-clause-gives
+
+pub expressions::control::block_like-returns-in-WHILE_KW-clause-gives : goal.expressions::control::block_like-returns-in-WHILE_KW-clause-gives
+expressions::control::block_like-returns-in-WHILE_KW-clause-gives = control.expressions::control::block_like-returns-in-WHILE_KW-clause-gives
+
+pub expressions::control::block_like-returns-in-LOOP_KW-clause-gives : goal.expressions::control::block_like-returns-in-LOOP_KW-clause-gives
+expressions::control::block_like-returns-in-LOOP_KW-clause-gives = control.expressions::control::block_like-returns-in-LOOP_KW-clause-gives
+
+pub expressions::control::block_like-returns-in-FOR_KW-clause-gives : goal.expressions::control::block_like-returns-in-FOR_KW-clause-gives
+expressions::control::block_like-returns-in-FOR_KW-clause-gives = control.expressions::control::block_like-returns-in-FOR_KW-clause-gives
+
+pub expressions::control::block_like-returns-in-MATCH_KW-clause-gives : goal.expressions::control::block_like-returns-in-MATCH_KW-clause-gives
+expressions::control::block_like-returns-in-MATCH_KW-clause-gives = control.expressions::control::block_like-returns-in-MATCH_KW-clause-gives
+
+pub expressions::control::block_like-returns-then-at_new_block-clause-gives : goal.expressions::control::block_like-returns-then-at_new_block-clause-gives
+expressions::control::block_like-returns-then-at_new_block-clause-gives = control.expressions::control::block_like-returns-then-at_new_block-clause-gives
+
+pub expressions::control::block_like-new_block-requires : goal.expressions::control::block_like-new_block-requires
+expressions::control::block_like-new_block-requires = control.expressions::control::block_like-new_block-requires
+
+pub expressions::atom::return_expr-returns-clause-reads : goal.expressions::atom::return_expr-returns-clause-reads
+expressions::atom::return_expr-returns-clause-reads = atom.expressions::atom::return_expr-returns-clause-reads
+
+pub expressions::atom::return_expr-complete-requires : goal.expressions::atom::return_expr-complete-requires
+expressions::atom::return_expr-complete-requires = atom.expressions::atom::return_expr-complete-requires
+
+pub expressions::atom::break_expr-returns-clause-reads : goal.expressions::atom::break_expr-returns-clause-reads
+expressions::atom::break_expr-returns-clause-reads = atom.expressions::atom::break_expr-returns-clause-reads
+
+pub expressions::atom::break_expr-complete-requires : goal.expressions::atom::break_expr-complete-requires
+expressions::atom::break_expr-complete-requires = atom.expressions::atom::break_expr-complete-requires
+
+pub expressions::atom::let_expr-complete-requires : goal.expressions::atom::let_expr-complete-requires
+expressions::atom::let_expr-complete-requires = atom.expressions::atom::let_expr-complete-requires
+
+pub expressions::atom::new_atom-returns-in-UNDERSCORE-clause-reads : goal.expressions::atom::new_atom-returns-in-UNDERSCORE-clause-reads
+expressions::atom::new_atom-returns-in-UNDERSCORE-clause-reads = atom.expressions::atom::new_atom-returns-in-UNDERSCORE-clause-reads
+
+pub expressions::atom::new_atom-qualified_path-frame-requires : goal.expressions::atom::new_atom-qualified_path-frame-requires
+expressions::atom::new_atom-qualified_path-frame-requires = atom.expressions::atom::new_atom-qualified_path-frame-requires
+
+pub expressions::atom::new_atom-after_path-requires : goal.expressions::atom::new_atom-after_path-requires
+expressions::atom::new_atom-after_path-requires = atom.expressions::atom::new_atom-after_path-requires
+
+pub expressions::closures::closure_with_words-returns-clause-reads : goal.expressions::closures::closure_with_words-returns-clause-reads
+expressions::closures::closure_with_words-returns-clause-reads = atom.expressions::closures::closure_with_words-returns-clause-reads
+
+pub expressions::closures::closure_with_words-complete-requires : goal.expressions::closures::closure_with_words-complete-requires
+expressions::closures::closure_with_words-complete-requires = atom.expressions::closures::closure_with_words-complete-requires
+
+pub expressions::closures::closure_words-returns-in-CONST_KW-clause-reads : goal.expressions::closures::closure_words-returns-in-CONST_KW-clause-reads
+expressions::closures::closure_words-returns-in-CONST_KW-clause-reads = atom.expressions::closures::closure_words-returns-in-CONST_KW-clause-reads
+
+pub expressions::closures::closure_words-returns-in-STATIC_KW-clause-reads : goal.expressions::closures::closure_words-returns-in-STATIC_KW-clause-reads
+expressions::closures::closure_words-returns-in-STATIC_KW-clause-reads = atom.expressions::closures::closure_words-returns-in-STATIC_KW-clause-reads
+
+pub expressions::closures::closure_words-returns-in_default-clause-reads : goal.expressions::closures::closure_words-returns-in_default-clause-reads
+expressions::closures::closure_words-returns-in_default-clause-reads = atom.expressions::closures::closure_words-returns-in_default-clause-reads
+
+pub patterns::single_or_missing-returns-then-at_single_pattern-clause-gives : goal.patterns::single_or_missing-returns-then-at_single_pattern-clause-gives
+patterns::single_or_missing-returns-then-at_single_pattern-clause-gives = patterns.patterns::single_or_missing-returns-then-at_single_pattern-clause-gives
+
+pub patterns::single_or_missing-returns-clause-gives : goal.patterns::single_or_missing-returns-clause-gives
+patterns::single_or_missing-returns-clause-gives = patterns.patterns::single_or_missing-returns-clause-gives
+
+pub patterns::single_or_missing-single_pattern-requires : goal.patterns::single_or_missing-single_pattern-requires
+patterns::single_or_missing-single_pattern-requires = patterns.patterns::single_or_missing-single_pattern-requires
+
+pub patterns::single_or_missing-missing_single-requires : goal.patterns::single_or_missing-missing_single-requires
+patterns::single_or_missing-missing_single-requires = patterns.patterns::single_or_missing-missing_single-requires
+
+pub expressions::operand::raw_ref_expr-returns-clause-reads : goal.expressions::operand::raw_ref_expr-returns-clause-reads
+expressions::operand::raw_ref_expr-returns-clause-reads = operand.expressions::operand::raw_ref_expr-returns-clause-reads
+
+pub expressions::operand::raw_ref_expr-complete-requires : goal.expressions::operand::raw_ref_expr-complete-requires
+expressions::operand::raw_ref_expr-complete-requires = operand.expressions::operand::raw_ref_expr-complete-requires
+
+pub expressions::operand::new_operand-returns-then-at_raw-clause-reads : goal.expressions::operand::new_operand-returns-then-at_raw-clause-reads
+expressions::operand::new_operand-returns-then-at_raw-clause-reads = operand.expressions::operand::new_operand-returns-then-at_raw-clause-reads
+
+pub fields::attributed_value-value_after_attributes-requires : goal.fields::attributed_value-value_after_attributes-requires
+fields::attributed_value-value_after_attributes-requires = fields.fields::attributed_value-value_after_attributes-requires
+
+pub fields::attributed_value-returns-clause-anew : goal.fields::attributed_value-returns-clause-anew
+fields::attributed_value-returns-clause-anew = fields.fields::attributed_value-returns-clause-anew
+
+pub fields::value_after_attributes-returns-then-at_attributed_named_field-clause-completes : goal.fields::value_after_attributes-returns-then-at_attributed_named_field-clause-completes
+fields::value_after_attributes-returns-then-at_attributed_named_field-clause-completes = fields.fields::value_after_attributes-returns-then-at_attributed_named_field-clause-completes
+
+pub fields::value_after_attributes-returns-clause-completes : goal.fields::value_after_attributes-returns-clause-completes
+fields::value_after_attributes-returns-clause-completes = fields.fields::value_after_attributes-returns-clause-completes
+
+pub fields::value_after_attributes-complete-requires : goal.fields::value_after_attributes-complete-requires
+fields::value_after_attributes-complete-requires = fields.fields::value_after_attributes-complete-requires
+
+pub fields::value_after_attributes-complete-requires-2 : goal.fields::value_after_attributes-complete-requires-2
+fields::value_after_attributes-complete-requires-2 = fields.fields::value_after_attributes-complete-requires-2
+
+pub fields::field_value-returns-then-at_new-clause-gives : goal.fields::field_value-returns-then-at_new-clause-gives
+fields::field_value-returns-then-at_new-clause-gives = fields.fields::field_value-returns-then-at_new-clause-gives
+
+pub fields::field_value-returns-then-at_named_field-clause-gives : goal.fields::field_value-returns-then-at_named_field-clause-gives
+fields::field_value-returns-then-at_named_field-clause-gives = fields.fields::field_value-returns-then-at_named_field-clause-gives
+
+pub expressions::match_arm::opt_guard-returns-then-at-clause-reads : goal.expressions::match_arm::opt_guard-returns-then-at-clause-reads
+expressions::match_arm::opt_guard-returns-then-at-clause-reads = match_arm.expressions::match_arm::opt_guard-returns-then-at-clause-reads
+
+pub expressions::match_arm::opt_guard-returns-else-at-clause-reads : goal.expressions::match_arm::opt_guard-returns-else-at-clause-reads
+expressions::match_arm::opt_guard-returns-else-at-clause-reads = match_arm.expressions::match_arm::opt_guard-returns-else-at-clause-reads
+
+pub expressions::match_arm::opt_guard-complete-requires : goal.expressions::match_arm::opt_guard-complete-requires
+expressions::match_arm::opt_guard-complete-requires = match_arm.expressions::match_arm::opt_guard-complete-requires
+
+pub expressions::match_arm::arm_value-returns-then-at_whole-clause-reads : goal.expressions::match_arm::arm_value-returns-then-at_whole-clause-reads
+expressions::match_arm::arm_value-returns-then-at_whole-clause-reads = match_arm.expressions::match_arm::arm_value-returns-then-at_whole-clause-reads
+
+pub expressions::match_arm::arm_value-returns-clause-reads : goal.expressions::match_arm::arm_value-returns-clause-reads
+expressions::match_arm::arm_value-returns-clause-reads = match_arm.expressions::match_arm::arm_value-returns-clause-reads
+
+pub expressions::match_arm::profile_value-returns-then-at_block_like-clause-reads : goal.expressions::match_arm::profile_value-returns-then-at_block_like-clause-reads
+expressions::match_arm::profile_value-returns-then-at_block_like-clause-reads = match_arm.expressions::match_arm::profile_value-returns-then-at_block_like-clause-reads
+
+pub expressions::match_arm::profile_value-returns-clause-reads : goal.expressions::match_arm::profile_value-returns-clause-reads
+expressions::match_arm::profile_value-returns-clause-reads = match_arm.expressions::match_arm::profile_value-returns-clause-reads
+
+pub expressions::match_arm::profile_value-block_like-requires : goal.expressions::match_arm::profile_value-block_like-requires
+expressions::match_arm::profile_value-block_like-requires = match_arm.expressions::match_arm::profile_value-block_like-requires
+
+pub expressions::match_arm::inside_arm-returns-then-at_block_like-clause-reads : goal.expressions::match_arm::inside_arm-returns-then-at_block_like-clause-reads
+expressions::match_arm::inside_arm-returns-then-at_block_like-clause-reads = match_arm.expressions::match_arm::inside_arm-returns-then-at_block_like-clause-reads
+
+pub expressions::match_arm::inside_arm-returns-then-at_long_path-clause-reads : goal.expressions::match_arm::inside_arm-returns-then-at_long_path-clause-reads
+expressions::match_arm::inside_arm-returns-then-at_long_path-clause-reads = match_arm.expressions::match_arm::inside_arm-returns-then-at_long_path-clause-reads
+
+pub expressions::match_arm::inside_arm-returns-clause-reads : goal.expressions::match_arm::inside_arm-returns-clause-reads
+expressions::match_arm::inside_arm-returns-clause-reads = match_arm.expressions::match_arm::inside_arm-returns-clause-reads
+
+pub expressions::match_arm::inside_arm-block_like-requires : goal.expressions::match_arm::inside_arm-block_like-requires
+expressions::match_arm::inside_arm-block_like-requires = match_arm.expressions::match_arm::inside_arm-block_like-requires
+
+pub expressions::match_arm::inside_arm-arm_tail-requires : goal.expressions::match_arm::inside_arm-arm_tail-requires
+expressions::match_arm::inside_arm-arm_tail-requires = match_arm.expressions::match_arm::inside_arm-arm_tail-requires
+
+pub expressions::match_arm::inside_arm-after_long_path-requires : goal.expressions::match_arm::inside_arm-after_long_path-requires
+expressions::match_arm::inside_arm-after_long_path-requires = match_arm.expressions::match_arm::inside_arm-after_long_path-requires
+
+pub expressions::match_arm::arm_tail-returns-clause-reads : goal.expressions::match_arm::arm_tail-returns-clause-reads
+expressions::match_arm::arm_tail-returns-clause-reads = match_arm.expressions::match_arm::arm_tail-returns-clause-reads
+
+pub expressions::match_arm::further_operators-postfixes-frame-requires : goal.expressions::match_arm::further_operators-postfixes-frame-requires
+expressions::match_arm::further_operators-postfixes-frame-requires = match_arm.expressions::match_arm::further_operators-postfixes-frame-requires
+
+pub expressions::match_arm::further_operators-climb-frame-requires : goal.expressions::match_arm::further_operators-climb-frame-requires
+expressions::match_arm::further_operators-climb-frame-requires = match_arm.expressions::match_arm::further_operators-climb-frame-requires
+
+pub expressions::match_arm::further_operators-operation_tail-frame-requires : goal.expressions::match_arm::further_operators-operation_tail-frame-requires
+expressions::match_arm::further_operators-operation_tail-frame-requires = match_arm.expressions::match_arm::further_operators-operation_tail-frame-requires
+
+pub expressions::match_arm::after_long_path-wrap-frame-requires : goal.expressions::match_arm::after_long_path-wrap-frame-requires
+expressions::match_arm::after_long_path-wrap-frame-requires = match_arm.expressions::match_arm::after_long_path-wrap-frame-requires
+
+pub expressions::match_arm::after_long_path-wrap-frame-requires-then-at_braced_macro : goal.expressions::match_arm::after_long_path-wrap-frame-requires-then-at_braced_macro
+expressions::match_arm::after_long_path-wrap-frame-requires-then-at_braced_macro = match_arm.expressions::match_arm::after_long_path-wrap-frame-requires-then-at_braced_macro
+
+pub expressions::match_arm::after_long_path-arm_tail-requires : goal.expressions::match_arm::after_long_path-arm_tail-requires
+expressions::match_arm::after_long_path-arm_tail-requires = match_arm.expressions::match_arm::after_long_path-arm_tail-requires
+
+pub expressions::match_arm::after_long_path-further_operators-requires : goal.expressions::match_arm::after_long_path-further_operators-requires
+expressions::match_arm::after_long_path-further_operators-requires = match_arm.expressions::match_arm::after_long_path-further_operators-requires
+
+pub expressions::match_arm::guard_value-returns-then-at_whole-clause-reads : goal.expressions::match_arm::guard_value-returns-then-at_whole-clause-reads
+expressions::match_arm::guard_value-returns-then-at_whole-clause-reads = match_arm.expressions::match_arm::guard_value-returns-then-at_whole-clause-reads
+
+pub expressions::match_arm::guard_value-returns-clause-reads : goal.expressions::match_arm::guard_value-returns-clause-reads
+expressions::match_arm::guard_value-returns-clause-reads = match_arm.expressions::match_arm::guard_value-returns-clause-reads
+
+pub expressions::match_arm::arm_body-inside_arm-frame-requires : goal.expressions::match_arm::arm_body-inside_arm-frame-requires
+expressions::match_arm::arm_body-inside_arm-frame-requires = match_arm.expressions::match_arm::arm_body-inside_arm-frame-requires
+
+pub expressions::match_arm::arm_body-returns-clause-gives : goal.expressions::match_arm::arm_body-returns-clause-gives
+expressions::match_arm::arm_body-returns-clause-gives = match_arm.expressions::match_arm::arm_body-returns-clause-gives
+
+pub expressions::match_arm::match_arm-complete-requires : goal.expressions::match_arm::match_arm-complete-requires
+expressions::match_arm::match_arm-complete-requires = match_arm.expressions::match_arm::match_arm-complete-requires
+
+pub expressions::match_arm::match_arm-attributed_pattern-requires : goal.expressions::match_arm::match_arm-attributed_pattern-requires
+expressions::match_arm::match_arm-attributed_pattern-requires = match_arm.expressions::match_arm::match_arm-attributed_pattern-requires
+
+pub expressions::closures::closure_param-complete-requires : goal.expressions::closures::closure_param-complete-requires
+expressions::closures::closure_param-complete-requires = atom.expressions::closures::closure_param-complete-requires
+
+pub expressions::closures::closure_param-attributed_single-requires : goal.expressions::closures::closure_param-attributed_single-requires
+expressions::closures::closure_param-attributed_single-requires = atom.expressions::closures::closure_param-attributed_single-requires
+
+pub expressions::match_arm::attributed_pattern-returns-then-at_new-clause-reads : goal.expressions::match_arm::attributed_pattern-returns-then-at_new-clause-reads
+expressions::match_arm::attributed_pattern-returns-then-at_new-clause-reads = match_arm.expressions::match_arm::attributed_pattern-returns-then-at_new-clause-reads
+
+pub expressions::match_arm::attributed_pattern-returns-clause-reads : goal.expressions::match_arm::attributed_pattern-returns-clause-reads
+expressions::match_arm::attributed_pattern-returns-clause-reads = match_arm.expressions::match_arm::attributed_pattern-returns-clause-reads
+
+pub expressions::match_arm::attributed_pattern-pattern-requires : goal.expressions::match_arm::attributed_pattern-pattern-requires
+expressions::match_arm::attributed_pattern-pattern-requires = match_arm.expressions::match_arm::attributed_pattern-pattern-requires
+
+pub expressions::closures::attributed_single-returns-then-at_new-clause-reads : goal.expressions::closures::attributed_single-returns-then-at_new-clause-reads
+expressions::closures::attributed_single-returns-then-at_new-clause-reads = atom.expressions::closures::attributed_single-returns-then-at_new-clause-reads
+
+pub expressions::closures::attributed_single-returns-clause-reads : goal.expressions::closures::attributed_single-returns-clause-reads
+expressions::closures::attributed_single-returns-clause-reads = atom.expressions::closures::attributed_single-returns-clause-reads
+
+pub expressions::closures::attributed_single-single_pattern-requires : goal.expressions::closures::attributed_single-single_pattern-requires
+expressions::closures::attributed_single-single_pattern-requires = atom.expressions::closures::attributed_single-single_pattern-requires
+
+pub patterns::missing_single-after_path-frame-requires : goal.patterns::missing_single-after_path-frame-requires
+patterns::missing_single-after_path-frame-requires = patterns.patterns::missing_single-after_path-frame-requires
+
+pub patterns::missing_single-opt_range-frame-requires : goal.patterns::missing_single-opt_range-frame-requires
+patterns::missing_single-opt_range-frame-requires = patterns.patterns::missing_single-opt_range-frame-requires
+
+pub or_patterns::pattern_or_missing-returns-then-at_pattern-clause-gives : goal.or_patterns::pattern_or_missing-returns-then-at_pattern-clause-gives
+or_patterns::pattern_or_missing-returns-then-at_pattern-clause-gives = patterns.or_patterns::pattern_or_missing-returns-then-at_pattern-clause-gives
+
+pub or_patterns::pattern_or_missing-pattern-requires : goal.or_patterns::pattern_or_missing-pattern-requires
+or_patterns::pattern_or_missing-pattern-requires = patterns.or_patterns::pattern_or_missing-pattern-requires
+
+pub or_patterns::pattern_or_missing-opt_further-frame-requires : goal.or_patterns::pattern_or_missing-opt_further-frame-requires
+or_patterns::pattern_or_missing-opt_further-frame-requires = patterns.or_patterns::pattern_or_missing-opt_further-frame-requires
+
+pub expressions::operand::after_dot-returns-then-at_method-clause-reads : goal.expressions::operand::after_dot-returns-then-at_method-clause-reads
+expressions::operand::after_dot-returns-then-at_method-clause-reads = operand.expressions::operand::after_dot-returns-then-at_method-clause-reads
+
+pub expressions::operand::after_dot-returns-then-at_new-clause-reads : goal.expressions::operand::after_dot-returns-then-at_new-clause-reads
+expressions::operand::after_dot-returns-then-at_new-clause-reads = operand.expressions::operand::after_dot-returns-then-at_new-clause-reads
+
+pub expressions::operand::after_dot-returns-in-IDENT-clause-reads : goal.expressions::operand::after_dot-returns-in-IDENT-clause-reads
+expressions::operand::after_dot-returns-in-IDENT-clause-reads = operand.expressions::operand::after_dot-returns-in-IDENT-clause-reads
+
+pub expressions::operand::after_dot-returns-in-INT_NUMBER-clause-reads : goal.expressions::operand::after_dot-returns-in-INT_NUMBER-clause-reads
+expressions::operand::after_dot-returns-in-INT_NUMBER-clause-reads = operand.expressions::operand::after_dot-returns-in-INT_NUMBER-clause-reads
+
+pub expressions::operand::after_dot-returns-in-FLOAT_NUMBER-clause-reads : goal.expressions::operand::after_dot-returns-in-FLOAT_NUMBER-clause-reads
+expressions::operand::after_dot-returns-in-FLOAT_NUMBER-clause-reads = operand.expressions::operand::after_dot-returns-in-FLOAT_NUMBER-clause-reads
+
+pub expressions::operand::after_dot-returns-in_default-clause-reads : goal.expressions::operand::after_dot-returns-in_default-clause-reads
+expressions::operand::after_dot-returns-in_default-clause-reads = operand.expressions::operand::after_dot-returns-in_default-clause-reads
+
+pub expressions::operand::after_dot-wrap-requires : goal.expressions::operand::after_dot-wrap-requires
+expressions::operand::after_dot-wrap-requires = operand.expressions::operand::after_dot-wrap-requires
+
+pub expressions::operand::after_dot-wrap-requires-then-at_new : goal.expressions::operand::after_dot-wrap-requires-then-at_new
+expressions::operand::after_dot-wrap-requires-then-at_new = operand.expressions::operand::after_dot-wrap-requires-then-at_new
+
+pub expressions::operand::after_dot-wrap-requires-in-IDENT : goal.expressions::operand::after_dot-wrap-requires-in-IDENT
+expressions::operand::after_dot-wrap-requires-in-IDENT = operand.expressions::operand::after_dot-wrap-requires-in-IDENT
+
+pub expressions::operand::after_dot-wrap-requires-in-INT_NUMBER : goal.expressions::operand::after_dot-wrap-requires-in-INT_NUMBER
+expressions::operand::after_dot-wrap-requires-in-INT_NUMBER = operand.expressions::operand::after_dot-wrap-requires-in-INT_NUMBER
+
+pub expressions::operand::after_dot-wrap-requires-in_default : goal.expressions::operand::after_dot-wrap-requires-in_default
+expressions::operand::after_dot-wrap-requires-in_default = operand.expressions::operand::after_dot-wrap-requires-in_default
+
+pub expressions::operand::prefixed-new_operand-requires : goal.expressions::operand::prefixed-new_operand-requires
+expressions::operand::prefixed-new_operand-requires = operand.expressions::operand::prefixed-new_operand-requires
+
+pub expressions::atom::inside-returns-in-RETURN_KW-clause-reads : goal.expressions::atom::inside-returns-in-RETURN_KW-clause-reads
+expressions::atom::inside-returns-in-RETURN_KW-clause-reads = atom.expressions::atom::inside-returns-in-RETURN_KW-clause-reads
+
+pub expressions::atom::inside-returns-in-BREAK_KW-clause-reads : goal.expressions::atom::inside-returns-in-BREAK_KW-clause-reads
+expressions::atom::inside-returns-in-BREAK_KW-clause-reads = atom.expressions::atom::inside-returns-in-BREAK_KW-clause-reads
+
+pub expressions::atom::inside-returns-in-CONTINUE_KW-clause-reads : goal.expressions::atom::inside-returns-in-CONTINUE_KW-clause-reads
+expressions::atom::inside-returns-in-CONTINUE_KW-clause-reads = atom.expressions::atom::inside-returns-in-CONTINUE_KW-clause-reads
+
+pub expressions::operand::prefixed-returns-in-MINUS-clause-gives : goal.expressions::operand::prefixed-returns-in-MINUS-clause-gives
+expressions::operand::prefixed-returns-in-MINUS-clause-gives = operand.expressions::operand::prefixed-returns-in-MINUS-clause-gives
+
+pub expressions::operand::prefixed-returns-in-BANG-clause-gives : goal.expressions::operand::prefixed-returns-in-BANG-clause-gives
+expressions::operand::prefixed-returns-in-BANG-clause-gives = operand.expressions::operand::prefixed-returns-in-BANG-clause-gives
+
+pub expressions::operand::prefixed-returns-in-STAR-clause-gives : goal.expressions::operand::prefixed-returns-in-STAR-clause-gives
+expressions::operand::prefixed-returns-in-STAR-clause-gives = operand.expressions::operand::prefixed-returns-in-STAR-clause-gives
+
+pub expressions::operand::prefixed-returns-then-at_new_operand-clause-gives : goal.expressions::operand::prefixed-returns-then-at_new_operand-clause-gives
+expressions::operand::prefixed-returns-then-at_new_operand-clause-gives = operand.expressions::operand::prefixed-returns-then-at_new_operand-clause-gives
+
+pub expressions::operand::prefixed-returns-then-at-clause-gives : goal.expressions::operand::prefixed-returns-then-at-clause-gives
+expressions::operand::prefixed-returns-then-at-clause-gives = operand.expressions::operand::prefixed-returns-then-at-clause-gives
+
+pub expressions::operand::prefixed-operand-requires : goal.expressions::operand::prefixed-operand-requires
+expressions::operand::prefixed-operand-requires = operand.expressions::operand::prefixed-operand-requires
+
+pub expressions::operand::after_dot-float-requires : goal.expressions::operand::after_dot-float-requires
+expressions::operand::after_dot-float-requires = operand.expressions::operand::after_dot-float-requires
+
+pub expressions::control::arm_turn-returns-then-at_list_end-clause-ends : goal.expressions::control::arm_turn-returns-then-at_list_end-clause-ends
+expressions::control::arm_turn-returns-then-at_list_end-clause-ends = control.expressions::control::arm_turn-returns-then-at_list_end-clause-ends
+
+pub expressions::control::arm_turn-match_arm-requires : goal.expressions::control::arm_turn-match_arm-requires
+expressions::control::arm_turn-match_arm-requires = control.expressions::control::arm_turn-match_arm-requires
+
+pub expressions::control::arm_turn-returns-then-at_match_arm-clause-goes : goal.expressions::control::arm_turn-returns-then-at_match_arm-clause-goes
+expressions::control::arm_turn-returns-then-at_match_arm-clause-goes = control.expressions::control::arm_turn-returns-then-at_match_arm-clause-goes
+
+pub expressions::control::arm_turn-returns-then-at_match_arm-clause-keeps : goal.expressions::control::arm_turn-returns-then-at_match_arm-clause-keeps
+expressions::control::arm_turn-returns-then-at_match_arm-clause-keeps = control.expressions::control::arm_turn-returns-then-at_match_arm-clause-keeps
+
+pub expressions::control::arm_turn-returns-then-at_match_arm-clause-asks : goal.expressions::control::arm_turn-returns-then-at_match_arm-clause-asks
+expressions::control::arm_turn-returns-then-at_match_arm-clause-asks = control.expressions::control::arm_turn-returns-then-at_match_arm-clause-asks
+
+pub expressions::control::arm_turn-skip-requires : goal.expressions::control::arm_turn-skip-requires
+expressions::control::arm_turn-skip-requires = control.expressions::control::arm_turn-skip-requires
+
+pub expressions::control::arm_turn-returns-clause-goes : goal.expressions::control::arm_turn-returns-clause-goes
+expressions::control::arm_turn-returns-clause-goes = control.expressions::control::arm_turn-returns-clause-goes
+
+pub expressions::control::arm_turn-returns-clause-keeps : goal.expressions::control::arm_turn-returns-clause-keeps
+expressions::control::arm_turn-returns-clause-keeps = control.expressions::control::arm_turn-returns-clause-keeps
+
+pub expressions::control::arm_turn-returns-clause-asks : goal.expressions::control::arm_turn-returns-clause-asks
+expressions::control::arm_turn-returns-clause-asks = control.expressions::control::arm_turn-returns-clause-asks
+
+pub expressions::control::arm_turn-returns-then-at_match_attribute-clause-goes : goal.expressions::control::arm_turn-returns-then-at_match_attribute-clause-goes
+expressions::control::arm_turn-returns-then-at_match_attribute-clause-goes = control.expressions::control::arm_turn-returns-then-at_match_attribute-clause-goes
+
+pub expressions::control::arm_turn-returns-then-at_match_attribute-clause-keeps : goal.expressions::control::arm_turn-returns-then-at_match_attribute-clause-keeps
+expressions::control::arm_turn-returns-then-at_match_attribute-clause-keeps = control.expressions::control::arm_turn-returns-then-at_match_attribute-clause-keeps
+
+pub expressions::control::arm_turn-returns-then-at_match_attribute-clause-asks : goal.expressions::control::arm_turn-returns-then-at_match_attribute-clause-asks
+expressions::control::arm_turn-returns-then-at_match_attribute-clause-asks = control.expressions::control::arm_turn-returns-then-at_match_attribute-clause-asks
+
+pub expressions::open_range-present_mark-mark-requires : goal.expressions::open_range-present_mark-mark-requires
+expressions::open_range-present_mark-mark-requires = expressions.expressions::open_range-present_mark-mark-requires
+
+pub expressions::open_range-range_end-requires : goal.expressions::open_range-range_end-requires
+expressions::open_range-range_end-requires = expressions.expressions::open_range-range_end-requires
+
+pub expressions::open_range-complete-requires : goal.expressions::open_range-complete-requires
+expressions::open_range-complete-requires = expressions.expressions::open_range-complete-requires
+
+pub expressions::open_range-returns-clause-reads : goal.expressions::open_range-returns-clause-reads
+expressions::open_range-returns-clause-reads = expressions.expressions::open_range-returns-clause-reads
+
+pub expressions::operand::new_operand-open_range-requires : goal.expressions::operand::new_operand-open_range-requires
+expressions::operand::new_operand-open_range-requires = operand.expressions::operand::new_operand-open_range-requires
+
+pub fields::value_after_attributes-returns-then-at_pair-clause-completes : goal.fields::value_after_attributes-returns-then-at_pair-clause-completes
+fields::value_after_attributes-returns-then-at_pair-clause-completes = fields.fields::value_after_attributes-returns-then-at_pair-clause-completes
+
+pub fields::value_after_attributes-abandon-requires : goal.fields::value_after_attributes-abandon-requires
+fields::value_after_attributes-abandon-requires = fields.fields::value_after_attributes-abandon-requires
+
+pub fields::value_after_attributes-other_fields-requires : goal.fields::value_after_attributes-other_fields-requires
+fields::value_after_attributes-other_fields-requires = fields.fields::value_after_attributes-other_fields-requires
+
+pub expressions::match_arm::arm_tail-postfix-frame-requires : goal.expressions::match_arm::arm_tail-postfix-frame-requires
+expressions::match_arm::arm_tail-postfix-frame-requires = match_arm.expressions::match_arm::arm_tail-postfix-frame-requires
+
+pub expressions::match_arm::arm_tail-further_operators-requires : goal.expressions::match_arm::arm_tail-further_operators-requires
+expressions::match_arm::arm_tail-further_operators-requires = match_arm.expressions::match_arm::arm_tail-further_operators-requires
+
+pub expressions::match_arm::after_long_path-returns-clause-reads : goal.expressions::match_arm::after_long_path-returns-clause-reads
+expressions::match_arm::after_long_path-returns-clause-reads = match_arm.expressions::match_arm::after_long_path-returns-clause-reads
+
+pub expressions::match_arm::after_long_path-after_path-frame-requires : goal.expressions::match_arm::after_long_path-after_path-frame-requires
+expressions::match_arm::after_long_path-after_path-frame-requires = match_arm.expressions::match_arm::after_long_path-after_path-frame-requires
+
+pub patterns::missing_single-returns-clause-gives : goal.patterns::missing_single-returns-clause-gives
+patterns::missing_single-returns-clause-gives = patterns.patterns::missing_single-returns-clause-gives
+
+pub or_patterns::pattern_or_missing-returns-clause-gives : goal.or_patterns::pattern_or_missing-returns-clause-gives
+or_patterns::pattern_or_missing-returns-clause-gives = patterns.or_patterns::pattern_or_missing-returns-clause-gives
+
+pub expressions::control::block_like-macro_block-requires : goal.expressions::control::block_like-macro_block-requires
+expressions::control::block_like-macro_block-requires = control.expressions::control::block_like-macro_block-requires
+
+pub fields::field_value-path_value-requires : goal.fields::field_value-path_value-requires
+fields::field_value-path_value-requires = fields.fields::field_value-path_value-requires
+
+pub expressions::atom::inside-path_expr-requires : goal.expressions::atom::inside-path_expr-requires
+expressions::atom::inside-path_expr-requires = atom.expressions::atom::inside-path_expr-requires
+
+pub expressions::atom::inside-returns-else-at_new_atom : goal.expressions::atom::inside-returns-else-at_new_atom
+expressions::atom::inside-returns-else-at_new_atom = atom.expressions::atom::inside-returns-else-at_new_atom
+
+pub expressions::atom::new_atom-returns-in-UNDERSCORE-clause-takes : goal.expressions::atom::new_atom-returns-in-UNDERSCORE-clause-takes
+expressions::atom::new_atom-returns-in-UNDERSCORE-clause-takes = atom.expressions::atom::new_atom-returns-in-UNDERSCORE-clause-takes
+
+pub expressions::atom::new_atom-returns-in_default-clause-takes : goal.expressions::atom::new_atom-returns-in_default-clause-takes
+expressions::atom::new_atom-returns-in_default-clause-takes = atom.expressions::atom::new_atom-returns-in_default-clause-takes
+
+pub expressions::match_arm::arm_tail-returns-clause-asks : goal.expressions::match_arm::arm_tail-returns-clause-asks
+expressions::match_arm::arm_tail-returns-clause-asks = match_arm.expressions::match_arm::arm_tail-returns-clause-asks
+
+pub expressions::match_arm::further_operators-returns-clause-asks : goal.expressions::match_arm::further_operators-returns-clause-asks
+expressions::match_arm::further_operators-returns-clause-asks = match_arm.expressions::match_arm::further_operators-returns-clause-asks
+
+pub expressions::match_arm::inside_arm-returns-clause-asks : goal.expressions::match_arm::inside_arm-returns-clause-asks
+expressions::match_arm::inside_arm-returns-clause-asks = match_arm.expressions::match_arm::inside_arm-returns-clause-asks
+
+pub expressions::atom::let_expr-returns-clause-reads : goal.expressions::atom::let_expr-returns-clause-reads
+expressions::atom::let_expr-returns-clause-reads = atom.expressions::atom::let_expr-returns-clause-reads
+
+pub expressions::atom::inside-returns-in-LET_KW-clause-reads : goal.expressions::atom::inside-returns-in-LET_KW-clause-reads
+expressions::atom::inside-returns-in-LET_KW-clause-reads = atom.expressions::atom::inside-returns-in-LET_KW-clause-reads
+
+pub expressions::closures::closure_param-returns-clause-reads : goal.expressions::closures::closure_param-returns-clause-reads
+expressions::closures::closure_param-returns-clause-reads = atom.expressions::closures::closure_param-returns-clause-reads
+
+pub expressions::match_arm::match_arm-returns-clause-gives : goal.expressions::match_arm::match_arm-returns-clause-gives
+expressions::match_arm::match_arm-returns-clause-gives = match_arm.expressions::match_arm::match_arm-returns-clause-gives
+
+pub expressions::match_arm::further_operators-returns-clause-reads : goal.expressions::match_arm::further_operators-returns-clause-reads
+expressions::match_arm::further_operators-returns-clause-reads = match_arm.expressions::match_arm::further_operators-returns-clause-reads
+
+pub expressions::operand::new_operand-returns-clause-reads : goal.expressions::operand::new_operand-returns-clause-reads
+expressions::operand::new_operand-returns-clause-reads = operand.expressions::operand::new_operand-returns-clause-reads
+
+pub fields::field_value-returns-then-at_pair-clause-gives : goal.fields::field_value-returns-then-at_pair-clause-gives
+fields::field_value-returns-then-at_pair-clause-gives = fields.fields::field_value-returns-then-at_pair-clause-gives
+
+pub fields::field_value-returns-clause-gives : goal.fields::field_value-returns-clause-gives
+fields::field_value-returns-clause-gives = fields.fields::field_value-returns-clause-gives
+
+pub expressions::match_arm::inside_arm-path_with_args-requires : goal.expressions::match_arm::inside_arm-path_with_args-requires
+expressions::match_arm::inside_arm-path_with_args-requires = match_arm.expressions::match_arm::inside_arm-path_with_args-requires
+
+pub expressions::atom::new_atom-returns-in_default-clause-reads : goal.expressions::atom::new_atom-returns-in_default-clause-reads
+expressions::atom::new_atom-returns-in_default-clause-reads = atom.expressions::atom::new_atom-returns-in_default-clause-reads
+
+pub expressions::atom::inside-new_atom-requires : goal.expressions::atom::inside-new_atom-requires
+expressions::atom::inside-new_atom-requires = atom.expressions::atom::inside-new_atom-requires
+
+pub patterns::missing_single-missing_expr_path-requires : goal.patterns::missing_single-missing_expr_path-requires
+patterns::missing_single-missing_expr_path-requires = patterns.patterns::missing_single-missing_expr_path-requires
+
+pub expressions::atom::new_atom-returns-in-L_ANGLE-clause-reads : goal.expressions::atom::new_atom-returns-in-L_ANGLE-clause-reads
+expressions::atom::new_atom-returns-in-L_ANGLE-clause-reads = atom.expressions::atom::new_atom-returns-in-L_ANGLE-clause-reads
+
+pub expressions::closures::closure_words-returns-in-FOR_KW-clause-reads : goal.expressions::closures::closure_words-returns-in-FOR_KW-clause-reads
+expressions::closures::closure_words-returns-in-FOR_KW-clause-reads = atom.expressions::closures::closure_words-returns-in-FOR_KW-clause-reads
+
+pub expressions::match_arm::arm_tail-returns-then-at_more-clause-reads : goal.expressions::match_arm::arm_tail-returns-then-at_more-clause-reads
+expressions::match_arm::arm_tail-returns-then-at_more-clause-reads = match_arm.expressions::match_arm::arm_tail-returns-then-at_more-clause-reads
+
+pub expressions::match_arm::after_long_path-returns-then-at_braced_macro-clause-reads : goal.expressions::match_arm::after_long_path-returns-then-at_braced_macro-clause-reads
+expressions::match_arm::after_long_path-returns-then-at_braced_macro-clause-reads = match_arm.expressions::match_arm::after_long_path-returns-then-at_braced_macro-clause-reads
+
+pub expressions::atom::inside-returns-then-at_new_atom : goal.expressions::atom::inside-returns-then-at_new_atom
+expressions::atom::inside-returns-then-at_new_atom = atom.expressions::atom::inside-returns-then-at_new_atom
+
+pub expressions::control::block_like-returns-else-at_new_block : goal.expressions::control::block_like-returns-else-at_new_block
+expressions::control::block_like-returns-else-at_new_block = control.expressions::control::block_like-returns-else-at_new_block
+
+pub expressions::operand::prefixed-returns-else-at : goal.expressions::operand::prefixed-returns-else-at
+expressions::operand::prefixed-returns-else-at = operand.expressions::operand::prefixed-returns-else-at

@@ -10,6 +10,7 @@ use Rattle.grammar_reader.specs.Told.{args_of, element_of, ends_of, item_or_attr
 use Rattle.parser_input.specs.Kind.{raw_of}
 use Rattle.parser_input.specs.Kinds.{PATH, PATH_SEGMENT}
 use Rattle.parser_events.specs.Forest.{ExpectedMatchArm}
+use Rattle.rust_grammar.specs.Expressions.{arm_turn}
 use Rattle.rust_grammar.specs.Calls.{Attribute, MatchArm, Ref, SinglePattern, Bound, WherePred}
 use Rattle.rust_grammar.specs.Notation.{◌or◌, ◌▸◌, ◌!, ◌⟨◌⟩, ◌<⟨◌⟩, more, next, until, wide, ⁅◌⁆}
 use Rattle.rust_grammar.specs.Rule as rules
@@ -38,21 +39,6 @@ decreases-paths::opt_args l = 512 * tokens l.p.now + 4
 
 abbrev pub decreases-paths::generic_args : goal.decreases-paths::generic_args
 decreases-paths::generic_args l = 512 * tokens l.p.now + 2
-
-abbrev pub decreases-lists::arguments : goal.decreases-lists::arguments
-decreases-lists::arguments l = 512 * tokens l.p.now
-
-abbrev pub decreases-lists::field_values : goal.decreases-lists::field_values
-decreases-lists::field_values l = 512 * tokens l.p.now
-
-abbrev pub decreases-lists::generic_params : goal.decreases-lists::generic_params
-decreases-lists::generic_params l = 512 * tokens l.p.now
-
-abbrev pub decreases-lists::params : goal.decreases-lists::params
-decreases-lists::params l = 512 * tokens l.p.now
-
-abbrev pub decreases-lists::pattern_fields : goal.decreases-lists::pattern_fields
-decreases-lists::pattern_fields l = 512 * tokens l.p.now
 
 abbrev pub decreases-lists::rest_of_list : goal.decreases-lists::rest_of_list
 decreases-lists::rest_of_list l = 512 * tokens l.p.now + 104
@@ -135,9 +121,6 @@ decreases-types::bounded_type l = 512 * tokens l.p.now
 abbrev pub decreases-types::path_type : goal.decreases-types::path_type
 decreases-types::path_type l = 512 * tokens l.p.now + 16
 
-abbrev pub decreases-types::expect_type : goal.decreases-types::expect_type
-decreases-types::expect_type l = 512 * tokens l.p.now + 19
-
 abbrev pub decreases-paths::paren_args : goal.decreases-paths::paren_args
 decreases-paths::paren_args l = 512 * tokens l.p.now + 1
 
@@ -189,9 +172,6 @@ decreases-types::bare_or_any l = 512 * tokens l.p.now + 18
 abbrev pub decreases-types::type_no_bounds : goal.decreases-types::type_no_bounds
 decreases-types::type_no_bounds l = 512 * tokens l.p.now + 19
 
-abbrev pub decreases-types::expect_type_no_bounds : goal.decreases-types::expect_type_no_bounds
-decreases-types::expect_type_no_bounds l = 512 * tokens l.p.now + 20
-
 abbrev pub decreases-generic_args::new_arg : goal.decreases-generic_args::new_arg
 decreases-generic_args::new_arg l = 512 * tokens l.p.now + 24
 
@@ -202,7 +182,7 @@ abbrev pub decreases-generic_args::named_arg : goal.decreases-generic_args::name
 decreases-generic_args::named_arg l = 512 * tokens l.p.now + 10
 
 abbrev pub decreases-generic_args::const_or_type : goal.decreases-generic_args::const_or_type
-decreases-generic_args::const_or_type l = 512 * tokens l.p.now + 22
+decreases-generic_args::const_or_type l = 512 * tokens l.p.now + 35
 
 abbrev pub decreases-generic_args::front_of_type : goal.decreases-generic_args::front_of_type
 decreases-generic_args::front_of_type l = 512 * tokens l.p.now + 9
@@ -217,7 +197,7 @@ abbrev pub decreases-types::paren_type : goal.decreases-types::paren_type
 decreases-types::paren_type l = 512 * tokens l.p.now
 
 abbrev pub decreases-types::after_paren : goal.decreases-types::after_paren
-decreases-types::after_paren l = 512 * tokens l.p.now + 21
+decreases-types::after_paren l = 512 * tokens l.p.now + 35
 
 abbrev pub decreases-types::bracket_type : goal.decreases-types::bracket_type
 decreases-types::bracket_type l = 512 * tokens l.p.now
@@ -234,17 +214,8 @@ decreases-patterns::single_pattern l = 512 * tokens l.p.now + 22
 abbrev pub decreases-patterns::inside : goal.decreases-patterns::inside
 decreases-patterns::inside l = 512 * tokens l.p.now + 20
 
-abbrev pub decreases-patterns::expect_single : goal.decreases-patterns::expect_single
-decreases-patterns::expect_single l = 512 * tokens l.p.now + 23
-
 abbrev pub decreases-patterns::ref_pat : goal.decreases-patterns::ref_pat
 decreases-patterns::ref_pat l = 512 * tokens l.p.now
-
-abbrev pub decreases-patterns::slice_pat : goal.decreases-patterns::slice_pat
-decreases-patterns::slice_pat l = 512 * tokens l.p.now
-
-abbrev pub decreases-patterns::tuple_pat : goal.decreases-patterns::tuple_pat
-decreases-patterns::tuple_pat l = 512 * tokens l.p.now
 
 abbrev pub decreases-patterns::opt_at : goal.decreases-patterns::opt_at
 decreases-patterns::opt_at l = 512 * tokens l.p.now
@@ -262,16 +233,13 @@ abbrev pub decreases-patterns::paren_pat : goal.decreases-patterns::paren_pat
 decreases-patterns::paren_pat l = 512 * tokens l.p.now
 
 abbrev pub decreases-patterns::after_paren : goal.decreases-patterns::after_paren
-decreases-patterns::after_paren l = 512 * tokens l.p.now + 26
+decreases-patterns::after_paren l = 512 * tokens l.p.now + 35
 
 abbrev pub decreases-patterns::path_pat : goal.decreases-patterns::path_pat
 decreases-patterns::path_pat l = 512 * tokens l.p.now + 17
 
 abbrev pub decreases-patterns::after_path : goal.decreases-patterns::after_path
 decreases-patterns::after_path l = 512 * tokens l.p.now + 9
-
-abbrev pub decreases-or_patterns::expect_pattern : goal.decreases-or_patterns::expect_pattern
-decreases-or_patterns::expect_pattern l = 512 * tokens l.p.now + 25
 
 abbrev pub decreases-or_patterns::pattern : goal.decreases-or_patterns::pattern
 decreases-or_patterns::pattern l = 512 * tokens l.p.now + 24
@@ -306,13 +274,13 @@ abbrev pub decreases-expressions::control::if_expr : goal.decreases-expressions:
 decreases-expressions::control::if_expr l = 512 * tokens l.p.now
 
 abbrev pub decreases-expressions::control::while_expr : goal.decreases-expressions::control::while_expr
-decreases-expressions::control::while_expr l = 512 * tokens l.p.now
+decreases-expressions::control::while_expr l = 512 * tokens l.p.now + 1
 
 abbrev pub decreases-expressions::control::loop_expr : goal.decreases-expressions::control::loop_expr
-decreases-expressions::control::loop_expr l = 512 * tokens l.p.now
+decreases-expressions::control::loop_expr l = 512 * tokens l.p.now + 1
 
 abbrev pub decreases-expressions::control::for_expr : goal.decreases-expressions::control::for_expr
-decreases-expressions::control::for_expr l = 512 * tokens l.p.now
+decreases-expressions::control::for_expr l = 512 * tokens l.p.now + 1
 
 abbrev pub decreases-expressions::control::match_expr : goal.decreases-expressions::control::match_expr
 decreases-expressions::control::match_expr l = 512 * tokens l.p.now
@@ -325,12 +293,6 @@ decreases-expressions::atom::paren_expr l = 512 * tokens l.p.now
 
 abbrev pub decreases-expressions::atom::array_expr : goal.decreases-expressions::atom::array_expr
 decreases-expressions::atom::array_expr l = 512 * tokens l.p.now
-
-abbrev pub decreases-expressions::atom::value_expr : goal.decreases-expressions::atom::value_expr
-decreases-expressions::atom::value_expr l = 512 * tokens l.p.now
-
-abbrev pub decreases-expressions::closures::closure_params : goal.decreases-expressions::closures::closure_params
-decreases-expressions::closures::closure_params l = 512 * tokens l.p.now
 
 abbrev pub decreases-expressions::atom::let_expr : goal.decreases-expressions::atom::let_expr
 decreases-expressions::atom::let_expr l = 512 * tokens l.p.now
@@ -356,26 +318,14 @@ decreases-types::ret_type l = 512 * tokens l.p.now
 abbrev pub decreases-expressions::operand::float : goal.decreases-expressions::operand::float
 decreases-expressions::operand::float l = 512 * tokens l.p.now
 
-abbrev pub decreases-expressions::control::expect_statement_list : goal.decreases-expressions::control::expect_statement_list
-decreases-expressions::control::expect_statement_list l = 512 * tokens l.p.now + 1
-
-abbrev pub decreases-expressions::control::expect_block : goal.decreases-expressions::control::expect_block
-decreases-expressions::control::expect_block l = 512 * tokens l.p.now + 2
-
-abbrev pub decreases-expressions::control::expect_match_arms : goal.decreases-expressions::control::expect_match_arms
-decreases-expressions::control::expect_match_arms l = 512 * tokens l.p.now + 1
-
 abbrev pub decreases-expressions::control::opt_else : goal.decreases-expressions::control::opt_else
 decreases-expressions::control::opt_else l = 512 * tokens l.p.now + 1
 
 abbrev pub decreases-expressions::control::after_else : goal.decreases-expressions::control::after_else
-decreases-expressions::control::after_else l = 512 * tokens l.p.now + 3
+decreases-expressions::control::after_else l = 512 * tokens l.p.now + 35
 
 abbrev pub decreases-expressions::control::block_like : goal.decreases-expressions::control::block_like
 decreases-expressions::control::block_like l = 512 * tokens l.p.now + 5
-
-abbrev pub decreases-expressions::closures::expect_closure_params : goal.decreases-expressions::closures::expect_closure_params
-decreases-expressions::closures::expect_closure_params l = 512 * tokens l.p.now + 1
 
 abbrev pub decreases-expressions::closures::move_closure : goal.decreases-expressions::closures::move_closure
 decreases-expressions::closures::move_closure l = 512 * tokens l.p.now + 3
@@ -409,12 +359,6 @@ decreases-expressions::operand::postfixes l = 512 * tokens l.p.now + 2
 
 abbrev pub decreases-expressions::operand::after_dot : goal.decreases-expressions::operand::after_dot
 decreases-expressions::operand::after_dot l = 512 * tokens l.p.now + 3
-
-abbrev pub decreases-expressions::operand::expect_arguments : goal.decreases-expressions::operand::expect_arguments
-decreases-expressions::operand::expect_arguments l = 512 * tokens l.p.now + 1
-
-abbrev pub decreases-paths::opt_generic_args : goal.decreases-paths::opt_generic_args
-decreases-paths::opt_generic_args l = 512 * tokens l.p.now + 4
 
 abbrev pub decreases-expressions::closures::closure_param : goal.decreases-expressions::closures::closure_param
 decreases-expressions::closures::closure_param l = 512 * tokens l.p.now + 40
@@ -476,7 +420,7 @@ decreases-statements::statement l = 512 * tokens l.p.now + 103
 abbrev pub invariant-expressions::control::arms-turns : goal.invariant-expressions::control::arms-turns
 invariant-expressions::control::arms-turns l = record {
   innermost : (n : ℕ) → IsInnermost n l.initial.p.nodes → IsInnermost n l.p.nodes;
-  goes : TurnsFrom false (Unless (until 'r_curly') (MatchArm or Skip ExpectedMatchArm)) l.initial.p l.p;
+  goes : TurnsFrom false arm_turn l.initial.p l.p;
   left : tokens l.p ≤ tokens l.initial.p;
   looks : spent l.p ≤ spent l.initial.p;
 }
@@ -529,29 +473,17 @@ decreases-items::item_turn l = 512 * tokens l.p.now + 6
 abbrev pub decreases-items::items : goal.decreases-items::items
 decreases-items::items l = 512 * tokens l.p.now + 7
 
-abbrev pub decreases-items::assoc_items : goal.decreases-items::assoc_items
-decreases-items::assoc_items l = 512 * tokens l.p.now + 1
-
-abbrev pub decreases-items::opt_generic_params : goal.decreases-items::opt_generic_params
-decreases-items::opt_generic_params l = 512 * tokens l.p.now + 1
-
-abbrev pub decreases-items::opt_where_clause : goal.decreases-items::opt_where_clause
-decreases-items::opt_where_clause l = 512 * tokens l.p.now + 1
-
 abbrev pub decreases-items::adt::struct_item : goal.decreases-items::adt::struct_item
 decreases-items::adt::struct_item l = 512 * tokens l.p.now
 
 abbrev pub decreases-items::adt::fields : goal.decreases-items::adt::fields
-decreases-items::adt::fields l = 512 * tokens l.p.now + 2
+decreases-items::adt::fields l = 512 * tokens l.p.now + 35
 
 abbrev pub decreases-items::adt::named_fields : goal.decreases-items::adt::named_fields
 decreases-items::adt::named_fields l = 512 * tokens l.p.now + 1
 
 abbrev pub decreases-items::adt::enum_item : goal.decreases-items::adt::enum_item
 decreases-items::adt::enum_item l = 512 * tokens l.p.now
-
-abbrev pub decreases-items::adt::expect_variants : goal.decreases-items::adt::expect_variants
-decreases-items::adt::expect_variants l = 512 * tokens l.p.now + 1
 
 abbrev pub decreases-items::consts::const_item : goal.decreases-items::consts::const_item
 decreases-items::consts::const_item l = 512 * tokens l.p.now
@@ -560,7 +492,7 @@ abbrev pub decreases-items::consts::static_item : goal.decreases-items::consts::
 decreases-items::consts::static_item l = 512 * tokens l.p.now
 
 abbrev pub decreases-items::consts::typed_value : goal.decreases-items::consts::typed_value
-decreases-items::consts::typed_value l = 512 * tokens l.p.now + 20
+decreases-items::consts::typed_value l = 512 * tokens l.p.now + 35
 
 abbrev pub decreases-items::consts::opt_value : goal.decreases-items::consts::opt_value
 decreases-items::consts::opt_value l = 512 * tokens l.p.now
@@ -570,9 +502,6 @@ decreases-items::consts::type_alias l = 512 * tokens l.p.now
 
 abbrev pub decreases-items::functions::fn_item : goal.decreases-items::functions::fn_item
 decreases-items::functions::fn_item l = 512 * tokens l.p.now
-
-abbrev pub decreases-items::functions::expect_params : goal.decreases-items::functions::expect_params
-decreases-items::functions::expect_params l = 512 * tokens l.p.now + 1
 
 abbrev pub decreases-types::opt_ret_type : goal.decreases-types::opt_ret_type
 decreases-types::opt_ret_type l = 512 * tokens l.p.now + 1
@@ -585,9 +514,6 @@ decreases-items::traits::impl_item l = 512 * tokens l.p.now
 
 abbrev pub decreases-items::traits::trait_item : goal.decreases-items::traits::trait_item
 decreases-items::traits::trait_item l = 512 * tokens l.p.now
-
-abbrev pub decreases-items::traits::expect_assoc_items : goal.decreases-items::traits::expect_assoc_items
-decreases-items::traits::expect_assoc_items l = 512 * tokens l.p.now + 2
 
 abbrev pub decreases-types::opt_type_after : goal.decreases-types::opt_type_after
 decreases-types::opt_type_after l = 512 * tokens l.p.now
@@ -616,7 +542,7 @@ decreases-items::items-turns l = tokens l.p
 
 -- generics, fields, arms and parameters by hand
 abbrev pub decreases-generic_params::bound : goal.decreases-generic_params::bound
-decreases-generic_params::bound l = 512 * tokens l.p.now + 22
+decreases-generic_params::bound l = 512 * tokens l.p.now + 39
 
 abbrev pub decreases-generic_params::lifetime_or_path : goal.decreases-generic_params::lifetime_or_path
 decreases-generic_params::lifetime_or_path l = 512 * tokens l.p.now + 17
@@ -624,14 +550,11 @@ decreases-generic_params::lifetime_or_path l = 512 * tokens l.p.now + 17
 abbrev pub decreases-generic_params::path_after_question : goal.decreases-generic_params::path_after_question
 decreases-generic_params::path_after_question l = 512 * tokens l.p.now
 
-abbrev pub decreases-generic_params::expect_path_type : goal.decreases-generic_params::expect_path_type
-decreases-generic_params::expect_path_type l = 512 * tokens l.p.now + 17
-
 abbrev pub decreases-generic_params::bounds : goal.decreases-generic_params::bounds
-decreases-generic_params::bounds l = 512 * tokens l.p.now + 24
+decreases-generic_params::bounds l = 512 * tokens l.p.now + 41
 
 abbrev pub decreases-generic_params::opt_bounds : goal.decreases-generic_params::opt_bounds
-decreases-generic_params::opt_bounds l = 512 * tokens l.p.now + 23
+decreases-generic_params::opt_bounds l = 512 * tokens l.p.now + 40
 
 abbrev pub decreases-generic_params::further_bounds : goal.decreases-generic_params::further_bounds
 decreases-generic_params::further_bounds l = 512 * tokens l.p.now + 1
@@ -640,7 +563,7 @@ abbrev pub decreases-generic_params::further_bound : goal.decreases-generic_para
 decreases-generic_params::further_bound l = 512 * tokens l.p.now
 
 abbrev pub decreases-generic_params::opt_bound : goal.decreases-generic_params::opt_bound
-decreases-generic_params::opt_bound l = 512 * tokens l.p.now + 23
+decreases-generic_params::opt_bound l = 512 * tokens l.p.now + 40
 
 abbrev pub decreases-generic_params::bounds_after_colon : goal.decreases-generic_params::bounds_after_colon
 decreases-generic_params::bounds_after_colon l = 512 * tokens l.p.now
@@ -672,17 +595,11 @@ decreases-generic_params::further_preds l = 512 * tokens l.p.now + 1
 abbrev pub decreases-generic_params::further_pred : goal.decreases-generic_params::further_pred
 decreases-generic_params::further_pred l = 512 * tokens l.p.now
 
-abbrev pub decreases-generic_params::opt_pred : goal.decreases-generic_params::opt_pred
-decreases-generic_params::opt_pred l = 512 * tokens l.p.now + 33
-
 abbrev pub decreases-generic_params::plain_bound : goal.decreases-generic_params::plain_bound
 decreases-generic_params::plain_bound l = 512 * tokens l.p.now + 18
 
 abbrev pub decreases-generic_params::for_binder : goal.decreases-generic_params::for_binder
 decreases-generic_params::for_binder l = 512 * tokens l.p.now
-
-abbrev pub decreases-generic_params::expect_generic_params : goal.decreases-generic_params::expect_generic_params
-decreases-generic_params::expect_generic_params l = 512 * tokens l.p.now + 1
 
 abbrev pub decreases-generic_params::lifetime_and_bounds : goal.decreases-generic_params::lifetime_and_bounds
 decreases-generic_params::lifetime_and_bounds l = 512 * tokens l.p.now
@@ -694,28 +611,25 @@ abbrev pub decreases-generic_params::binder_pred : goal.decreases-generic_params
 decreases-generic_params::binder_pred l = 512 * tokens l.p.now + 1
 
 abbrev pub decreases-generic_params::pred_bounds : goal.decreases-generic_params::pred_bounds
-decreases-generic_params::pred_bounds l = 512 * tokens l.p.now + 25
+decreases-generic_params::pred_bounds l = 512 * tokens l.p.now + 42
 
 abbrev pub decreases-new_bounds::new_bound : goal.decreases-new_bounds::new_bound
-decreases-new_bounds::new_bound l = 512 * tokens l.p.now + 21
+decreases-new_bounds::new_bound l = 512 * tokens l.p.now + 38
 
 abbrev pub decreases-new_bounds::maybe_in_parens : goal.decreases-new_bounds::maybe_in_parens
-decreases-new_bounds::maybe_in_parens l = 512 * tokens l.p.now + 20
+decreases-new_bounds::maybe_in_parens l = 512 * tokens l.p.now + 37
 
 abbrev pub decreases-new_bounds::in_parens : goal.decreases-new_bounds::in_parens
 decreases-new_bounds::in_parens l = 512 * tokens l.p.now
 
 abbrev pub decreases-new_bounds::bound_inside : goal.decreases-new_bounds::bound_inside
-decreases-new_bounds::bound_inside l = 512 * tokens l.p.now + 19
+decreases-new_bounds::bound_inside l = 512 * tokens l.p.now + 36
 
 abbrev pub decreases-new_bounds::use_captures : goal.decreases-new_bounds::use_captures
 decreases-new_bounds::use_captures l = 512 * tokens l.p.now
 
-abbrev pub decreases-new_bounds::captures : goal.decreases-new_bounds::captures
-decreases-new_bounds::captures l = 512 * tokens l.p.now
-
 abbrev pub decreases-new_bounds::words_and_path : goal.decreases-new_bounds::words_and_path
-decreases-new_bounds::words_and_path l = 512 * tokens l.p.now + 18
+decreases-new_bounds::words_and_path l = 512 * tokens l.p.now + 35
 
 abbrev pub decreases-new_bounds::opt_binder : goal.decreases-new_bounds::opt_binder
 decreases-new_bounds::opt_binder l = 512 * tokens l.p.now + 1
@@ -790,7 +704,7 @@ abbrev pub decreases-fields::named_pattern : goal.decreases-fields::named_patter
 decreases-fields::named_pattern l = 512 * tokens l.p.now
 
 abbrev pub decreases-expressions::match_arm::match_arm : goal.decreases-expressions::match_arm::match_arm
-decreases-expressions::match_arm::match_arm l = 512 * tokens l.p.now + 25
+decreases-expressions::match_arm::match_arm l = 512 * tokens l.p.now + 103
 
 abbrev pub decreases-expressions::match_arm::opt_guard : goal.decreases-expressions::match_arm::opt_guard
 decreases-expressions::match_arm::opt_guard l = 512 * tokens l.p.now
@@ -918,15 +832,6 @@ abbrev pub decreases-expressions::pipe_tail-pipes : goal.decreases-expressions::
 decreases-expressions::pipe_tail-pipes l = tokens l.p
 
 -- variants and fields by hand
-abbrev pub decreases-lists::variants : goal.decreases-lists::variants
-decreases-lists::variants l = 512 * tokens l.p.now
-
-abbrev pub decreases-lists::record_fields : goal.decreases-lists::record_fields
-decreases-lists::record_fields l = 512 * tokens l.p.now
-
-abbrev pub decreases-lists::tuple_fields : goal.decreases-lists::tuple_fields
-decreases-lists::tuple_fields l = 512 * tokens l.p.now
-
 abbrev pub decreases-items::attributes_and_visibility : goal.decreases-items::attributes_and_visibility
 decreases-items::attributes_and_visibility l = 512 * tokens l.p.now + 1
 
@@ -957,12 +862,6 @@ decreases-fields::after_attributes l = 512 * tokens l.p.now
 abbrev pub decreases-fn_pointers::fn_ptr_type : goal.decreases-fn_pointers::fn_ptr_type
 decreases-fn_pointers::fn_ptr_type l = 512 * tokens l.p.now
 
-abbrev pub decreases-fn_pointers::expect_params : goal.decreases-fn_pointers::expect_params
-decreases-fn_pointers::expect_params l = 512 * tokens l.p.now + 1
-
-abbrev pub decreases-fn_pointers::params : goal.decreases-fn_pointers::params
-decreases-fn_pointers::params l = 512 * tokens l.p.now
-
 abbrev pub decreases-fn_pointers::fn_ptr_param : goal.decreases-fn_pointers::fn_ptr_param
 decreases-fn_pointers::fn_ptr_param l = 512 * tokens l.p.now + 27
 
@@ -982,13 +881,7 @@ abbrev pub decreases-fn_pointers::named_param : goal.decreases-fn_pointers::name
 decreases-fn_pointers::named_param l = 512 * tokens l.p.now + 23
 
 abbrev pub decreases-fn_pointers::dots_or_type : goal.decreases-fn_pointers::dots_or_type
-decreases-fn_pointers::dots_or_type l = 512 * tokens l.p.now + 20
-
-abbrev pub decreases-items::opt_new_generics : goal.decreases-items::opt_new_generics
-decreases-items::opt_new_generics l = 512 * tokens l.p.now + 1
-
-abbrev pub decreases-items::opt_new_where : goal.decreases-items::opt_new_where
-decreases-items::opt_new_where l = 512 * tokens l.p.now + 1
+decreases-fn_pointers::dots_or_type l = 512 * tokens l.p.now + 35
 
 abbrev pub decreases-pattern_ranges::range_or_atom : goal.decreases-pattern_ranges::range_or_atom
 decreases-pattern_ranges::range_or_atom l = 512 * tokens l.p.now + 21
@@ -1012,19 +905,19 @@ abbrev pub decreases-params::attributed_param : goal.decreases-params::attribute
 decreases-params::attributed_param l = 512 * tokens l.p.now + 1
 
 abbrev pub decreases-params::after_attributes : goal.decreases-params::after_attributes
-decreases-params::after_attributes l = 512 * tokens l.p.now + 27
+decreases-params::after_attributes l = 512 * tokens l.p.now + 38
 
 abbrev pub decreases-params::self_rest : goal.decreases-params::self_rest
 decreases-params::self_rest l = 512 * tokens l.p.now + 1
 
 abbrev pub decreases-params::dots_or_param : goal.decreases-params::dots_or_param
-decreases-params::dots_or_param l = 512 * tokens l.p.now + 26
+decreases-params::dots_or_param l = 512 * tokens l.p.now + 37
 
 abbrev pub decreases-params::param_type : goal.decreases-params::param_type
-decreases-params::param_type l = 512 * tokens l.p.now + 21
+decreases-params::param_type l = 512 * tokens l.p.now + 36
 
 abbrev pub decreases-params::dots_or_type : goal.decreases-params::dots_or_type
-decreases-params::dots_or_type l = 512 * tokens l.p.now + 20
+decreases-params::dots_or_type l = 512 * tokens l.p.now + 35
 
 abbrev pub decreases-patterns::qualified_pat : goal.decreases-patterns::qualified_pat
 decreases-patterns::qualified_pat l = 512 * tokens l.p.now + 3
@@ -1043,9 +936,6 @@ decreases-items::new_items::new_item l = 512 * tokens l.p.now + 2
 
 abbrev pub decreases-items::new_items::union_item : goal.decreases-items::new_items::union_item
 decreases-items::new_items::union_item l = 512 * tokens l.p.now
-
-abbrev pub decreases-items::new_items::expect_record_fields : goal.decreases-items::new_items::expect_record_fields
-decreases-items::new_items::expect_record_fields l = 512 * tokens l.p.now + 1
 
 abbrev pub decreases-items::new_items::item_words : goal.decreases-items::new_items::item_words
 decreases-items::new_items::item_words l = 512 * tokens l.p.now + 1
@@ -1087,19 +977,19 @@ abbrev pub decreases-items::functions::plain_fn : goal.decreases-items::function
 decreases-items::functions::plain_fn l = 512 * tokens l.p.now
 
 abbrev pub decreases-items::functions::after_fn : goal.decreases-items::functions::after_fn
-decreases-items::functions::after_fn l = 512 * tokens l.p.now + 3
+decreases-items::functions::after_fn l = 512 * tokens l.p.now + 35
 
 abbrev pub decreases-items::consts::const_typed : goal.decreases-items::consts::const_typed
-decreases-items::consts::const_typed l = 512 * tokens l.p.now + 20
+decreases-items::consts::const_typed l = 512 * tokens l.p.now + 35
 
 abbrev pub decreases-items::consts::alias_value : goal.decreases-items::consts::alias_value
-decreases-items::consts::alias_value l = 512 * tokens l.p.now + 2
+decreases-items::consts::alias_value l = 512 * tokens l.p.now + 35
 
 abbrev pub decreases-items::traits::plain_impl : goal.decreases-items::traits::plain_impl
 decreases-items::traits::plain_impl l = 512 * tokens l.p.now
 
 abbrev pub decreases-items::traits::after_impl : goal.decreases-items::traits::after_impl
-decreases-items::traits::after_impl l = 512 * tokens l.p.now + 20
+decreases-items::traits::after_impl l = 512 * tokens l.p.now + 35
 
 abbrev pub decreases-items::traits::opt_impl_params : goal.decreases-items::traits::opt_impl_params
 decreases-items::traits::opt_impl_params l = 512 * tokens l.p.now + 1
@@ -1108,16 +998,16 @@ abbrev pub decreases-items::traits::plain_trait : goal.decreases-items::traits::
 decreases-items::traits::plain_trait l = 512 * tokens l.p.now
 
 abbrev pub decreases-items::traits::after_trait : goal.decreases-items::traits::after_trait
-decreases-items::traits::after_trait l = 512 * tokens l.p.now + 5
+decreases-items::traits::after_trait l = 512 * tokens l.p.now + 37
 
 abbrev pub decreases-items::traits::trait_body : goal.decreases-items::traits::trait_body
-decreases-items::traits::trait_body l = 512 * tokens l.p.now + 4
+decreases-items::traits::trait_body l = 512 * tokens l.p.now + 36
 
 abbrev pub decreases-items::traits::alias_bounds : goal.decreases-items::traits::alias_bounds
 decreases-items::traits::alias_bounds l = 512 * tokens l.p.now
 
 abbrev pub decreases-items::traits::trait_items : goal.decreases-items::traits::trait_items
-decreases-items::traits::trait_items l = 512 * tokens l.p.now + 3
+decreases-items::traits::trait_items l = 512 * tokens l.p.now + 35
 
 abbrev pub invariant-attributes::outer_attributes-turns : goal.invariant-attributes::outer_attributes-turns
 invariant-attributes::outer_attributes-turns l = record {
@@ -1138,3 +1028,102 @@ decreases-fn_pointers::attributed_or_bare l = 512 * tokens l.p.now + 26
 
 abbrev pub decreases-fn_pointers::bare_param : goal.decreases-fn_pointers::bare_param
 decreases-fn_pointers::bare_param l = 512 * tokens l.p.now + 25
+
+abbrev pub decreases-lists::list : goal.decreases-lists::list
+decreases-lists::list l = 512 * tokens l.p.now
+
+abbrev pub decreases-parts::read_part : goal.decreases-parts::read_part
+decreases-parts::read_part l = 512 * tokens l.p.now + 33
+
+abbrev pub decreases-parts::expect_part : goal.decreases-parts::expect_part
+decreases-parts::expect_part l = 512 * tokens l.p.now + 34
+
+abbrev pub decreases-parts::opt_part : goal.decreases-parts::opt_part
+decreases-parts::opt_part l = 512 * tokens l.p.now + 34
+
+abbrev pub decreases-fields::attributed_value : goal.decreases-fields::attributed_value
+decreases-fields::attributed_value l = 512 * tokens l.p.now + 1
+
+abbrev pub decreases-fields::value_after_attributes : goal.decreases-fields::value_after_attributes
+decreases-fields::value_after_attributes l = 512 * tokens l.p.now + 12
+
+abbrev pub decreases-or_patterns::pattern_or_missing : goal.decreases-or_patterns::pattern_or_missing
+decreases-or_patterns::pattern_or_missing l = 512 * tokens l.p.now + 25
+
+abbrev pub decreases-expressions::open_range : goal.decreases-expressions::open_range
+decreases-expressions::open_range l = 512 * tokens l.p.now + 1
+
+abbrev pub decreases-patterns::single_or_missing : goal.decreases-patterns::single_or_missing
+decreases-patterns::single_or_missing l = 512 * tokens l.p.now + 23
+
+abbrev pub decreases-patterns::missing_single : goal.decreases-patterns::missing_single
+decreases-patterns::missing_single l = 512 * tokens l.p.now + 10
+
+abbrev pub decreases-expressions::atom::return_expr : goal.decreases-expressions::atom::return_expr
+decreases-expressions::atom::return_expr l = 512 * tokens l.p.now
+
+abbrev pub decreases-expressions::atom::break_expr : goal.decreases-expressions::atom::break_expr
+decreases-expressions::atom::break_expr l = 512 * tokens l.p.now
+
+abbrev pub decreases-expressions::atom::new_atom : goal.decreases-expressions::atom::new_atom
+decreases-expressions::atom::new_atom l = 512 * tokens l.p.now + 3
+
+abbrev pub decreases-expressions::control::while_rest : goal.decreases-expressions::control::while_rest
+decreases-expressions::control::while_rest l = 512 * tokens l.p.now
+
+abbrev pub decreases-expressions::control::loop_rest : goal.decreases-expressions::control::loop_rest
+decreases-expressions::control::loop_rest l = 512 * tokens l.p.now
+
+abbrev pub decreases-expressions::control::for_rest : goal.decreases-expressions::control::for_rest
+decreases-expressions::control::for_rest l = 512 * tokens l.p.now
+
+abbrev pub decreases-expressions::control::new_block : goal.decreases-expressions::control::new_block
+decreases-expressions::control::new_block l = 512 * tokens l.p.now + 1
+
+abbrev pub decreases-expressions::control::labelled : goal.decreases-expressions::control::labelled
+decreases-expressions::control::labelled l = 512 * tokens l.p.now
+
+abbrev pub decreases-expressions::control::after_label : goal.decreases-expressions::control::after_label
+decreases-expressions::control::after_label l = 512 * tokens l.p.now + 35
+
+abbrev pub decreases-expressions::control::block_with_words : goal.decreases-expressions::control::block_with_words
+decreases-expressions::control::block_with_words l = 512 * tokens l.p.now
+
+abbrev pub decreases-expressions::match_arm::guard_value : goal.decreases-expressions::match_arm::guard_value
+decreases-expressions::match_arm::guard_value l = 512 * tokens l.p.now + 105
+
+abbrev pub decreases-expressions::match_arm::profile_value : goal.decreases-expressions::match_arm::profile_value
+decreases-expressions::match_arm::profile_value l = 512 * tokens l.p.now + 41
+
+abbrev pub decreases-expressions::match_arm::arm_body : goal.decreases-expressions::match_arm::arm_body
+decreases-expressions::match_arm::arm_body l = 512 * tokens l.p.now + 42
+
+abbrev pub decreases-expressions::match_arm::inside_arm : goal.decreases-expressions::match_arm::inside_arm
+decreases-expressions::match_arm::inside_arm l = 512 * tokens l.p.now + 41
+
+abbrev pub decreases-expressions::match_arm::after_long_path : goal.decreases-expressions::match_arm::after_long_path
+decreases-expressions::match_arm::after_long_path l = 512 * tokens l.p.now + 4
+
+abbrev pub decreases-expressions::match_arm::arm_tail : goal.decreases-expressions::match_arm::arm_tail
+decreases-expressions::match_arm::arm_tail l = 512 * tokens l.p.now + 4
+
+abbrev pub decreases-expressions::match_arm::further_operators : goal.decreases-expressions::match_arm::further_operators
+decreases-expressions::match_arm::further_operators l = 512 * tokens l.p.now + 3
+
+abbrev pub decreases-expressions::operand::new_operand : goal.decreases-expressions::operand::new_operand
+decreases-expressions::operand::new_operand l = 512 * tokens l.p.now + 2
+
+abbrev pub decreases-expressions::operand::raw_ref_expr : goal.decreases-expressions::operand::raw_ref_expr
+decreases-expressions::operand::raw_ref_expr l = 512 * tokens l.p.now
+
+abbrev pub decreases-expressions::closures::closure_with_words : goal.decreases-expressions::closures::closure_with_words
+decreases-expressions::closures::closure_with_words l = 512 * tokens l.p.now + 2
+
+abbrev pub decreases-expressions::closures::closure_words : goal.decreases-expressions::closures::closure_words
+decreases-expressions::closures::closure_words l = 512 * tokens l.p.now + 1
+
+abbrev pub decreases-expressions::match_arm::attributed_pattern : goal.decreases-expressions::match_arm::attributed_pattern
+decreases-expressions::match_arm::attributed_pattern l = 512 * tokens l.p.now + 25
+
+abbrev pub decreases-expressions::closures::attributed_single : goal.decreases-expressions::closures::attributed_single
+decreases-expressions::closures::attributed_single l = 512 * tokens l.p.now + 23

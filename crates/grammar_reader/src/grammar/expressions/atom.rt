@@ -1,34 +1,32 @@
 //! Expressions without an operator.
 
-ghost use Rattle.std.specs.Prelude.{◌≤◌, Bool};
-ghost use Rattle.parser_input.specs.Kind.{raw_of};
+ghost use Rattle.std.specs.Prelude.{◌≤◌, Bool, false};
+ghost use Rattle.parser_input.specs.Kinds.{LET_KW, RETURN_EXPR};
 ghost use Rattle.parser_events.specs.Stack.{IsInnermost};
-ghost use Rattle.rust_grammar.specs.Notation.{◌▸◌, ◌⟨◌⟩};
+ghost use Rattle.rust_grammar.specs.Notation.{◌▸◌, ◌⟨◌⟩, wide};
 ghost use Rattle.rust_grammar.specs.Rule as rules;
-ghost use Rattle.rust_grammar.specs.Rule.{One};
+ghost use Rattle.rust_grammar.specs.Rule.{Kind, One};
 ghost use Rattle.rust_grammar.specs.Whole.{rule};
-ghost use Rattle.rust_grammar.specs.Words.{one};
+ghost use Rattle.rust_grammar.specs.Words.{'return'};
 ghost use Rattle.rust_grammar.specs.Expressions as rows;
 ghost use Rattle.rust_productions.specs.Looks.{tokens, Takes, Asks, TakesIn, AsksIn};
-ghost use Rattle.rust_productions.specs.Reads.{looks, Reads};
+ghost use Rattle.rust_productions.specs.Reads.{looks, Reads, Saw};
 ghost use Rattle.rust_productions.specs.Starts.{Starts, StartsIn};
 
-use crate::grammar::expressions::closures::{closure_expr, move_closure};
+use crate::grammar::expressions::closures::{closure_expr, closure_with_words, move_closure};
 use crate::grammar::expressions::control::block_like;
 use crate::grammar::expressions::{Level, expect_expression, expression, operation};
-use crate::grammar::lists::{Element, field_values, rest_of_list, tuple_tail};
-use crate::grammar::or_patterns::expect_pattern;
-use crate::grammar::paths::{Mode, path_with_args};
+use crate::grammar::lists::{Element, ListKind, list, rest_of_list, tuple_tail};
+use crate::grammar::parts::{Part, expect_part};
+use crate::grammar::paths::{Mode, path_with_args, qualified_path};
 use crate::grammar::types::word_type;
-use parser_events::message::Message;
 use parser_events::parser::{Marker, Parser};
 use parser_input::syntax_kind::SyntaxKind;
+use rust_productions::grammar::expression_words::{at_new_atom, opt_jump_label};
 use rust_productions::grammar::expressions::{at_block_like, at_body, at_expression, at_operation};
 use rust_productions::grammar::names::{at_literal, literal};
 use rust_productions::grammar::token_trees::expect_token_tree;
-use rust_productions::grammar::{
-    abandon, at, at_pair, complete, current, error, expect, start, take, wrap,
-};
+use rust_productions::grammar::{at, at_pair, complete, current, expect, start, take, wrap};
 
 /// Parses an expression without operators, within `frame`, which the caller abandons.
 // (a)
@@ -46,15 +44,15 @@ pub(crate) fn inside(p: &mut Parser<'_>, frame: Marker, condition: bool) -> Mark
             frame
         }
         SyntaxKind::RETURN_KW => {
-            value_expr(p, SyntaxKind::RETURN_KW, SyntaxKind::RETURN_EXPR, condition);
+            return_expr(p, condition);
             frame
         }
         SyntaxKind::BREAK_KW => {
-            value_expr(p, SyntaxKind::BREAK_KW, SyntaxKind::BREAK_EXPR, condition);
+            break_expr(p, condition);
             frame
         }
         SyntaxKind::CONTINUE_KW => {
-            word_type(p, SyntaxKind::CONTINUE_KW, SyntaxKind::CONTINUE_EXPR);
+            continue_expr(p);
             frame
         }
         SyntaxKind::PIPE => {
@@ -66,7 +64,7 @@ pub(crate) fn inside(p: &mut Parser<'_>, frame: Marker, condition: bool) -> Mark
             frame
         }
         SyntaxKind::LET_KW => {
-            let_expr(p, condition);
+            let_expr(p);
             frame
         }
         _ => {
@@ -77,6 +75,9 @@ pub(crate) fn inside(p: &mut Parser<'_>, frame: Marker, condition: bool) -> Mark
             if at_block_like(p) {
                 block_like(p);
                 return frame;
+            }
+            if at_new_atom(p) {
+                return new_atom(p, frame, condition);
             }
             path_expr(p, frame, condition)
         }
@@ -99,7 +100,7 @@ fn path_expr(p: &mut Parser<'_>, frame: Marker, condition: bool) -> Marker
 /// Parses what may follow the path of an expression: the rest of a macro call, or record fields.
 // { a: 1 }
 #[cycle(grammar)]
-fn after_path(p: &mut Parser<'_>, frame: Marker, condition: bool) -> Marker
+pub(crate) fn after_path(p: &mut Parser<'_>, frame: Marker, condition: bool) -> Marker
     requires innermost { IsInnermost frame p.old.nodes }
     ensures reads { Reads condition rows.after_path p.old p.new }
     ensures asks { AsksIn result 4 p.old p.new }
@@ -116,7 +117,7 @@ fn after_path(p: &mut Parser<'_>, frame: Marker, condition: bool) -> Marker
         return wrap(p, frame, SyntaxKind::PATH_EXPR);
     }
     if at(p, SyntaxKind::L_CURLY) {
-        field_values(p);
+        list(p, ListKind::FieldValues);
         return wrap(p, frame, SyntaxKind::RECORD_EXPR);
     }
     wrap(p, frame, SyntaxKind::PATH_EXPR)
@@ -223,19 +224,46 @@ fn after_element(p: &mut Parser<'_>)
     expect(p, SyntaxKind::R_BRACK);
 }
 
-/// Parses a `return` or `break` expression, in a node of `kind`. `token` is its keyword.
+/// Parses a `return` expression.
 // return a
 #[cycle(grammar)]
-fn value_expr(p: &mut Parser<'_>, token: SyntaxKind, kind: SyntaxKind, condition: bool)
+fn return_expr(p: &mut Parser<'_>, condition: bool)
     requires some { 1 ≤ tokens p.old }
-    ensures reads { Reads condition (raw_of kind ⟨ One (one (raw_of token))
-        ▸ rows.value ⟩) p.old p.new }
+    ensures reads { Reads condition (RETURN_EXPR ⟨ One 'return' ▸ rows.value ⟩) p.old p.new }
     ensures takes { Takes 3300 p.old p.new }
 {
     let node = start(p);
-    take(p, token);
+    take(p, SyntaxKind::RETURN_KW);
     opt_value(p, condition);
-    complete(p, node, kind);
+    complete(p, node, SyntaxKind::RETURN_EXPR);
+}
+
+/// Parses a `break` expression.
+// break 'a b
+#[cycle(grammar)]
+fn break_expr(p: &mut Parser<'_>, condition: bool)
+    requires some { 1 ≤ tokens p.old }
+    ensures reads { Reads condition rows.break_expr p.old p.new }
+    ensures takes { Takes 3300 p.old p.new }
+{
+    let node = start(p);
+    take(p, SyntaxKind::BREAK_KW);
+    opt_jump_label(p);
+    opt_value(p, condition);
+    complete(p, node, SyntaxKind::BREAK_EXPR);
+}
+
+/// Parses a `continue` expression.
+// continue 'a
+fn continue_expr(p: &mut Parser<'_>)
+    requires some { 1 ≤ tokens p.old }
+    ensures reads { (c : Bool) → Reads c rows.continue_expr p.old p.new }
+    ensures takes { Takes 4090 p.old p.new }
+{
+    let node = start(p);
+    take(p, SyntaxKind::CONTINUE_KW);
+    opt_jump_label(p);
+    complete(p, node, SyntaxKind::CONTINUE_EXPR);
 }
 
 /// Parses the optional value of a `return` or `break` expression.
@@ -253,18 +281,45 @@ fn opt_value(p: &mut Parser<'_>, condition: bool)
     }
 }
 
-/// Parses a `let` in a condition.
+/// Parses a `let` as an expression.
 // let Some(a) = b
 #[cycle(grammar)]
-fn let_expr(p: &mut Parser<'_>, condition: bool)
+fn let_expr(p: &mut Parser<'_>)
     requires some { 1 ≤ tokens p.old }
-    ensures reads { Reads condition rows.let_expr p.old p.new }
+    ensures reads { (c : Bool) → Reads c rows.let_anywhere p.old p.new }
     ensures takes { Takes 3300 p.old p.new }
 {
     let node = start(p);
     take(p, SyntaxKind::LET_KW);
-    expect_pattern(p);
+    expect_part(p, Part::Pattern);
     expect(p, SyntaxKind::EQ);
-    expect_expression(p, Level::Comparison, condition);
+    expect_expression(p, Level::Comparison, true);
     complete(p, node, SyntaxKind::LET_EXPR);
+}
+
+/// Parses an expression without operators that only the whole language has, within `frame`. `let`
+/// is read elsewhere.
+// <T as A>::b
+#[cycle(grammar)]
+fn new_atom(p: &mut Parser<'_>, frame: Marker, condition: bool) -> Marker
+    requires begins { Starts (wide rows.new_atom_begins) p.old }
+    requires other { (c : Bool) → Saw c (Kind 0 LET_KW) p.old false }
+    requires innermost { IsInnermost frame p.old.nodes }
+    ensures reads { Reads condition rows.new_atom p.old p.new }
+    ensures takes { TakesIn result 2900 p.old p.new }
+{
+    match current(p) {
+        SyntaxKind::L_ANGLE => {
+            let frame = qualified_path(p, frame, Mode::Expr);
+            after_path(p, frame, condition)
+        }
+        SyntaxKind::UNDERSCORE => {
+            word_type(p, SyntaxKind::UNDERSCORE, SyntaxKind::UNDERSCORE_EXPR);
+            frame
+        }
+        _ => {
+            closure_with_words(p, condition);
+            frame
+        }
+    }
 }

@@ -5,21 +5,28 @@ ghost use Rattle.parser_input.specs.Kinds.{CLOSURE_EXPR};
 ghost use Rattle.rust_grammar.specs.Expressions as rows;
 ghost use Rattle.rust_grammar.specs.Notation.{◌▸◌, ⁅◌⁆, ◌!, ◌⟨◌⟩};
 ghost use Rattle.rust_grammar.specs.Rule as rules;
-ghost use Rattle.rust_grammar.specs.Rule.{One};
+ghost use Rattle.rust_grammar.specs.Calls.{SinglePattern};
+ghost use Rattle.rust_grammar.specs.Rule.{One, begins};
+ghost use Rattle.rust_grammar.specs.Shared as shared;
+ghost use Rattle.rust_productions.specs.Starts.{Starts};
 ghost use Rattle.rust_grammar.specs.Words.{'move'};
 ghost use Rattle.rust_grammar.specs.Shared.{type_annotation};
 ghost use Rattle.rust_productions.specs.Looks.{tokens, Takes, Asks};
 ghost use Rattle.rust_productions.specs.Reads.{looks, Reads, Saw};
 
-use crate::grammar::expressions::control::expect_block;
+use crate::grammar::attributes::{attribute, outer_attributes};
 use crate::grammar::expressions::{Level, expect_expression};
-use crate::grammar::lists::{Element, rest_of_list};
-use crate::grammar::patterns::single_pattern;
-use crate::grammar::types::{expect_type, ret_type};
-use parser_events::message::Message;
+use crate::grammar::generic_params::for_binder;
+use crate::grammar::lists::{ListKind, list};
+use crate::grammar::parts::{Part, expect_part};
+use crate::grammar::patterns::{single_or_missing, single_pattern};
+use crate::grammar::types::ret_type;
 use parser_events::parser::Parser;
 use parser_input::syntax_kind::SyntaxKind;
-use rust_productions::grammar::{at, at_pair, complete, error, start, take};
+use rust_productions::grammar::expression_words::{
+    opt_const_to_move, words_from_async, words_from_const, words_from_static,
+};
+use rust_productions::grammar::{at, at_new, at_pair, complete, current, start, take};
 
 /// Parses a closure expression without `move`.
 // |a| a + 1
@@ -31,7 +38,7 @@ pub(crate) fn closure_expr(p: &mut Parser<'_>, condition: bool)
     ensures takes { Takes 3280 p.old p.new }
 {
     let node = start(p);
-    closure_params(p);
+    list(p, ListKind::ClosureParams);
     closure_body(p, condition);
     complete(p, node, SyntaxKind::CLOSURE_EXPR);
 }
@@ -47,57 +54,41 @@ pub(crate) fn move_closure(p: &mut Parser<'_>, condition: bool)
 {
     let node = start(p);
     take(p, SyntaxKind::MOVE_KW);
-    expect_closure_params(p);
+    expect_part(p, Part::ClosureParams);
     closure_body(p, condition);
     complete(p, node, SyntaxKind::CLOSURE_EXPR);
-}
-
-/// Parses closure parameters; emits an error if there are none.
-// |a, b: u8|
-#[cycle(grammar)]
-fn expect_closure_params(p: &mut Parser<'_>)
-    ensures reads { (c : Bool) → Reads c (rows.closure_params !) p.old p.new }
-    ensures asks { Asks 1 p.old p.new }
-{
-    if at(p, SyntaxKind::PIPE) {
-        closure_params(p);
-        return;
-    }
-    error(p, Message::Expected(SyntaxKind::PARAM_LIST));
-}
-
-/// Parses closure parameters.
-// |a, b: u8|
-#[cycle(grammar)]
-fn closure_params(p: &mut Parser<'_>)
-    requires some { 1 ≤ tokens p.old }
-    ensures reads { (c : Bool) → Reads c rows.closure_params p.old p.new }
-    ensures takes { Takes 4075 p.old p.new }
-{
-    let list = start(p);
-    take(p, SyntaxKind::PIPE);
-    rest_of_list(
-        p,
-        SyntaxKind::PARAM_LIST,
-        Element::ClosureParam,
-        SyntaxKind::PIPE,
-    );
-    complete(p, list, SyntaxKind::PARAM_LIST);
 }
 
 /// Parses a closure parameter.
 // b: u8
 #[cycle(grammar)]
 pub(crate) fn closure_param(p: &mut Parser<'_>)
-    requires begins { (c : Bool) → Saw c (looks rules.single_pattern) p.old true }
+    requires begins { (c : Bool) → Saw c (begins looks rows.closure_param) p.old true }
     requires some { 1 ≤ tokens p.old }
     ensures reads { Reads false rows.closure_param p.old p.new }
     ensures takes { Takes 2900 p.old p.new }
 {
     let node = start(p);
-    single_pattern(p);
+    attributed_single(p);
     opt_type(p, false);
     complete(p, node, SyntaxKind::PARAM);
+}
+
+/// Parses the pattern of a closure parameter, with its optional attributes.
+// #[a] b
+#[cycle(grammar)]
+fn attributed_single(p: &mut Parser<'_>)
+    requires begins { Starts (begins looks rows.closure_param) p.old }
+    ensures reads { (c : Bool) → Reads c (shared.outer_attributes ▸ SinglePattern) p.old p.new }
+    ensures takes { Takes 2905 p.old p.new }
+{
+    if at_new(p, SyntaxKind::POUND) {
+        attribute(p);
+        outer_attributes(p);
+        single_or_missing(p);
+        return;
+    }
+    single_pattern(p);
 }
 
 /// Parses an optional type with its colon.
@@ -109,7 +100,7 @@ pub(crate) fn opt_type(p: &mut Parser<'_>, condition: bool)
 {
     if at(p, SyntaxKind::COLON) {
         take(p, SyntaxKind::COLON);
-        expect_type(p);
+        expect_part(p, Part::Type);
     }
 }
 
@@ -122,8 +113,42 @@ fn closure_body(p: &mut Parser<'_>, condition: bool)
 {
     if at_pair(p, SyntaxKind::MINUS, SyntaxKind::R_ANGLE) {
         ret_type(p);
-        expect_block(p);
+        expect_part(p, Part::Block);
         return;
     }
     expect_expression(p, Level::Operation, condition);
+}
+
+/// Parses a closure with words before its parameters.
+// async move |a| a + 1
+#[cycle(grammar)]
+pub(crate) fn closure_with_words(p: &mut Parser<'_>, condition: bool)
+    requires some { 1 ≤ tokens p.old }
+    ensures reads { Reads condition rows.closure_with_words p.old p.new }
+    ensures takes { Takes 3200 p.old p.new }
+{
+    let node = start(p);
+    closure_words(p);
+    expect_part(p, Part::ClosureParams);
+    closure_body(p, condition);
+    complete(p, node, SyntaxKind::CLOSURE_EXPR);
+}
+
+/// Parses the words before the parameters of a closure.
+// for<'a> async move
+#[cycle(grammar)]
+fn closure_words(p: &mut Parser<'_>)
+    requires some { 1 ≤ tokens p.old }
+    ensures reads { (c : Bool) → Reads c rows.closure_words p.old p.new }
+    ensures takes { Takes 4080 p.old p.new }
+{
+    match current(p) {
+        SyntaxKind::FOR_KW => {
+            for_binder(p);
+            opt_const_to_move(p);
+        }
+        SyntaxKind::CONST_KW => words_from_const(p),
+        SyntaxKind::STATIC_KW => words_from_static(p),
+        _ => words_from_async(p),
+    }
 }

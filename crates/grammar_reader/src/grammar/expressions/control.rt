@@ -1,25 +1,28 @@
 //! Expressions that end in a block.
 
 ghost use Rattle.std.specs.Prelude.{◌≡◌, ◌≤◌, ◌+◌, Bool, IsTrue, true, false};
-ghost use Rattle.rust_grammar.specs.Calls.{Block, MatchArms, StatementList};
 ghost use Rattle.rust_grammar.specs.Notation.{⁅◌⁆, ◌*, ◌! };
 ghost use Rattle.rust_grammar.specs.Rule as rules;
 ghost use Rattle.rust_grammar.specs.Expressions as rows;
 ghost use Rattle.rust_productions.specs.Looks.{tokens, spent, Takes, Asks};
-ghost use Rattle.rust_productions.specs.Reads.{looks, Gives, Reads, Saw};
+ghost use Rattle.rust_productions.specs.Reads.{looks, Anew, Completes, Gives, Reads, Saw};
+ghost use Rattle.rust_grammar.specs.Notation.{wide};
+ghost use Rattle.parser_events.specs.Stack.{IsInnermost};
 ghost use Rattle.rust_productions.specs.Turns.{TakesTurn};
 ghost use Rattle.rust_productions.specs.Starts.{Starts};
 ghost use Rattle.rust_productions.specs.Moves.{Keeps};
 
-use crate::grammar::expressions::blocks::{block, statement_list};
+use crate::grammar::attributes::attribute;
+use crate::grammar::expressions::blocks::block;
 use crate::grammar::expressions::expect_condition;
 use crate::grammar::expressions::match_arm::match_arm;
-use crate::grammar::or_patterns::expect_pattern;
+use crate::grammar::parts::{Part, expect_part};
 use parser_events::message::Message;
-use parser_events::parser::Parser;
+use parser_events::parser::{Marker, Parser};
 use parser_input::syntax_kind::SyntaxKind;
+use rust_productions::grammar::expression_words::{at_new_block, block_words, label};
 use rust_productions::grammar::lists::at_list_end;
-use rust_productions::grammar::patterns::at_pattern;
+use rust_productions::grammar::match_arms::{at_match_arm, at_match_attribute};
 use rust_productions::grammar::token_trees::token_tree;
 use rust_productions::grammar::{abandon, at, complete, current, error, expect, skip, start, take};
 
@@ -40,36 +43,14 @@ pub(crate) fn block_like(p: &mut Parser<'_>)
         SyntaxKind::LOOP_KW => loop_expr(p),
         SyntaxKind::FOR_KW => for_expr(p),
         SyntaxKind::MATCH_KW => match_expr(p),
-        _ => macro_block(p),
+        _ => {
+            if at_new_block(p) {
+                new_block(p);
+                return;
+            }
+            macro_block(p);
+        }
     }
-}
-
-/// Parses statements in braces; emits an error if there are none.
-// { f(); a }
-#[cycle(grammar)]
-fn expect_statement_list(p: &mut Parser<'_>)
-    ensures reads { (c : Bool) → Reads c (StatementList !) p.old p.new }
-    ensures asks { Asks 1 p.old p.new }
-{
-    if at(p, SyntaxKind::L_CURLY) {
-        statement_list(p);
-        return;
-    }
-    error(p, Message::Expected(SyntaxKind::STMT_LIST));
-}
-
-/// Parses a block expression; emits an error if there is none.
-// { f(); a }
-#[cycle(grammar)]
-pub(crate) fn expect_block(p: &mut Parser<'_>)
-    ensures reads { (c : Bool) → Reads c (Block !) p.old p.new }
-    ensures asks { Asks 1 p.old p.new }
-{
-    if at(p, SyntaxKind::L_CURLY) {
-        block(p);
-        return;
-    }
-    error(p, Message::Expected(SyntaxKind::BLOCK_EXPR));
 }
 
 /// Parses an `unsafe` block.
@@ -82,7 +63,7 @@ fn unsafe_block(p: &mut Parser<'_>)
 {
     let node = start(p);
     take(p, SyntaxKind::UNSAFE_KW);
-    expect_statement_list(p);
+    expect_part(p, Part::StatementList);
     complete(p, node, SyntaxKind::BLOCK_EXPR);
 }
 
@@ -97,7 +78,7 @@ pub(crate) fn if_expr(p: &mut Parser<'_>)
     let node = start(p);
     take(p, SyntaxKind::IF_KW);
     expect_condition(p);
-    expect_block(p);
+    expect_part(p, Part::Block);
     opt_else(p);
     complete(p, node, SyntaxKind::IF_EXPR);
 }
@@ -126,7 +107,7 @@ fn after_else(p: &mut Parser<'_>)
         if_expr(p);
         return;
     }
-    expect_block(p);
+    expect_part(p, Part::Block);
 }
 
 /// Parses a `while` loop.
@@ -138,10 +119,21 @@ fn while_expr(p: &mut Parser<'_>)
     ensures takes { Takes 3300 p.old p.new }
 {
     let node = start(p);
+    while_rest(p);
+    complete(p, node, SyntaxKind::WHILE_EXPR);
+}
+
+/// Parses a `while` loop, within its node.
+// while a { b }
+#[cycle(grammar)]
+fn while_rest(p: &mut Parser<'_>)
+    requires some { 1 ≤ tokens p.old }
+    ensures reads { (c : Bool) → Reads c rows.while_rest p.old p.new }
+    ensures takes { Takes 3300 p.old p.new }
+{
     take(p, SyntaxKind::WHILE_KW);
     expect_condition(p);
-    expect_block(p);
-    complete(p, node, SyntaxKind::WHILE_EXPR);
+    expect_part(p, Part::Block);
 }
 
 /// Parses a `loop` expression.
@@ -153,9 +145,20 @@ fn loop_expr(p: &mut Parser<'_>)
     ensures takes { Takes 4090 p.old p.new }
 {
     let node = start(p);
-    take(p, SyntaxKind::LOOP_KW);
-    expect_block(p);
+    loop_rest(p);
     complete(p, node, SyntaxKind::LOOP_EXPR);
+}
+
+/// Parses a `loop` expression, within its node.
+// loop { a }
+#[cycle(grammar)]
+fn loop_rest(p: &mut Parser<'_>)
+    requires some { 1 ≤ tokens p.old }
+    ensures reads { (c : Bool) → Reads c rows.loop_rest p.old p.new }
+    ensures takes { Takes 4090 p.old p.new }
+{
+    take(p, SyntaxKind::LOOP_KW);
+    expect_part(p, Part::Block);
 }
 
 /// Parses a `for` loop.
@@ -167,12 +170,94 @@ fn for_expr(p: &mut Parser<'_>)
     ensures takes { Takes 3300 p.old p.new }
 {
     let node = start(p);
+    for_rest(p);
+    complete(p, node, SyntaxKind::FOR_EXPR);
+}
+
+/// Parses a `for` loop, within its node.
+// for a in b { c }
+#[cycle(grammar)]
+fn for_rest(p: &mut Parser<'_>)
+    requires some { 1 ≤ tokens p.old }
+    ensures reads { (c : Bool) → Reads c rows.for_rest p.old p.new }
+    ensures takes { Takes 3300 p.old p.new }
+{
     take(p, SyntaxKind::FOR_KW);
-    expect_pattern(p);
+    expect_part(p, Part::Pattern);
     expect(p, SyntaxKind::IN_KW);
     expect_condition(p);
-    expect_block(p);
-    complete(p, node, SyntaxKind::FOR_EXPR);
+    expect_part(p, Part::Block);
+}
+
+/// Parses an expression that ends in a block and that only the whole language has: a loop or a
+/// block with a label, or a block with words.
+// 'a: loop { b }
+#[cycle(grammar)]
+fn new_block(p: &mut Parser<'_>)
+    requires begins { Starts (wide rows.new_block_begins) p.old }
+    ensures anew { (c : Bool) → Anew c rows.new_block p.old p.new }
+    ensures takes { Takes 3200 p.old p.new }
+{
+    if at(p, SyntaxKind::LIFETIME_IDENT) {
+        labelled(p);
+        return;
+    }
+    block_with_words(p);
+}
+
+/// Parses a loop or a block with its label.
+// 'a: loop { b }
+#[cycle(grammar)]
+fn labelled(p: &mut Parser<'_>)
+    requires some { 1 ≤ tokens p.old }
+    ensures anew { (c : Bool) → Anew c rows.labelled p.old p.new }
+    ensures takes { Takes 4080 p.old p.new }
+{
+    let node = start(p);
+    label(p);
+    after_label(p, node);
+}
+
+/// Parses a loop or a block after its label, and completes its node.
+// loop { b }
+#[cycle(grammar)]
+fn after_label(p: &mut Parser<'_>, node: Marker)
+    requires innermost { IsInnermost node p.old.nodes }
+    ensures completes { (c : Bool) → Completes c rows.after_label p.old p.new }
+    ensures asks { Asks 2 p.old p.new }
+{
+    match current(p) {
+        SyntaxKind::WHILE_KW => {
+            while_rest(p);
+            complete(p, node, SyntaxKind::WHILE_EXPR);
+        }
+        SyntaxKind::LOOP_KW => {
+            loop_rest(p);
+            complete(p, node, SyntaxKind::LOOP_EXPR);
+        }
+        SyntaxKind::FOR_KW => {
+            for_rest(p);
+            complete(p, node, SyntaxKind::FOR_EXPR);
+        }
+        _ => {
+            expect_part(p, Part::StatementList);
+            complete(p, node, SyntaxKind::BLOCK_EXPR);
+        }
+    }
+}
+
+/// Parses a block with the words before it.
+// async move { a }
+#[cycle(grammar)]
+fn block_with_words(p: &mut Parser<'_>)
+    requires some { 1 ≤ tokens p.old }
+    ensures reads { (c : Bool) → Reads c rows.block_with_words p.old p.new }
+    ensures takes { Takes 4070 p.old p.new }
+{
+    let node = start(p);
+    block_words(p);
+    expect_part(p, Part::StatementList);
+    complete(p, node, SyntaxKind::BLOCK_EXPR);
 }
 
 /// Parses a `match` expression.
@@ -186,22 +271,8 @@ fn match_expr(p: &mut Parser<'_>)
     let node = start(p);
     take(p, SyntaxKind::MATCH_KW);
     expect_condition(p);
-    expect_match_arms(p);
+    expect_part(p, Part::MatchArms);
     complete(p, node, SyntaxKind::MATCH_EXPR);
-}
-
-/// Parses match arms in braces; emits an error if there are none.
-// { a => b, _ => c }
-#[cycle(grammar)]
-fn expect_match_arms(p: &mut Parser<'_>)
-    ensures reads { (c : Bool) → Reads c (MatchArms !) p.old p.new }
-    ensures asks { Asks 1 p.old p.new }
-{
-    if at(p, SyntaxKind::L_CURLY) {
-        match_arms(p);
-        return;
-    }
-    error(p, Message::Expected(SyntaxKind::MATCH_ARM_LIST));
 }
 
 /// Parses match arms in braces.
@@ -229,7 +300,8 @@ fn arms(p: &mut Parser<'_>)
     'turns: while arm_turn(p) {}
 }
 
-/// Parses a match arm, or skips a token into an error. Returns `true` if the list may continue.
+/// Parses a match arm or an attribute of the `match`, or skips a token into an error. Returns `true`
+/// if the list may continue.
 // a => b,
 #[cycle(grammar)]
 fn arm_turn(p: &mut Parser<'_>) -> bool
@@ -241,7 +313,11 @@ fn arm_turn(p: &mut Parser<'_>) -> bool
     if at_list_end(p, SyntaxKind::R_CURLY) {
         return false;
     }
-    if at_pattern(p) {
+    if at_match_attribute(p) {
+        attribute(p);
+        return true;
+    }
+    if at_match_arm(p) {
         match_arm(p, false);
         return true;
     }

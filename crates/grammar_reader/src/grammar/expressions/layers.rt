@@ -12,7 +12,7 @@ ghost use Rattle.rust_productions.specs.Reads.{looks, Gives, Reads};
 ghost use Rattle.rust_productions.specs.Starts.{StartsIn};
 
 use crate::grammar::expressions::operand::prefixed;
-use crate::grammar::types::expect_type_no_bounds;
+use crate::grammar::parts::{Part, expect_part};
 use parser_events::message::Message;
 use parser_events::parser::{Marker, Parser};
 use parser_input::syntax_kind::SyntaxKind;
@@ -67,7 +67,7 @@ fn turn(p: &mut Parser<'_>, frame: Marker, operator: Operator, condition: bool) 
 {
     take_operator(p, operator);
     if operator.height == 1 {
-        expect_type_no_bounds(p);
+        expect_part(p, Part::TypeNoBounds);
         return wrap(p, frame, SyntaxKind::CAST_EXPR);
     }
     expect_layer(p, operator.height - 1, condition);
@@ -81,7 +81,7 @@ fn turn(p: &mut Parser<'_>, frame: Marker, operator: Operator, condition: bool) 
 pub(crate) fn expect_layer(p: &mut Parser<'_>, height: u8, condition: bool)
     requires high { height ≤ 10 }
     ensures reads { Reads condition (Want (Call (layer_at height)) ExpectedExpression) p.old p.new }
-    ensures asks { Asks 11 p.old p.new }
+    ensures asks { Asks 16 p.old p.new }
 {
     if at_operand(p, condition) {
         layers(p, height, condition);

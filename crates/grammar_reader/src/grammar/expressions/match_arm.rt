@@ -1,39 +1,71 @@
 //! Arms of a `match`.
 
 ghost use Rattle.std.specs.Prelude.{◌≤◌, Bool, true};
-ghost use Rattle.rust_grammar.specs.Notation.{⁅◌⁆, ◌! };
+ghost use Rattle.parser_events.specs.Stack.{IsInnermost};
+ghost use Rattle.rust_grammar.specs.Calls.{Pattern};
+ghost use Rattle.rust_grammar.specs.Notation.{⁅◌⁆, ◌▸◌, ◌*, ◌!, more};
+ghost use Rattle.rust_grammar.specs.Shared as shared;
+ghost use Rattle.rust_grammar.specs.Whole.{rule};
+ghost use Rattle.rust_productions.specs.Starts.{Starts};
 ghost use Rattle.rust_grammar.specs.Rule as rules;
 ghost use Rattle.rust_grammar.specs.Rule.{One};
 ghost use Rattle.rust_grammar.specs.Words.{'=>'};
 ghost use Rattle.rust_grammar.specs.Expressions as rows;
-ghost use Rattle.rust_productions.specs.Looks.{tokens, Takes, Asks};
+ghost use Rattle.rust_productions.specs.Looks.{tokens, Takes, Asks, AsksIn};
 ghost use Rattle.rust_productions.specs.Reads.{looks, Gives, Reads, Saw};
 
+use crate::grammar::attributes::{attribute, outer_attributes};
+use crate::grammar::expressions::atom::after_path;
 use crate::grammar::expressions::control::block_like;
-use crate::grammar::expressions::{Level, expect_condition, expect_expression};
-use crate::grammar::or_patterns::pattern;
+use crate::grammar::expressions::layers::climb;
+use crate::grammar::expressions::operand::{postfix, postfixes};
+use crate::grammar::expressions::{Level, expect_condition, expect_expression, operation_tail};
+use crate::grammar::or_patterns::{pattern, pattern_or_missing};
+use crate::grammar::paths::{Mode, path_with_args};
+use crate::grammar::statements::at_more;
 use parser_events::message::Message;
-use parser_events::parser::Parser;
+use parser_events::parser::{Marker, Parser};
 use parser_input::syntax_kind::SyntaxKind;
 use rust_productions::grammar::expressions::at_block_like;
 use rust_productions::grammar::lists::comma;
-use rust_productions::grammar::{at, at_pair, complete, eat, error, start, take, take_pair};
+use rust_productions::grammar::match_arms::{at_braced_macro, at_long_path};
+use rust_productions::grammar::token_trees::token_tree;
+use rust_productions::grammar::{
+    abandon, at, at_new, at_pair, at_whole, complete, eat, error, start, take, take_pair, wrap,
+};
 
 /// Parses a match arm.
 // Some(a) if a > 1 => b,
 #[cycle(grammar)]
 pub(crate) fn match_arm(p: &mut Parser<'_>, condition: bool)
-    requires begins { (c : Bool) → Saw c (looks rules.pattern) p.old true }
+    requires begins { (c : Bool) → Saw c (looks rules.match_arm) p.old true }
     requires some { 1 ≤ tokens p.old }
     ensures gives { Gives rules.match_arm condition p.old p.new }
     ensures takes { Takes 2100 p.old p.new }
 {
     let node = start(p);
-    pattern(p);
+    attributed_pattern(p);
     opt_guard(p);
     expect_arrow(p);
     arm_value(p, condition);
     complete(p, node, SyntaxKind::MATCH_ARM);
+}
+
+/// Parses the pattern of a match arm, with its optional attributes.
+// #[a] Some(b)
+#[cycle(grammar)]
+fn attributed_pattern(p: &mut Parser<'_>)
+    requires begins { Starts (looks rules.match_arm) p.old }
+    ensures reads { (c : Bool) → Reads c (shared.outer_attributes ▸ Pattern) p.old p.new }
+    ensures takes { Takes 2895 p.old p.new }
+{
+    if at_new(p, SyntaxKind::POUND) {
+        attribute(p);
+        outer_attributes(p);
+        pattern_or_missing(p);
+        return;
+    }
+    pattern(p);
 }
 
 /// Parses the optional guard of a match arm.
@@ -46,9 +78,23 @@ fn opt_guard(p: &mut Parser<'_>)
     if at(p, SyntaxKind::IF_KW) {
         let guard = start(p);
         take(p, SyntaxKind::IF_KW);
-        expect_condition(p);
+        guard_value(p);
         complete(p, guard, SyntaxKind::MATCH_GUARD);
     }
+}
+
+/// Parses the value of a guard, which in the whole language is no condition.
+// a > 1
+#[cycle(grammar)]
+fn guard_value(p: &mut Parser<'_>)
+    ensures reads { (c : Bool) → Reads c rows.guard_value p.old p.new }
+    ensures asks { Asks 30 p.old p.new }
+{
+    if at_whole(p) {
+        expect_expression(p, Level::Operation, false);
+        return;
+    }
+    expect_condition(p);
 }
 
 /// Parses the `=>` of a match arm; emits an error if there is none.
@@ -64,11 +110,25 @@ fn expect_arrow(p: &mut Parser<'_>)
     error(p, Message::Expected(SyntaxKind::FAT_ARROW));
 }
 
-/// Parses the body of a match arm and its comma, which is optional after a block.
+/// Parses the value of a match arm and its comma.
 // b,
 #[cycle(grammar)]
 fn arm_value(p: &mut Parser<'_>, condition: bool)
     ensures reads { Reads condition rows.arm_value p.old p.new }
+    ensures asks { Asks 780 p.old p.new }
+{
+    if at_whole(p) {
+        arm_body(p, condition);
+        return;
+    }
+    profile_value(p, condition);
+}
+
+/// Parses the value of a match arm in the profile, and its comma, which is optional after a block.
+// b,
+#[cycle(grammar)]
+fn profile_value(p: &mut Parser<'_>, condition: bool)
+    ensures reads { Reads condition rows.profile_value p.old p.new }
     ensures asks { Asks 780 p.old p.new }
 {
     if at_block_like(p) {
@@ -78,4 +138,88 @@ fn arm_value(p: &mut Parser<'_>, condition: bool)
     }
     expect_expression(p, Level::Expression, condition);
     comma(p, SyntaxKind::R_CURLY);
+}
+
+/// Parses the value of a match arm in the whole language, and its comma.
+// b,
+#[cycle(grammar)]
+fn arm_body(p: &mut Parser<'_>, condition: bool)
+    ensures gives { Gives rules.arm_body condition p.old p.new }
+    ensures asks { Asks 770 p.old p.new }
+{
+    let frame = start(p);
+    let frame = inside_arm(p, frame, condition);
+    abandon(p, frame);
+}
+
+/// Parses the value of a match arm in the whole language, and its comma, within `frame`.
+// b,
+#[cycle(grammar)]
+fn inside_arm(p: &mut Parser<'_>, frame: Marker, condition: bool) -> Marker
+    requires innermost { IsInnermost frame p.old.nodes }
+    ensures reads { Reads condition (rule rules.arm_body) p.old p.new }
+    ensures asks { AsksIn result 770 p.old p.new }
+{
+    if at_block_like(p) {
+        block_like(p);
+        return arm_tail(p, frame, condition);
+    }
+    if at_long_path(p) {
+        path_with_args(p, Mode::Expr);
+        return after_long_path(p, frame, condition);
+    }
+    expect_expression(p, Level::Expression, condition);
+    comma(p, SyntaxKind::R_CURLY);
+    frame
+}
+
+/// Parses what follows a path of several segments: a macro call in braces, or operators and a
+/// comma.
+// ! { a }
+#[cycle(grammar)]
+fn after_long_path(p: &mut Parser<'_>, frame: Marker, condition: bool) -> Marker
+    requires innermost { IsInnermost frame p.old.nodes }
+    ensures reads { Reads condition rows.after_long_path p.old p.new }
+    ensures asks { AsksIn result 40 p.old p.new }
+{
+    if at_braced_macro(p) {
+        take(p, SyntaxKind::BANG);
+        token_tree(p);
+        let frame = wrap(p, frame, SyntaxKind::MACRO_CALL);
+        let frame = wrap(p, frame, SyntaxKind::MACRO_EXPR);
+        return arm_tail(p, frame, condition);
+    }
+    let frame = after_path(p, frame, condition);
+    further_operators(p, frame, condition)
+}
+
+/// Parses what follows a value that ends in a block: operators and a comma, or an optional comma.
+// .c(),
+#[cycle(grammar)]
+fn arm_tail(p: &mut Parser<'_>, frame: Marker, condition: bool) -> Marker
+    requires innermost { IsInnermost frame p.old.nodes }
+    ensures reads { Reads condition rows.arm_tail p.old p.new }
+    ensures asks { AsksIn result 30 p.old p.new }
+{
+    if at_more(p) {
+        let frame = postfix(p, frame);
+        return further_operators(p, frame, condition);
+    }
+    eat(p, SyntaxKind::COMMA);
+    frame
+}
+
+/// Parses postfix operators, further operators with their operands, and a comma.
+// .c() + d,
+#[cycle(grammar)]
+fn further_operators(p: &mut Parser<'_>, frame: Marker, condition: bool) -> Marker
+    requires innermost { IsInnermost frame p.old.nodes }
+    ensures reads { Reads condition (more rules.postfix * ▸ rows.after_operand ▸ rows.arm_comma) p.old p.new }
+    ensures asks { AsksIn result 20 p.old p.new }
+{
+    let frame = postfixes(p, frame);
+    let frame = climb(p, frame, 10, condition);
+    let frame = operation_tail(p, frame, condition);
+    comma(p, SyntaxKind::R_CURLY);
+    frame
 }

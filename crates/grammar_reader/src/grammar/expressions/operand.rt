@@ -2,31 +2,32 @@
 
 ghost use Rattle.std.specs.Prelude.{◌≤◌, Bool, IsTrue, true};
 ghost use Rattle.parser_input.specs.Kind.{raw_of};
-ghost use Rattle.parser_input.specs.Kinds.{CALL_EXPR, FLOAT_NUMBER, INDEX_EXPR, METHOD_CALL_EXPR, PREFIX_EXPR, TRY_EXPR};
+ghost use Rattle.parser_input.specs.Kinds.{FLOAT_NUMBER, PREFIX_EXPR};
 ghost use Rattle.parser_events.specs.Stack.{IsInnermost};
-ghost use Rattle.rust_grammar.specs.Calls.{Arguments, Prefixed};
-ghost use Rattle.rust_grammar.specs.Notation.{◌▸◌, ◌*, ◌!, ◌⟨◌⟩, more};
+ghost use Rattle.rust_grammar.specs.Calls.{Prefixed};
+ghost use Rattle.rust_grammar.specs.Notation.{◌▸◌, ◌*, ◌!, ◌⟨◌⟩, more, wide};
 ghost use Rattle.rust_grammar.specs.Rule as rules;
 ghost use Rattle.rust_grammar.specs.Rule.{Kind, One, Split};
 ghost use Rattle.rust_grammar.specs.Words.{one};
 ghost use Rattle.rust_grammar.specs.Expressions as rows;
-ghost use Rattle.rust_productions.specs.Looks.{tokens, Takes, Asks, Peeks, TakesIn, TakesOneIn, AsksIn};
+ghost use Rattle.rust_productions.specs.Looks.{tokens, Takes, Peeks, TakesIn, TakesOneIn, AsksIn};
 ghost use Rattle.rust_productions.specs.Reads.{looks, Anew, Gives, Reads, Saw};
 ghost use Rattle.rust_productions.specs.Starts.{Starts};
 ghost use Rattle.grammar_reader.specs.Next.{IsFloat};
 
 use crate::grammar::expressions::atom::inside;
-use crate::grammar::expressions::{Level, expect_expression};
-use crate::grammar::lists::arguments;
-use crate::grammar::paths::opt_generic_args;
+use crate::grammar::expressions::{Level, expect_expression, open_range};
+use crate::grammar::lists::{ListKind, list};
+use crate::grammar::parts::{Part, expect_part, opt_part};
 use crate::grammar::types::word_type;
 use parser_events::message::Message;
 use parser_events::parser::{Marker, Parser};
 use parser_input::syntax_kind::SyntaxKind;
+use rust_productions::grammar::operands::{at_new_operand, at_raw, opt_mut_or_const};
 use rust_productions::grammar::operators::at_joint;
 use rust_productions::grammar::{
-    abandon, at, at_pair, at_pair_after, at_second, complete, current, eat, error, expect, start,
-    take, wrap,
+    abandon, at, at_new, at_pair, at_pair_after, at_second, complete, current, eat, error, expect,
+    start, take, take_contextual, wrap,
 };
 
 /// Parses an operand with its prefix operators.
@@ -42,8 +43,17 @@ pub(crate) fn prefixed(p: &mut Parser<'_>, condition: bool)
         SyntaxKind::MINUS => prefix_expr(p, SyntaxKind::MINUS, condition),
         SyntaxKind::BANG => prefix_expr(p, SyntaxKind::BANG, condition),
         SyntaxKind::STAR => prefix_expr(p, SyntaxKind::STAR, condition),
-        SyntaxKind::AMP => ref_expr(p, condition),
-        _ => operand(p, condition),
+        _ => {
+            if at_new_operand(p) {
+                new_operand(p, condition);
+                return;
+            }
+            if at(p, SyntaxKind::AMP) {
+                ref_expr(p, condition);
+                return;
+            }
+            operand(p, condition);
+        }
     }
 }
 
@@ -73,6 +83,37 @@ fn ref_expr(p: &mut Parser<'_>, condition: bool)
     let node = start(p);
     take(p, SyntaxKind::AMP);
     eat(p, SyntaxKind::MUT_KW);
+    expect_expression(p, Level::Prefixed, condition);
+    complete(p, node, SyntaxKind::REF_EXPR);
+}
+
+/// Parses an operand that only the whole language has: a raw reference, or a range without a start.
+// &raw mut a
+#[cycle(grammar)]
+fn new_operand(p: &mut Parser<'_>, condition: bool)
+    requires begins { Starts (wide rows.new_operand_begins) p.old }
+    ensures reads { Reads condition rows.new_operand p.old p.new }
+    ensures takes { Takes 3200 p.old p.new }
+{
+    if at_raw(p) {
+        raw_ref_expr(p, condition);
+        return;
+    }
+    open_range(p, condition);
+}
+
+/// Parses a raw reference.
+// &raw mut a
+#[cycle(grammar)]
+fn raw_ref_expr(p: &mut Parser<'_>, condition: bool)
+    requires some { 2 ≤ tokens p.old }
+    ensures reads { Reads condition rows.raw_ref_expr p.old p.new }
+    ensures takes { Takes 4000 p.old p.new }
+{
+    let node = start(p);
+    take(p, SyntaxKind::AMP);
+    take_contextual(p, SyntaxKind::RAW_KW);
+    opt_mut_or_const(p);
     expect_expression(p, Level::Prefixed, condition);
     complete(p, node, SyntaxKind::REF_EXPR);
 }
@@ -138,7 +179,7 @@ pub(crate) fn postfix(p: &mut Parser<'_>, frame: Marker) -> Marker
 {
     match current(p) {
         SyntaxKind::L_PAREN => {
-            arguments(p);
+            list(p, ListKind::Arguments);
             wrap(p, frame, SyntaxKind::CALL_EXPR)
         }
         SyntaxKind::L_BRACK => {
@@ -193,11 +234,15 @@ fn at_method(p: &mut Parser<'_>) -> bool
 fn after_dot(p: &mut Parser<'_>, frame: Marker) -> Marker
     requires innermost { IsInnermost frame p.old.nodes }
     ensures reads { (c : Bool) → Reads c (more rules.after_dot) p.old p.new }
-    ensures asks { AsksIn result 5 p.old p.new }
+    ensures asks { AsksIn result 6 p.old p.new }
 {
     if at_method(p) {
         method_call(p);
         return wrap(p, frame, SyntaxKind::METHOD_CALL_EXPR);
+    }
+    if at_new(p, SyntaxKind::AWAIT_KW) {
+        take(p, SyntaxKind::AWAIT_KW);
+        return wrap(p, frame, SyntaxKind::AWAIT_EXPR);
     }
     match current(p) {
         SyntaxKind::IDENT => {
@@ -225,22 +270,8 @@ fn method_call(p: &mut Parser<'_>)
     ensures takes { Takes 4080 p.old p.new }
 {
     word_type(p, SyntaxKind::IDENT, SyntaxKind::NAME_REF);
-    opt_generic_args(p);
-    expect_arguments(p);
-}
-
-/// Parses call arguments; emits an error if there are none.
-// (a, b)
-#[cycle(grammar)]
-fn expect_arguments(p: &mut Parser<'_>)
-    ensures reads { (c : Bool) → Reads c (Arguments !) p.old p.new }
-    ensures asks { Asks 1 p.old p.new }
-{
-    if at(p, SyntaxKind::L_PAREN) {
-        arguments(p);
-        return;
-    }
-    error(p, Message::Expected(SyntaxKind::ARG_LIST));
+    opt_part(p, Part::GenericArgs);
+    expect_part(p, Part::Arguments);
 }
 
 /// Parses a float after a dot: one or two field numbers. After a float that ends in a dot, parses

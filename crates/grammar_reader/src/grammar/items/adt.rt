@@ -2,19 +2,17 @@
 
 ghost use Rattle.std.specs.Prelude.{◌≤◌, Bool};
 ghost use Rattle.parser_events.specs.Stack.{IsInnermost};
-ghost use Rattle.rust_grammar.specs.Calls.{Variants};
 ghost use Rattle.rust_grammar.specs.Notation.{◌! };
 ghost use Rattle.rust_grammar.specs.Items as rows;
 ghost use Rattle.rust_productions.specs.Looks.{tokens, Takes, Asks};
 ghost use Rattle.rust_productions.specs.Reads.{Completes, Reads};
 
-use crate::grammar::items::{opt_generic_params, opt_where_clause};
-use crate::grammar::lists::{record_fields, tuple_fields, variants};
-use parser_events::message::Message;
+use crate::grammar::lists::{ListKind, list};
+use crate::grammar::parts::{Part, expect_part, opt_part};
 use parser_events::parser::{Marker, Parser};
 use parser_input::syntax_kind::SyntaxKind;
 use rust_productions::grammar::names::expect_name;
-use rust_productions::grammar::{at, complete, error, expect, take};
+use rust_productions::grammar::{at, complete, expect, take};
 
 /// Parses a struct, and completes its node.
 // struct S<T> { a: T }
@@ -27,7 +25,7 @@ pub(crate) fn struct_item(p: &mut Parser<'_>, item: Marker, condition: bool)
 {
     take(p, SyntaxKind::STRUCT_KW);
     expect_name(p);
-    opt_generic_params(p);
+    opt_part(p, Part::GenericParams);
     fields(p, condition);
     complete(p, item, SyntaxKind::STRUCT);
 }
@@ -40,12 +38,12 @@ fn fields(p: &mut Parser<'_>, condition: bool)
     ensures asks { Asks 4 p.old p.new }
 {
     if at(p, SyntaxKind::L_PAREN) {
-        tuple_fields(p);
-        opt_where_clause(p);
+        list(p, ListKind::TupleFields);
+        opt_part(p, Part::WhereClause);
         expect(p, SyntaxKind::SEMICOLON);
         return;
     }
-    opt_where_clause(p);
+    opt_part(p, Part::WhereClause);
     named_fields(p);
 }
 
@@ -57,7 +55,7 @@ fn named_fields(p: &mut Parser<'_>)
     ensures asks { Asks 2 p.old p.new }
 {
     if at(p, SyntaxKind::L_CURLY) {
-        record_fields(p);
+        list(p, ListKind::RecordFields);
         return;
     }
     expect(p, SyntaxKind::SEMICOLON);
@@ -74,22 +72,8 @@ pub(crate) fn enum_item(p: &mut Parser<'_>, item: Marker, condition: bool)
 {
     take(p, SyntaxKind::ENUM_KW);
     expect_name(p);
-    opt_generic_params(p);
-    opt_where_clause(p);
-    expect_variants(p);
+    opt_part(p, Part::GenericParams);
+    opt_part(p, Part::WhereClause);
+    expect_part(p, Part::Variants);
     complete(p, item, SyntaxKind::ENUM);
-}
-
-/// Parses the variants of an enum; emits an error if there are none.
-// { A, B(u8) }
-#[cycle(grammar)]
-fn expect_variants(p: &mut Parser<'_>)
-    ensures reads { (c : Bool) → Reads c (Variants !) p.old p.new }
-    ensures asks { Asks 1 p.old p.new }
-{
-    if at(p, SyntaxKind::L_CURLY) {
-        variants(p);
-        return;
-    }
-    error(p, Message::Expected(SyntaxKind::VARIANT_LIST));
 }

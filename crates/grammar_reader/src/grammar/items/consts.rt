@@ -10,10 +10,8 @@ ghost use Rattle.rust_productions.specs.Reads.{Completes, Reads};
 
 use crate::grammar::expressions::{Level, expect_expression};
 use crate::grammar::generic_params::bounds_after_colon;
-use crate::grammar::items::{
-    opt_generic_params, opt_new_generics, opt_new_where, opt_where_clause,
-};
-use crate::grammar::types::{expect_type, opt_type_after};
+use crate::grammar::parts::{Part, expect_part, opt_part};
+use crate::grammar::types::opt_type_after;
 use parser_events::parser::{Marker, Parser};
 use parser_input::syntax_kind::SyntaxKind;
 use rust_productions::grammar::names::expect_name;
@@ -31,7 +29,7 @@ pub(crate) fn const_item(p: &mut Parser<'_>, item: Marker, condition: bool)
 {
     take(p, SyntaxKind::CONST_KW);
     underscore_or_name(p);
-    opt_new_generics(p);
+    opt_part(p, Part::NewGenericParams);
     const_typed(p, condition);
     complete(p, item, SyntaxKind::CONST);
 }
@@ -44,9 +42,9 @@ fn const_typed(p: &mut Parser<'_>, in_condition: bool)
     ensures asks { Asks 20 p.old p.new }
 {
     expect(p, SyntaxKind::COLON);
-    expect_type(p);
+    expect_part(p, Part::Type);
     opt_value(p, in_condition);
-    opt_new_where(p);
+    opt_part(p, Part::NewWhereClause);
     expect(p, SyntaxKind::SEMICOLON);
 }
 
@@ -74,7 +72,7 @@ fn typed_value(p: &mut Parser<'_>, condition: bool)
     ensures asks { Asks 20 p.old p.new }
 {
     expect(p, SyntaxKind::COLON);
-    expect_type(p);
+    expect_part(p, Part::Type);
     opt_value(p, condition);
     expect(p, SyntaxKind::SEMICOLON);
 }
@@ -103,9 +101,9 @@ pub(crate) fn type_alias(p: &mut Parser<'_>, item: Marker, condition: bool)
 {
     take(p, SyntaxKind::TYPE_KW);
     expect_name(p);
-    opt_generic_params(p);
+    opt_part(p, Part::GenericParams);
     bounds_after_colon(p);
-    opt_where_clause(p);
+    opt_part(p, Part::WhereClause);
     alias_value(p);
     complete(p, item, SyntaxKind::TYPE_ALIAS);
 }
@@ -118,6 +116,6 @@ fn alias_value(p: &mut Parser<'_>)
     ensures asks { Asks 3 p.old p.new }
 {
     opt_type_after(p, SyntaxKind::EQ);
-    opt_new_where(p);
+    opt_part(p, Part::NewWhereClause);
     expect(p, SyntaxKind::SEMICOLON);
 }

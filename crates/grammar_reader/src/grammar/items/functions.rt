@@ -3,9 +3,8 @@
 ghost use Rattle.std.specs.Prelude.{◌≤◌, Bool};
 ghost use Rattle.parser_input.specs.Kinds.{FN};
 ghost use Rattle.parser_events.specs.Stack.{IsInnermost};
-ghost use Rattle.rust_grammar.specs.Calls.{Params, RetType};
 ghost use Rattle.rust_grammar.specs.Items.{fn_begins};
-ghost use Rattle.rust_grammar.specs.Notation.{⁅◌⁆, ◌!, ◌▸◌, ◌<⟨◌⟩};
+ghost use Rattle.rust_grammar.specs.Notation.{◌!, ◌▸◌, ◌<⟨◌⟩};
 ghost use Rattle.rust_grammar.specs.Items as rows;
 ghost use Rattle.rust_grammar.specs.Rule.{One};
 ghost use Rattle.rust_grammar.specs.Words.{'fn'};
@@ -14,15 +13,13 @@ ghost use Rattle.rust_productions.specs.Reads.{Completes, Reads};
 ghost use Rattle.rust_productions.specs.Starts.{Starts};
 
 use crate::grammar::expressions::blocks::block;
-use crate::grammar::items::{opt_generic_params, opt_where_clause};
-use crate::grammar::lists::params;
+use crate::grammar::parts::{Part, expect_part, opt_part};
 use crate::grammar::types::opt_ret_type;
-use parser_events::message::Message;
 use parser_events::parser::{Marker, Parser};
 use parser_input::syntax_kind::SyntaxKind;
 use rust_productions::grammar::items::fn_words;
 use rust_productions::grammar::names::expect_name;
-use rust_productions::grammar::{at, at_pair, complete, error, expect, take};
+use rust_productions::grammar::{at, complete, expect, take};
 
 /// Parses a function, and completes its node.
 // const unsafe fn f<T>(a: T) -> T { a }
@@ -60,25 +57,11 @@ fn after_fn(p: &mut Parser<'_>)
     ensures asks { Asks 8 p.old p.new }
 {
     expect_name(p);
-    opt_generic_params(p);
-    expect_params(p);
+    opt_part(p, Part::GenericParams);
+    expect_part(p, Part::Params);
     opt_ret_type(p);
-    opt_where_clause(p);
+    opt_part(p, Part::WhereClause);
     fn_body(p);
-}
-
-/// Parses function parameters; emits an error if there are none.
-// (a: u8)
-#[cycle(grammar)]
-fn expect_params(p: &mut Parser<'_>)
-    ensures reads { (c : Bool) → Reads c (Params !) p.old p.new }
-    ensures asks { Asks 1 p.old p.new }
-{
-    if at(p, SyntaxKind::L_PAREN) {
-        params(p);
-        return;
-    }
-    error(p, Message::Expected(SyntaxKind::PARAM_LIST));
 }
 
 /// Parses the body of a function, or its `;`.

@@ -11,8 +11,9 @@ ghost use Rattle.rust_productions.specs.Reads.{looks, Reads, Saw};
 
 use crate::grammar::expressions::{Level, expect_expression};
 use crate::grammar::items::attributes_and_visibility;
-use crate::grammar::lists::{record_fields, tuple_fields};
-use crate::grammar::types::{any_type, expect_type};
+use crate::grammar::lists::{ListKind, list};
+use crate::grammar::parts::{Part, expect_part};
+use crate::grammar::types::any_type;
 use parser_events::parser::Parser;
 use parser_input::syntax_kind::SyntaxKind;
 use rust_productions::grammar::items::opt_unsafe_field;
@@ -90,7 +91,7 @@ pub(crate) fn record_field(p: &mut Parser<'_>)
     let field = start(p);
     field_front(p);
     expect(p, SyntaxKind::COLON);
-    expect_type(p);
+    expect_part(p, Part::Type);
     opt_discriminant(p);
     complete(p, field, SyntaxKind::RECORD_FIELD);
 }
@@ -206,11 +207,11 @@ fn typed(p: &mut Parser<'_>)
     match current(p) {
         SyntaxKind::POUND => {
             attributes_and_visibility(p);
-            expect_type(p);
+            expect_part(p, Part::Type);
         }
         SyntaxKind::PUB_KW => {
             visibility(p);
-            expect_type(p);
+            expect_part(p, Part::Type);
         }
         _ => any_type(p),
     }
@@ -224,8 +225,8 @@ fn opt_fields(p: &mut Parser<'_>)
     ensures asks { Asks 1 p.old p.new }
 {
     match current(p) {
-        SyntaxKind::L_CURLY => record_fields(p),
-        SyntaxKind::L_PAREN => tuple_fields(p),
+        SyntaxKind::L_CURLY => list(p, ListKind::RecordFields),
+        SyntaxKind::L_PAREN => list(p, ListKind::TupleFields),
         _ => {}
     }
 }

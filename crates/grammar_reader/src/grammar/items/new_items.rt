@@ -2,18 +2,17 @@
 
 ghost use Rattle.std.specs.Prelude.{◌≤◌, Bool};
 ghost use Rattle.parser_events.specs.Stack.{IsInnermost};
-ghost use Rattle.rust_grammar.specs.Calls.{RecordFields};
 ghost use Rattle.rust_grammar.specs.Items as rows;
-ghost use Rattle.rust_grammar.specs.Notation.{◌!, ◌▸◌, wide};
+ghost use Rattle.rust_grammar.specs.Notation.{◌!, wide};
 ghost use Rattle.rust_productions.specs.Looks.{tokens, Takes, Asks};
-ghost use Rattle.rust_productions.specs.Reads.{Completes, Reads};
+ghost use Rattle.rust_productions.specs.Reads.{Completes};
 ghost use Rattle.rust_productions.specs.Starts.{Starts};
 
 use crate::grammar::items::consts::{const_item, static_item, type_alias};
 use crate::grammar::items::functions::plain_fn;
+use crate::grammar::items::item_list;
 use crate::grammar::items::traits::{plain_impl, plain_trait};
-use crate::grammar::items::{item_list, opt_generic_params, opt_where_clause};
-use crate::grammar::lists::record_fields;
+use crate::grammar::parts::{Part, expect_part, opt_part};
 use parser_events::message::Message;
 use parser_events::parser::{Marker, Parser};
 use parser_input::syntax_kind::SyntaxKind;
@@ -66,24 +65,10 @@ fn union_item(p: &mut Parser<'_>, item: Marker)
 {
     take_contextual(p, SyntaxKind::UNION_KW);
     name(p);
-    opt_generic_params(p);
-    opt_where_clause(p);
-    expect_record_fields(p);
+    opt_part(p, Part::GenericParams);
+    opt_part(p, Part::WhereClause);
+    expect_part(p, Part::RecordFields);
     complete(p, item, SyntaxKind::UNION);
-}
-
-/// Parses the fields of a union; emits an error if there are none.
-// { a: u8 }
-#[cycle(grammar)]
-fn expect_record_fields(p: &mut Parser<'_>)
-    ensures reads { (c : Bool) → Reads c (RecordFields !) p.old p.new }
-    ensures asks { Asks 1 p.old p.new }
-{
-    if at(p, SyntaxKind::L_CURLY) {
-        record_fields(p);
-        return;
-    }
-    error(p, Message::Expected(SyntaxKind::RECORD_FIELD_LIST));
 }
 
 /// Parses an item with words before its own, and completes its node.

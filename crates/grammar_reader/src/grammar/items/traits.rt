@@ -2,7 +2,6 @@
 
 ghost use Rattle.std.specs.Prelude.{◌≤◌, Bool};
 ghost use Rattle.parser_events.specs.Stack.{IsInnermost};
-ghost use Rattle.rust_grammar.specs.Calls.{AssocItems};
 ghost use Rattle.rust_grammar.specs.Notation.{◌! };
 ghost use Rattle.rust_grammar.specs.Items as rows;
 ghost use Rattle.rust_productions.specs.Looks.{tokens, Takes, Asks};
@@ -10,17 +9,16 @@ ghost use Rattle.rust_productions.specs.Reads.{Completes, Reads};
 ghost use Rattle.rust_productions.specs.Starts.{Starts};
 
 use crate::grammar::generic_params::{bounds, bounds_after_colon};
-use crate::grammar::items::{assoc_items, opt_generic_params, opt_where_clause};
-use crate::grammar::lists::generic_params;
-use crate::grammar::types::{expect_type, opt_type_after};
-use parser_events::message::Message;
+use crate::grammar::lists::{ListKind, list};
+use crate::grammar::parts::{Part, expect_part, opt_part};
+use crate::grammar::types::opt_type_after;
 use parser_events::parser::{Marker, Parser};
 use parser_input::syntax_kind::SyntaxKind;
 use rust_productions::grammar::items::{
     at_impl_params, opt_const_before_trait, opt_negation, unsafe_word,
 };
 use rust_productions::grammar::names::expect_name;
-use rust_productions::grammar::{at, at_new, complete, error, expect, take};
+use rust_productions::grammar::{at_new, complete, expect, take};
 
 /// Parses an implementation, and completes its node.
 // impl<T> A for B<T> { fn f() {} }
@@ -60,10 +58,10 @@ fn after_impl(p: &mut Parser<'_>)
     opt_impl_params(p);
     opt_const_before_trait(p);
     opt_negation(p);
-    expect_type(p);
+    expect_part(p, Part::Type);
     opt_type_after(p, SyntaxKind::FOR_KW);
-    opt_where_clause(p);
-    expect_assoc_items(p);
+    opt_part(p, Part::WhereClause);
+    expect_part(p, Part::AssocItems);
 }
 
 /// Parses the optional parameters of an implementation.
@@ -74,7 +72,7 @@ fn opt_impl_params(p: &mut Parser<'_>)
     ensures asks { Asks 4 p.old p.new }
 {
     if at_impl_params(p) {
-        generic_params(p);
+        list(p, ListKind::GenericParams);
     }
 }
 
@@ -114,7 +112,7 @@ fn after_trait(p: &mut Parser<'_>)
     ensures asks { Asks 6 p.old p.new }
 {
     expect_name(p);
-    opt_generic_params(p);
+    opt_part(p, Part::GenericParams);
     trait_body(p);
 }
 
@@ -142,7 +140,7 @@ fn alias_bounds(p: &mut Parser<'_>)
 {
     take(p, SyntaxKind::EQ);
     bounds(p);
-    opt_where_clause(p);
+    opt_part(p, Part::WhereClause);
     expect(p, SyntaxKind::SEMICOLON);
 }
 
@@ -154,20 +152,6 @@ fn trait_items(p: &mut Parser<'_>)
     ensures asks { Asks 3 p.old p.new }
 {
     bounds_after_colon(p);
-    opt_where_clause(p);
-    expect_assoc_items(p);
-}
-
-/// Parses associated items; emits an error if there are none.
-// { fn f(); }
-#[cycle(grammar)]
-fn expect_assoc_items(p: &mut Parser<'_>)
-    ensures reads { (c : Bool) → Reads c (AssocItems !) p.old p.new }
-    ensures asks { Asks 1 p.old p.new }
-{
-    if at(p, SyntaxKind::L_CURLY) {
-        assoc_items(p);
-        return;
-    }
-    error(p, Message::Expected(SyntaxKind::ASSOC_ITEM_LIST));
+    opt_part(p, Part::WhereClause);
+    expect_part(p, Part::AssocItems);
 }

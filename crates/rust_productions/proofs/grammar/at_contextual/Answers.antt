@@ -8,7 +8,7 @@ pub returns-clause-sees : goal.returns-clause-sees
 returns-clause-sees c cond = saw-contextual cond 0 c.args.p.now _ _ _ (c.to_raw.ensures.number ∙ c.contextual_at.ensures) c.to_raw-2.ensures.number
 
 pub returns-clause-some : goal.returns-clause-some
-returns-clause-some c is some = some-contextual c.args.p.now _ _ _ (c.to_raw.ensures.number ∙ c.contextual_at.ensures) is c.to_raw-2.ensures.number some
+returns-clause-some c is some = some-contextual 0 c.args.p.now _ _ _ (c.to_raw.ensures.number ∙ c.contextual_at.ensures) is c.to_raw-2.ensures.number some
 
 pub returns-clause-same : goal.returns-clause-same
 returns-clause-same c = does-nothing _

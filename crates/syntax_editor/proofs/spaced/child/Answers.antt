@@ -1,4 +1,4 @@
--- The child of a number is what stands there in the list of all children.
+-- The child with an index is the element with this index in the list of all children.
 use Rattle.std.proofs.Common.{◌≡◌, ℕ, zero, suc, ◌+◌, List, [], ◌∷◌, Some, None, refl, ap, sym, ◌∙◌, arith, map, slice_get, option_map, Option, IfOk, subst}
 use Rattle.std.proofs.lemmas.Option.{slice_get-map}
 use Rattle.rowan_green.specs.Term.{Term}

@@ -1,4 +1,4 @@
--- What was passed is of another kind.
+-- The nodes before the current one are of other kinds.
 use Rattle.std.proofs.Common.{◌≡◌, ◌≤◌, length}
 use Rattle.std.specs.List.{filter}
 use Rattle.syntax_tree.specs.Nodes.{is_of_kind}

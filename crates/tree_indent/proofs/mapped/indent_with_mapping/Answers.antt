@@ -1,4 +1,4 @@
--- As many new child nodes stand there as old ones, so that only their order may be refused.
+-- There are as many new child nodes as old ones, so only the order can be wrong.
 use Rattle.std.proofs.Common.{◌<◌, ◌^◌, ap, sym, ◌∙◌, subst, rules, arith}
 use Rattle.syntax_tree.specs.Element.{Element}
 use Rattle.tree_indent.specs.Mapped.{RefusesMapped}

@@ -8,7 +8,7 @@ use Rattle.tree_indent.proofs.trees.+shifted_tree.Given as goal
 abbrev pub decreases-shifted_tree : goal.decreases-shifted_tree
 decreases-shifted_tree l = tree_count l.node.now
 
--- the children so far, and those that are left, are all; those may stand, and these are fewer than the node's terms
+-- the finished children and the remaining ones are all; the finished ones are within the limits, and there are fewer of them than terms of the node
 abbrev pub invariant-loop-child : goal.invariant-loop-child
 invariant-loop-child l = record {
   can : (goal.iterator-loop-child).can_next l.child-iterator;

@@ -22,7 +22,7 @@ pub items::consts::static_item-returns-clause-completes : goal.items::consts::st
 items::consts::static_item-returns-clause-completes t c = completes-wrap (reads-then _ (c.take.ensures.reads c.args.condition) (reads-then _ (c.eat.ensures.reads c.args.condition) (reads-then _ (c.expect_name.ensures.reads c.args.condition) c.typed_value.ensures.reads))) c.complete.ensures.closes
 
 pub items::consts::typed_value-returns-clause-reads : goal.items::consts::typed_value-returns-clause-reads
-items::consts::typed_value-returns-clause-reads t c = (reads-then _ (c.expect.ensures.reads c.args.condition) (reads-then _ (c.expect_type.ensures.reads _) (reads-then _ c.opt_value.ensures.reads (c.expect-2.ensures.reads c.args.condition))))
+items::consts::typed_value-returns-clause-reads t c = (reads-then _ (c.expect.ensures.reads c.args.condition) (reads-then _ (c.expect_part.ensures.reads _) (reads-then _ c.opt_value.ensures.reads (c.expect-2.ensures.reads c.args.condition))))
 
 pub items::consts::opt_value-returns-then-at-clause-reads : goal.items::consts::opt_value-returns-then-at-clause-reads
 unfolding look_of begins_below whole rule items statements expressions patterns types paths there_at shift passes is_silent begins in_mode anew row one_of any_of no_longer longest is_longer
@@ -33,19 +33,19 @@ unfolding look_of begins_below whole rule items statements expressions patterns 
 items::consts::opt_value-returns-else-at-clause-reads t c = reads-here (saw-so (c.at.ensures.sees c.args.condition) c.if-at.false and nothing) (reads-nothing _ c.at.ensures.peeks.same)
 
 pub items::consts::const_item-returns-clause-completes : goal.items::consts::const_item-returns-clause-completes
-items::consts::const_item-returns-clause-completes t c = completes-wrap (reads-then c.args.condition (c.take.ensures.reads c.args.condition) (reads-then c.args.condition (c.underscore_or_name.ensures.reads c.args.condition) (reads-then c.args.condition (c.opt_new_generics.ensures.reads c.args.condition) c.const_typed.ensures.reads))) c.complete.ensures.closes
+items::consts::const_item-returns-clause-completes t c = completes-wrap (reads-then c.args.condition (c.take.ensures.reads c.args.condition) (reads-then c.args.condition (c.underscore_or_name.ensures.reads c.args.condition) (reads-then c.args.condition (c.opt_part.ensures.reads c.args.condition) c.const_typed.ensures.reads))) c.complete.ensures.closes
 
 pub items::consts::const_item-complete-requires : goal.items::consts::const_item-complete-requires
-items::consts::const_item-complete-requires t c = c.const_typed.ensures.reads.does.innermost _ ((c.opt_new_generics.ensures.reads true).does.innermost _ ((c.underscore_or_name.ensures.reads true).does.innermost _ ((c.take.ensures.reads true).does.innermost _ (c.requires.innermost))))
+items::consts::const_item-complete-requires t c = c.const_typed.ensures.reads.does.innermost _ ((c.opt_part.ensures.reads true).does.innermost _ ((c.underscore_or_name.ensures.reads true).does.innermost _ ((c.take.ensures.reads true).does.innermost _ (c.requires.innermost))))
 
 pub items::consts::const_typed-returns-clause-reads : goal.items::consts::const_typed-returns-clause-reads
-items::consts::const_typed-returns-clause-reads t c = reads-then c.args.in_condition (c.expect.ensures.reads c.args.in_condition) (reads-then c.args.in_condition (c.expect_type.ensures.reads c.args.in_condition) (reads-then c.args.in_condition c.opt_value.ensures.reads (reads-then c.args.in_condition (c.opt_new_where.ensures.reads c.args.in_condition) (c.expect-2.ensures.reads c.args.in_condition))))
+items::consts::const_typed-returns-clause-reads t c = reads-then c.args.in_condition (c.expect.ensures.reads c.args.in_condition) (reads-then c.args.in_condition (c.expect_part.ensures.reads c.args.in_condition) (reads-then c.args.in_condition c.opt_value.ensures.reads (reads-then c.args.in_condition (c.opt_part.ensures.reads c.args.in_condition) (c.expect-2.ensures.reads c.args.in_condition))))
 
 pub items::consts::type_alias-returns-clause-completes : goal.items::consts::type_alias-returns-clause-completes
-items::consts::type_alias-returns-clause-completes t c = completes-wrap (reads-then c.args.condition (c.take.ensures.reads c.args.condition) (reads-then c.args.condition (c.expect_name.ensures.reads c.args.condition) (reads-then c.args.condition (c.opt_generic_params.ensures.reads c.args.condition) (reads-then c.args.condition (c.bounds_after_colon.ensures.reads c.args.condition) (reads-then c.args.condition (c.opt_where_clause.ensures.reads c.args.condition) (c.alias_value.ensures.reads c.args.condition)))))) c.complete.ensures.closes
+items::consts::type_alias-returns-clause-completes t c = completes-wrap (reads-then c.args.condition (c.take.ensures.reads c.args.condition) (reads-then c.args.condition (c.expect_name.ensures.reads c.args.condition) (reads-then c.args.condition (c.opt_part.ensures.reads c.args.condition) (reads-then c.args.condition (c.bounds_after_colon.ensures.reads c.args.condition) (reads-then c.args.condition (c.opt_part-2.ensures.reads c.args.condition) (c.alias_value.ensures.reads c.args.condition)))))) c.complete.ensures.closes
 
 pub items::consts::type_alias-complete-requires : goal.items::consts::type_alias-complete-requires
-items::consts::type_alias-complete-requires t c = (c.alias_value.ensures.reads true).does.innermost _ ((c.opt_where_clause.ensures.reads true).does.innermost _ ((c.bounds_after_colon.ensures.reads true).does.innermost _ ((c.opt_generic_params.ensures.reads true).does.innermost _ ((c.expect_name.ensures.reads true).does.innermost _ ((c.take.ensures.reads true).does.innermost _ (c.requires.innermost))))))
+items::consts::type_alias-complete-requires t c = (c.alias_value.ensures.reads true).does.innermost _ ((c.opt_part-2.ensures.reads true).does.innermost _ ((c.bounds_after_colon.ensures.reads true).does.innermost _ ((c.opt_part.ensures.reads true).does.innermost _ ((c.expect_name.ensures.reads true).does.innermost _ ((c.take.ensures.reads true).does.innermost _ (c.requires.innermost))))))
 
 pub items::consts::alias_value-returns-clause-reads : goal.items::consts::alias_value-returns-clause-reads
-items::consts::alias_value-returns-clause-reads t c = λ cond. reads-then cond (c.opt_type_after.ensures.reads cond) (reads-then cond (c.opt_new_where.ensures.reads cond) (c.expect.ensures.reads cond))
+items::consts::alias_value-returns-clause-reads t c = λ cond. reads-then cond (c.opt_type_after.ensures.reads cond) (reads-then cond (c.opt_part.ensures.reads cond) (c.expect.ensures.reads cond))

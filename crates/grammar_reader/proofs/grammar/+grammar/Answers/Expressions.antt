@@ -7,13 +7,13 @@ use Rattle.rust_grammar.specs.Rule as rules
 use Rattle.rust_grammar.specs.Rule.{Call, Want, begins}
 use Rattle.grammar_reader.specs.Told.{level_of}
 use Rattle.grammar_reader.specs.declared.grammar.expressions.Level.{Level}
-use Rattle.grammar_reader.proofs.Seeing.{reads-expected}
+use Rattle.grammar_reader.proofs.Seeing.{reads-expected, reads-open-end}
 use Rattle.rust_productions.specs.Layers.{layer_at, layers, operators_at}
 use Rattle.rust_productions.specs.Operators.{IsMark}
 use Rattle.rust_productions.specs.Reads.{Reads}
 use Rattle.rust_productions.specs.declared.grammar.operators.RangeMark.{RangeMark}
 use Rattle.rust_productions.proofs.ByHand.{after-look, does-nothing, goes, reads-call, reads-missing, reads-more, reads-node, reads-then, reads-unless, reads-want, reads-wrap}
-use Rattle.rust_productions.proofs.Choices.{anew-inside, gives-anew}
+use Rattle.rust_productions.proofs.Choices.{anew-inside, gives-anew, anew-after}
 use Rattle.rust_productions.proofs.Facts.{saw-so}
 use Rattle.rust_productions.proofs.Operators.{next-after}
 use Rattle.rust_productions.proofs.Ranges.{begins-call, gives-expression, gives-look, gives-operands, mark-after, mark-inside, operand-begun, range-near, reads-assignment, reads-no-assignment, reads-no-pipe, reads-pipe, reads-range, reads-range-alone, reads-range-end, reads-range-on, reads-before-look, saw-operation, saw-outside, unranged}
@@ -243,3 +243,15 @@ expressions::operation_tail-returns-clause-asks t c = record {
   looks = omega (arith, c.ranges-2.invariant.looks, c.pipe_tail.ensures.asks.looks, c.range_mark-mark.ensures.peeks.looks);
   marker = search rules;
 }
+
+pub expressions::open_range-present_mark-mark-requires : goal.expressions::open_range-present_mark-mark-requires
+expressions::open_range-present_mark-mark-requires t c = record { sees = λ d. saw-inside c.start-range.ensures.opens (c.requires.begins.sees d); some = omega (arith, c.requires.begins.some, c.start-range.ensures.stays.left) }
+
+pub expressions::open_range-range_end-requires : goal.expressions::open_range-range_end-requires
+expressions::open_range-range_end-requires t c = (omega arith, mark-after c.present_mark-mark.ensures.peeks.same c.present_mark-mark.ensures.mark)
+
+pub expressions::open_range-complete-requires : goal.expressions::open_range-complete-requires
+expressions::open_range-complete-requires t c = c.range_end.ensures.keeps.innermost _ (c.present_mark-mark.ensures.peeks.same.innermost _ c.start-range.ensures.marker)
+
+pub expressions::open_range-returns-clause-reads : goal.expressions::open_range-returns-clause-reads
+expressions::open_range-returns-clause-reads t c = reads-node _ c.start-range.ensures.opens (after-look _ c.present_mark-mark.ensures.peeks.same (reads-open-end c.present_mark-mark.result (mark-after c.present_mark-mark.ensures.peeks.same c.present_mark-mark.ensures.mark) c.range_end.ensures.ends)) c.complete.ensures.closes

@@ -25,27 +25,13 @@ use Rattle.rust_productions.proofs.Turns.{first-turn, next-turn}
 use Rattle.grammar_reader.proofs.grammar.+grammar.Goals as goal
 
 pub fn_pointers::fn_ptr_type-returns-clause-reads : goal.fn_pointers::fn_ptr_type-returns-clause-reads
-fn_pointers::fn_ptr_type-returns-clause-reads t c = λ cond. reads-node cond c.start-node.ensures.opens (reads-three cond (c.fn_ptr_words.ensures.reads cond) (reads-then cond (c.expect_params.ensures.reads cond) (c.opt_ret_type.ensures.reads cond))) c.complete.ensures.closes
+fn_pointers::fn_ptr_type-returns-clause-reads t c = λ cond. reads-node cond c.start-node.ensures.opens (reads-three cond (c.fn_ptr_words.ensures.reads cond) (reads-then cond (c.expect_part.ensures.reads cond) (c.opt_ret_type.ensures.reads cond))) c.complete.ensures.closes
 
 pub fn_pointers::fn_ptr_type-complete-requires : goal.fn_pointers::fn_ptr_type-complete-requires
-fn_pointers::fn_ptr_type-complete-requires t c = (c.opt_ret_type.ensures.reads true).does.innermost _ ((c.expect_params.ensures.reads true).does.innermost _ ((c.fn_ptr_words.ensures.reads true).does.innermost _ (c.start-node.ensures.marker)))
+fn_pointers::fn_ptr_type-complete-requires t c = (c.opt_ret_type.ensures.reads true).does.innermost _ ((c.expect_part.ensures.reads true).does.innermost _ ((c.fn_ptr_words.ensures.reads true).does.innermost _ (c.start-node.ensures.marker)))
 
 pub fn_pointers::fn_ptr_type-fn_ptr_words-requires : goal.fn_pointers::fn_ptr_type-fn_ptr_words-requires
 fn_pointers::fn_ptr_type-fn_ptr_words-requires t c = record { begins = record { sees = λ d. saw-inside c.start-node.ensures.opens (c.requires.begins.sees d); some = omega (arith, c.requires.begins.some, c.start-node.ensures.stays.left) } }
-
-pub fn_pointers::expect_params-returns-then-at-clause-reads : goal.fn_pointers::expect_params-returns-then-at-clause-reads
-unfolding look_of begins_below whole rule items statements expressions patterns types paths there_at shift passes is_silent begins in_mode anew row one_of any_of no_longer longest is_longer
-fn_pointers::expect_params-returns-then-at-clause-reads t c = λ cond. reads-here (saw-so (c.at.ensures.sees cond) c.if-at.true and nothing) (after-look cond c.at.ensures.peeks.same (c.params.ensures.reads cond))
-
-pub fn_pointers::expect_params-returns-clause-reads : goal.fn_pointers::expect_params-returns-clause-reads
-unfolding look_of begins_below whole rule items statements expressions patterns types paths there_at shift passes is_silent begins in_mode anew row one_of any_of no_longer longest is_longer
-fn_pointers::expect_params-returns-clause-reads t c = λ cond. reads-here (saw-so (c.at.ensures.sees cond) c.if-at.false and nothing) (after-look cond c.at.ensures.peeks.same (c.error.ensures.reads cond))
-
-pub fn_pointers::params-returns-clause-reads : goal.fn_pointers::params-returns-clause-reads
-fn_pointers::params-returns-clause-reads t c = λ cond. reads-node cond c.start-list.ensures.opens (reads-then cond (c.take.ensures.reads cond) (c.rest_of_list.ensures.reads cond)) c.complete.ensures.closes
-
-pub fn_pointers::params-complete-requires : goal.fn_pointers::params-complete-requires
-fn_pointers::params-complete-requires t c = (c.rest_of_list.ensures.reads true).does.innermost _ ((c.take.ensures.reads true).does.innermost _ (c.start-list.ensures.marker))
 
 pub fn_pointers::dots_or_type-returns-then-at_dots_dot-clause-reads : goal.fn_pointers::dots_or_type-returns-then-at_dots_dot-clause-reads
 unfolding look_of begins_below whole rule items statements expressions patterns types paths there_at shift passes is_silent begins in_mode anew row one_of any_of no_longer longest is_longer
@@ -53,7 +39,7 @@ fn_pointers::dots_or_type-returns-then-at_dots_dot-clause-reads t c = λ cond. r
 
 pub fn_pointers::dots_or_type-returns-clause-reads : goal.fn_pointers::dots_or_type-returns-clause-reads
 unfolding look_of begins_below whole rule items statements expressions patterns types paths there_at shift passes is_silent begins in_mode anew row one_of any_of no_longer longest is_longer
-fn_pointers::dots_or_type-returns-clause-reads t c = λ cond. reads-here (saw-so (c.at_dots_dot.ensures.sees cond) c.if-at_dots_dot.false and nothing) (after-look cond c.at_dots_dot.ensures.peeks.same (c.expect_type.ensures.reads cond))
+fn_pointers::dots_or_type-returns-clause-reads t c = λ cond. reads-here (saw-so (c.at_dots_dot.ensures.sees cond) c.if-at_dots_dot.false and nothing) (after-look cond c.at_dots_dot.ensures.peeks.same (c.expect_part.ensures.reads cond))
 
 pub fn_pointers::missing_type-complete-requires : goal.fn_pointers::missing_type-complete-requires
 fn_pointers::missing_type-complete-requires t c = (c.missing_path.ensures.gives true).does.innermost _ (c.start-node.ensures.marker)

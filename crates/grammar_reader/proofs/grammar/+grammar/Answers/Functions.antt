@@ -19,14 +19,6 @@ use Rattle.grammar_reader.proofs.grammar.+grammar.Goals as goal
 pub items::functions::fn_item-fn_words-requires : goal.items::functions::fn_item-fn_words-requires
 items::functions::fn_item-fn_words-requires t c = record { begins = c.requires.begins.sees; some = c.requires.begins.some }
 
-pub items::functions::expect_params-returns-then-at-clause-reads : goal.items::functions::expect_params-returns-then-at-clause-reads
-unfolding look_of begins_below whole rule items statements expressions patterns types paths there_at shift passes is_silent begins in_mode anew row one_of any_of no_longer longest is_longer
-items::functions::expect_params-returns-then-at-clause-reads t c = λ cond. reads-here (saw-so (c.at.ensures.sees cond) c.if-at.true and nothing) (after-look cond c.at.ensures.peeks.same (reads-call cond (c.params.ensures.gives cond)))
-
-pub items::functions::expect_params-returns-clause-reads : goal.items::functions::expect_params-returns-clause-reads
-unfolding look_of begins_below whole rule items statements expressions patterns types paths there_at shift passes is_silent begins in_mode anew row one_of any_of no_longer longest is_longer
-items::functions::expect_params-returns-clause-reads t c = λ cond. reads-here (saw-so (c.at.ensures.sees cond) c.if-at.false and nothing) (after-look cond c.at.ensures.peeks.same (c.error.ensures.reads cond))
-
 pub items::functions::fn_body-returns-then-at-clause-reads : goal.items::functions::fn_body-returns-then-at-clause-reads
 unfolding look_of begins_below whole rule items statements expressions patterns types paths there_at shift passes is_silent begins in_mode anew row one_of any_of no_longer longest is_longer
 items::functions::fn_body-returns-then-at-clause-reads t c = λ cond. reads-here (saw-so (c.at.ensures.sees cond) c.if-at.true and nothing) (after-look cond c.at.ensures.peeks.same (reads-call cond (c.block.ensures.gives cond)))
@@ -48,4 +40,4 @@ pub items::functions::plain_fn-complete-requires : goal.items::functions::plain_
 items::functions::plain_fn-complete-requires t c = (c.after_fn.ensures.reads true).does.innermost _ ((c.take.ensures.reads true).does.innermost _ (c.requires.innermost))
 
 pub items::functions::after_fn-returns-clause-reads : goal.items::functions::after_fn-returns-clause-reads
-items::functions::after_fn-returns-clause-reads t c = λ cond. reads-then cond (c.expect_name.ensures.reads cond) (reads-then cond (c.opt_generic_params.ensures.reads cond) (reads-then cond (c.expect_params.ensures.reads cond) (reads-then cond (c.opt_ret_type.ensures.reads cond) (reads-then cond (c.opt_where_clause.ensures.reads cond) (c.fn_body.ensures.reads cond)))))
+items::functions::after_fn-returns-clause-reads t c = λ cond. reads-then cond (c.expect_name.ensures.reads cond) (reads-then cond (c.opt_part.ensures.reads cond) (reads-then cond (c.expect_part.ensures.reads cond) (reads-then cond (c.opt_ret_type.ensures.reads cond) (reads-then cond (c.opt_part-2.ensures.reads cond) (c.fn_body.ensures.reads cond)))))

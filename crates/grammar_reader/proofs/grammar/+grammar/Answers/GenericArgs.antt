@@ -23,10 +23,10 @@ pub generic_args::word_arg-assoc_type_arg-requires : goal.generic_args::word_arg
 generic_args::word_arg-assoc_type_arg-requires t c = (omega arith, omega (arith, c.at_second.ensures.some c.if-at_second.true (λ e. absurd (omega (arith, e))), c.at_second.ensures.peeks.left))
 
 pub generic_args::assoc_type_arg-complete-requires : goal.generic_args::assoc_type_arg-complete-requires
-generic_args::assoc_type_arg-complete-requires t c = (c.expect_type.ensures.reads true).does.innermost _ ((c.take.ensures.reads true).does.innermost _ ((c.word_type.ensures.reads true).does.innermost _ c.start-node.ensures.marker))
+generic_args::assoc_type_arg-complete-requires t c = (c.expect_part.ensures.reads true).does.innermost _ ((c.take.ensures.reads true).does.innermost _ ((c.word_type.ensures.reads true).does.innermost _ c.start-node.ensures.marker))
 
 pub generic_args::assoc_type_arg-returns-clause-reads : goal.generic_args::assoc_type_arg-returns-clause-reads
-generic_args::assoc_type_arg-returns-clause-reads t c = λ cond. reads-node _ c.start-node.ensures.opens (reads-then _ (c.word_type.ensures.reads cond) (reads-then _ (c.take.ensures.reads cond) (c.expect_type.ensures.reads cond))) c.complete.ensures.closes
+generic_args::assoc_type_arg-returns-clause-reads t c = λ cond. reads-node _ c.start-node.ensures.opens (reads-then _ (c.word_type.ensures.reads cond) (reads-then _ (c.take.ensures.reads cond) (c.expect_part.ensures.reads cond))) c.complete.ensures.closes
 
 pub generic_args::type_arg-complete-requires : goal.generic_args::type_arg-complete-requires
 generic_args::type_arg-complete-requires t c = (c.any_type.ensures.gives true).does.innermost _ c.start-node.ensures.marker
@@ -149,7 +149,7 @@ generic_args::const_or_type-returns-then-at_const_value-clause-reads t c = λ co
 
 pub generic_args::const_or_type-returns-clause-reads : goal.generic_args::const_or_type-returns-clause-reads
 unfolding look_of begins_below whole rule items statements expressions patterns types paths there_at shift passes is_silent begins in_mode anew row one_of any_of no_longer longest is_longer
-generic_args::const_or_type-returns-clause-reads t c = λ cond. reads-here (saw-so (c.at_const_value.ensures.sees cond) c.if-at_const_value.false and nothing) (after-look _ c.at_const_value.ensures.peeks.same (c.expect_type.ensures.reads cond))
+generic_args::const_or_type-returns-clause-reads t c = λ cond. reads-here (saw-so (c.at_const_value.ensures.sees cond) c.if-at_const_value.false and nothing) (after-look _ c.at_const_value.ensures.peeks.same (c.expect_part.ensures.reads cond))
 
 pub generic_args::front_of_type-next_segments-frame-requires : goal.generic_args::front_of_type-next_segments-frame-requires
 generic_args::front_of_type-next_segments-frame-requires t c = (omega arith, c.wrap-frame-2.ensures.marker)

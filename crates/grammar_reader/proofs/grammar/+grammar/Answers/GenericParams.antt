@@ -70,18 +70,7 @@ unfolding look_of begins_below whole rule items statements expressions patterns 
 generic_params::lifetime_or_path-returns-in_default-clause-reads t c = λ cond. reads-here (saw-not c.in_default.not-LIFETIME_IDENT (c.current.ensures.sees cond) and saw-not c.in_default.not-QUESTION (c.current.ensures.sees cond) and (begun rules.type_path (begins-else rules.type_path rules.bound refl (saw-not c.in_default.not-LIFETIME_IDENT (c.current.ensures.sees cond) and saw-not c.in_default.not-QUESTION (c.current.ensures.sees cond) and c.requires.plain cond and nothing) (c.requires.begins.sees cond) refl) nothing)) (after-look cond c.current.ensures.peeks.same (c.path_type.ensures.reads cond))
 
 pub generic_params::path_after_question-returns-clause-reads : goal.generic_params::path_after_question-returns-clause-reads
-generic_params::path_after_question-returns-clause-reads t c = λ cond. (reads-then cond (c.take.ensures.reads cond) (c.expect_path_type.ensures.reads cond))
-
-pub generic_params::expect_path_type-path_type-requires : goal.generic_params::expect_path_type-path_type-requires
-generic_params::expect_path_type-path_type-requires t c = (omega arith, ((λ d. saw-after c.at_path.ensures.peeks.same (saw-so (c.at_path.ensures.sees d) c.if-at_path.true)), omega (arith, c.at_path.ensures.some c.if-at_path.true, c.at_path.ensures.peeks.left)))
-
-pub generic_params::expect_path_type-returns-then-at_path-clause-reads : goal.generic_params::expect_path_type-returns-then-at_path-clause-reads
-unfolding look_of begins_below whole rule items statements expressions patterns types paths there_at shift passes is_silent begins in_mode anew row one_of any_of no_longer longest is_longer
-generic_params::expect_path_type-returns-then-at_path-clause-reads t c = λ cond. reads-here (begun rules.type_path (subst (λ (l : Look). Saw cond l c.args.p.now true) (sym (paths-begin modes.Type)) (saw-so (c.at_path.ensures.sees cond) c.if-at_path.true)) nothing) (after-look cond c.at_path.ensures.peeks.same (c.path_type.ensures.reads cond))
-
-pub generic_params::expect_path_type-returns-clause-reads : goal.generic_params::expect_path_type-returns-clause-reads
-unfolding look_of begins_below whole rule items statements expressions patterns types paths there_at shift passes is_silent begins in_mode anew row one_of any_of no_longer longest is_longer
-generic_params::expect_path_type-returns-clause-reads t c = λ cond. reads-here (begun rules.type_path (subst (λ (l : Look). Saw cond l c.args.p.now false) (sym (paths-begin modes.Type)) (saw-so (c.at_path.ensures.sees cond) c.if-at_path.false)) nothing) (after-look cond c.at_path.ensures.peeks.same (c.error.ensures.reads cond))
+generic_params::path_after_question-returns-clause-reads t c = λ cond. (reads-then cond (c.take.ensures.reads cond) (c.expect_part.ensures.reads cond))
 
 pub generic_params::bounds-complete-requires : goal.generic_params::bounds-complete-requires
 generic_params::bounds-complete-requires t c = (c.opt_bounds.ensures.reads true).does.innermost _ c.start-list.ensures.marker
@@ -137,15 +126,7 @@ unfolding look_of begins_below whole rule items statements expressions patterns 
 generic_params::bounds_after_colon-returns-else-at-clause-reads t c = λ cond. reads-here (saw-so (c.at.ensures.sees cond) c.if-at.false and nothing) (reads-nothing cond c.at.ensures.peeks.same)
 
 pub generic_params::for_binder-returns-clause-reads : goal.generic_params::for_binder-returns-clause-reads
-generic_params::for_binder-returns-clause-reads t c = λ cond. reads-then cond (c.take.ensures.reads cond) (c.expect_generic_params.ensures.reads cond)
-
-pub generic_params::expect_generic_params-returns-then-at-clause-reads : goal.generic_params::expect_generic_params-returns-then-at-clause-reads
-unfolding look_of begins_below whole rule items statements expressions patterns types paths there_at shift passes is_silent begins in_mode anew row one_of any_of no_longer longest is_longer
-generic_params::expect_generic_params-returns-then-at-clause-reads t c = λ cond. reads-here (saw-so (c.at.ensures.sees cond) c.if-at.true and nothing) (after-look cond c.at.ensures.peeks.same (reads-call cond (c.generic_params.ensures.gives cond)))
-
-pub generic_params::expect_generic_params-returns-clause-reads : goal.generic_params::expect_generic_params-returns-clause-reads
-unfolding look_of begins_below whole rule items statements expressions patterns types paths there_at shift passes is_silent begins in_mode anew row one_of any_of no_longer longest is_longer
-generic_params::expect_generic_params-returns-clause-reads t c = λ cond. reads-here (saw-so (c.at.ensures.sees cond) c.if-at.false and nothing) (after-look cond c.at.ensures.peeks.same (c.error.ensures.reads cond))
+generic_params::for_binder-returns-clause-reads t c = λ cond. reads-then cond (c.take.ensures.reads cond) (c.expect_part.ensures.reads cond)
 
 pub generic_params::lifetime_and_bounds-returns-clause-reads : goal.generic_params::lifetime_and_bounds-returns-clause-reads
 generic_params::lifetime_and_bounds-returns-clause-reads t c = λ cond. reads-then cond (reads-call cond (c.lifetime.ensures.gives cond)) (c.bounds_after_colon.ensures.reads cond)
@@ -207,10 +188,10 @@ unfolding look_of begins_below whole rule items statements expressions patterns 
 generic_params::where_pred-returns-clause-gives t c = λ cond. gives-anew (anew-after refl (reads-here (saw-so (c.at_new_pred.ensures.sees cond) c.if-at_new_pred.false and nothing) (after-look cond c.at_new_pred.ensures.peeks.same (c.plain_pred.ensures.reads cond))))
 
 pub generic_params::binder_pred-complete-requires : goal.generic_params::binder_pred-complete-requires
-generic_params::binder_pred-complete-requires t c = (c.pred_bounds.ensures.reads true).does.innermost _ ((c.expect_type.ensures.reads true).does.innermost _ ((c.for_binder.ensures.reads true).does.innermost _ c.start-node.ensures.marker))
+generic_params::binder_pred-complete-requires t c = (c.pred_bounds.ensures.reads true).does.innermost _ ((c.expect_part.ensures.reads true).does.innermost _ ((c.for_binder.ensures.reads true).does.innermost _ c.start-node.ensures.marker))
 
 pub generic_params::binder_pred-returns-clause-reads : goal.generic_params::binder_pred-returns-clause-reads
-generic_params::binder_pred-returns-clause-reads t c = λ cond. reads-node cond c.start-node.ensures.opens (reads-then cond (c.for_binder.ensures.reads cond) (reads-then cond (c.expect_type.ensures.reads cond) (c.pred_bounds.ensures.reads cond))) c.complete.ensures.closes
+generic_params::binder_pred-returns-clause-reads t c = λ cond. reads-node cond c.start-node.ensures.opens (reads-then cond (c.for_binder.ensures.reads cond) (reads-then cond (c.expect_part.ensures.reads cond) (c.pred_bounds.ensures.reads cond))) c.complete.ensures.closes
 
 pub generic_params::plain_pred-lifetime_or_type-requires : goal.generic_params::plain_pred-lifetime_or_type-requires
 generic_params::plain_pred-lifetime_or_type-requires t c = (omega arith, (record { sees = λ d. saw-inside c.start-node.ensures.opens (c.requires.begins.sees d); some = omega (arith, c.requires.begins.some, c.start-node.ensures.stays.left) }, (λ d. saw-inside c.start-node.ensures.opens (c.requires.plain d))))
@@ -253,15 +234,4 @@ unfolding look_of begins_below whole rule items statements expressions patterns 
 generic_params::further_preds-returns-clause-reads t c = λ cond. last-turn cond (One 'comma' ▸ ⁅ WherePred ⁆) (ends-at-end cond (One 'comma' ▸ ⁅ WherePred ⁆) refl) _ _ _ (c.turns.invariant.goes cond) (saw-so (c.at.ensures.sees cond) c.turns-test.false) c.at.ensures.peeks.same
 
 pub generic_params::further_pred-returns-clause-reads : goal.generic_params::further_pred-returns-clause-reads
-generic_params::further_pred-returns-clause-reads t c = λ cond. reads-then cond (c.take.ensures.reads cond) (c.opt_pred.ensures.reads cond)
-
-pub generic_params::opt_pred-where_pred-requires : goal.generic_params::opt_pred-where_pred-requires
-generic_params::opt_pred-where_pred-requires t c = (omega arith, record { sees = λ d. saw-after c.at_where_pred.ensures.peeks.same (saw-so (c.at_where_pred.ensures.sees d) c.if-at_where_pred.true); some = omega (arith, c.at_where_pred.ensures.some c.if-at_where_pred.true, c.at_where_pred.ensures.peeks.left) })
-
-pub generic_params::opt_pred-returns-then-at_where_pred-clause-reads : goal.generic_params::opt_pred-returns-then-at_where_pred-clause-reads
-unfolding look_of begins_below whole rule items statements expressions patterns types paths there_at shift passes is_silent begins in_mode anew row one_of any_of no_longer longest is_longer
-generic_params::opt_pred-returns-then-at_where_pred-clause-reads t c = λ cond. reads-here (begun rules.where_pred (saw-so (c.at_where_pred.ensures.sees cond) c.if-at_where_pred.true) nothing) (after-look cond c.at_where_pred.ensures.peeks.same (reads-call cond (c.where_pred.ensures.gives cond)))
-
-pub generic_params::opt_pred-returns-else-at_where_pred-clause-reads : goal.generic_params::opt_pred-returns-else-at_where_pred-clause-reads
-unfolding look_of begins_below whole rule items statements expressions patterns types paths there_at shift passes is_silent begins in_mode anew row one_of any_of no_longer longest is_longer
-generic_params::opt_pred-returns-else-at_where_pred-clause-reads t c = λ cond. reads-here (begun rules.where_pred (saw-so (c.at_where_pred.ensures.sees cond) c.if-at_where_pred.false) nothing) (reads-nothing cond c.at_where_pred.ensures.peeks.same)
+generic_params::further_pred-returns-clause-reads t c = λ cond. reads-then cond (c.take.ensures.reads cond) (c.opt_part.ensures.reads cond)

@@ -225,29 +225,6 @@ items::item_list-complete-requires t c = (c.expect.ensures.reads true).does.inne
 pub items::item_list-returns-clause-reads : goal.items::item_list-returns-clause-reads
 items::item_list-returns-clause-reads t c = λ cond. reads-node cond c.start-list.ensures.opens (reads-then cond (c.take.ensures.reads cond) (reads-then cond (reads-mode cond c.items.ensures.reads) (c.expect.ensures.reads cond))) c.complete.ensures.closes
 
-pub items::assoc_items-item_list-requires : goal.items::assoc_items-item_list-requires
-items::assoc_items-item_list-requires t c = (omega arith, c.requires.some)
-
-pub items::assoc_items-returns-clause-gives : goal.items::assoc_items-returns-clause-gives
-unfolding look_of begins_below whole rule items statements expressions patterns types paths there_at shift passes is_silent begins in_mode anew row one_of any_of no_longer longest is_longer
-items::assoc_items-returns-clause-gives t c = λ cond. gives-anew (anew-after refl (c.item_list.ensures.reads cond))
-
-pub items::opt_generic_params-returns-then-at-clause-reads : goal.items::opt_generic_params-returns-then-at-clause-reads
-unfolding look_of begins_below whole rule items statements expressions patterns types paths there_at shift passes is_silent begins in_mode anew row one_of any_of no_longer longest is_longer
-items::opt_generic_params-returns-then-at-clause-reads t c = λ cond. reads-here (saw-so (c.at.ensures.sees cond) c.if-at.true and nothing) (after-look cond c.at.ensures.peeks.same (reads-call cond (c.generic_params.ensures.gives cond)))
-
-pub items::opt_generic_params-returns-else-at-clause-reads : goal.items::opt_generic_params-returns-else-at-clause-reads
-unfolding look_of begins_below whole rule items statements expressions patterns types paths there_at shift passes is_silent begins in_mode anew row one_of any_of no_longer longest is_longer
-items::opt_generic_params-returns-else-at-clause-reads t c = λ cond. reads-here (saw-so (c.at.ensures.sees cond) c.if-at.false and nothing) (reads-nothing cond c.at.ensures.peeks.same)
-
-pub items::opt_where_clause-returns-then-at-clause-reads : goal.items::opt_where_clause-returns-then-at-clause-reads
-unfolding look_of begins_below whole rule items statements expressions patterns types paths there_at shift passes is_silent begins in_mode anew row one_of any_of no_longer longest is_longer
-items::opt_where_clause-returns-then-at-clause-reads t c = λ cond. reads-here (saw-so (c.at.ensures.sees cond) c.if-at.true and nothing) (after-look cond c.at.ensures.peeks.same (reads-call cond (c.where_clause.ensures.gives cond)))
-
-pub items::opt_where_clause-returns-else-at-clause-reads : goal.items::opt_where_clause-returns-else-at-clause-reads
-unfolding look_of begins_below whole rule items statements expressions patterns types paths there_at shift passes is_silent begins in_mode anew row one_of any_of no_longer longest is_longer
-items::opt_where_clause-returns-else-at-clause-reads t c = λ cond. reads-here (saw-so (c.at.ensures.sees cond) c.if-at.false and nothing) (reads-nothing cond c.at.ensures.peeks.same)
-
 pub items::item_turn-returns-then-at_end_of-clause-ends : goal.items::item_turn-returns-then-at_end_of-clause-ends
 items::item_turn-returns-then-at_end_of-clause-ends t c = λ e. last-turn false _ (over-at-end c.args.end _) _ _ _ first-turn (over item_or_attribute (saw-so (c.at_end_of.ensures.sees false) c.if-at_end_of.true)) c.at_end_of.ensures.peeks.same
 
@@ -334,19 +311,3 @@ items::body-returns-clause-takes t c = record {
   left = omega (arith, c.plain_body.ensures.takes.left, c.at_new_item.ensures.peeks.left);
   looks = omega (arith, c.plain_body.ensures.takes.looks, c.at_new_item.ensures.peeks.looks);
 }
-
-pub items::opt_new_generics-returns-then-at_new-clause-reads : goal.items::opt_new_generics-returns-then-at_new-clause-reads
-unfolding look_of begins_below whole rule items statements expressions patterns types paths there_at shift passes is_silent begins in_mode anew row one_of any_of no_longer longest is_longer
-items::opt_new_generics-returns-then-at_new-clause-reads t c = λ cond. reads-here (saw-so (c.at_new.ensures.sees cond) c.if-at_new.true and nothing) (after-look cond c.at_new.ensures.peeks.same (reads-call cond (c.generic_params.ensures.gives cond)))
-
-pub items::opt_new_generics-returns-else-at_new-clause-reads : goal.items::opt_new_generics-returns-else-at_new-clause-reads
-unfolding look_of begins_below whole rule items statements expressions patterns types paths there_at shift passes is_silent begins in_mode anew row one_of any_of no_longer longest is_longer
-items::opt_new_generics-returns-else-at_new-clause-reads t c = λ cond. reads-here (saw-so (c.at_new.ensures.sees cond) c.if-at_new.false and nothing) (reads-nothing cond c.at_new.ensures.peeks.same)
-
-pub items::opt_new_where-returns-then-at_new-clause-reads : goal.items::opt_new_where-returns-then-at_new-clause-reads
-unfolding look_of begins_below whole rule items statements expressions patterns types paths there_at shift passes is_silent begins in_mode anew row one_of any_of no_longer longest is_longer
-items::opt_new_where-returns-then-at_new-clause-reads t c = λ cond. reads-here (saw-so (c.at_new.ensures.sees cond) c.if-at_new.true and nothing) (after-look cond c.at_new.ensures.peeks.same (reads-call cond (c.where_clause.ensures.gives cond)))
-
-pub items::opt_new_where-returns-else-at_new-clause-reads : goal.items::opt_new_where-returns-else-at_new-clause-reads
-unfolding look_of begins_below whole rule items statements expressions patterns types paths there_at shift passes is_silent begins in_mode anew row one_of any_of no_longer longest is_longer
-items::opt_new_where-returns-else-at_new-clause-reads t c = λ cond. reads-here (saw-so (c.at_new.ensures.sees cond) c.if-at_new.false and nothing) (reads-nothing cond c.at_new.ensures.peeks.same)

@@ -27,7 +27,7 @@ pub expressions::layers::turn-expect_layer-requires : goal.expressions::layers::
 expressions::layers::turn-expect_layer-requires t c = (omega arith, omega (arith, c.requires.layer.high))
 
 pub expressions::layers::turn-wrap-requires : goal.expressions::layers::turn-wrap-requires
-expressions::layers::turn-wrap-requires t c = (c.expect_type_no_bounds.ensures.reads true).does.innermost _ ((c.take_operator.ensures.reads true).does.innermost _ c.requires.innermost)
+expressions::layers::turn-wrap-requires t c = (c.expect_part.ensures.reads true).does.innermost _ ((c.take_operator.ensures.reads true).does.innermost _ c.requires.innermost)
 
 pub expressions::layers::turn-wrap-requires-2 : goal.expressions::layers::turn-wrap-requires-2
 expressions::layers::turn-wrap-requires-2 t c = c.expect_layer.ensures.reads.does.innermost _ ((c.take_operator.ensures.reads true).does.innermost _ c.requires.innermost)
@@ -102,7 +102,7 @@ unfolding turn_at
 expressions::layers::turn-returns-then-operator-eq1-clause-reads t c =
     let is : c.args.operator.height ≡ 1 = omega arith in
     subst (λ (h : ℕ). Reads c.args.condition (turn_at h) c.args.p.now c.wrap.new.p) (sym is)
-    (reads-wrap _ (reads-then _ (subst (λ (h : ℕ). Reads c.args.condition (operators_at h) c.args.p.now c.take_operator.new.p) is (c.take_operator.ensures.reads _)) (c.expect_type_no_bounds.ensures.reads _)) c.wrap.ensures.wraps)
+    (reads-wrap _ (reads-then _ (subst (λ (h : ℕ). Reads c.args.condition (operators_at h) c.args.p.now c.take_operator.new.p) is (c.take_operator.ensures.reads _)) (c.expect_part.ensures.reads _)) c.wrap.ensures.wraps)
 
 pub expressions::layers::turn-returns-clause-reads : goal.expressions::layers::turn-returns-clause-reads
 expressions::layers::turn-returns-clause-reads t c =

@@ -1,5 +1,5 @@
 -- Lists, turn by turn.
-use Rattle.std.proofs.Common.{true, false, refl, sym, subst, arith, ◌∙◌}
+use Rattle.std.proofs.Common.{true, false, refl, sym, subst, arith, ◌∙◌, ◌+◌, ◌≤◌}
 use Rattle.std.proofs.lemmas.Bool.{ltb-true, ltb-false}
 use Rattle.parser_input.specs.Kind.{raw_of}
 use Rattle.rust_grammar.specs.Rule as rules
@@ -18,14 +18,16 @@ use Rattle.grammar_reader.specs.Told.{element_of, list_turn, looks_in}
 use Rattle.grammar_reader.specs.declared.grammar.lists.Element.{Element}
 use Rattle.grammar_reader.proofs.Elements.{element-pays, ends, few-looks-before, few-looks-in, more, over, over-there, reads-element, reads-stray, said-element, stray, sure-element}
 use Rattle.grammar_reader.proofs.AnyMode.{fn-ptr-param-anywhere, generic-arg-anywhere, param-anywhere, pattern-anywhere, pattern-field-anywhere, type-anywhere, type-arg-anywhere}
-use Rattle.grammar_reader.proofs.Seeing.{begun-left, param-left, pattern-begins, word-left}
-use Rattle.rust_productions.specs.Looks.{tokens}
+use Rattle.grammar_reader.proofs.Seeing.{begun-left, param-left, closure-param-anywhere, word-left}
+use Rattle.rust_productions.specs.Looks.{tokens, spent}
 use Rattle.rust_productions.specs.Reads.{looks, Reads, Saw}
 use Rattle.rust_productions.proofs.ByHand.{after-look, does-then, reads-call, reads-mode, reads-node, reads-then, reads-wrap}
 use Rattle.rust_productions.proofs.Choices.{anew-after, gives-anew, reads-here}
 use Rattle.rust_productions.proofs.Facts.{nothing, saw-so, ◌and◌}
 use Rattle.rust_productions.proofs.Seen.{saw-after, saw-before}
 use Rattle.rust_productions.proofs.Turns.{first-turn, idle-turn, last-turn, next-turn}
+use Rattle.grammar_reader.specs.Lists.{left_by}
+use Rattle.grammar_reader.proofs.ListsAndParts.{closes-inside, list-pays, reads-list}
 use Rattle.grammar_reader.proofs.grammar.+grammar.Goals as goal
 
 pub lists::turn-returns-then-at_list_end-clause-ends : goal.lists::turn-returns-then-at_list_end-clause-ends
@@ -101,7 +103,7 @@ lists::read_element-returns-in-Captured-clause-reads t c = subst (λ (e : Elemen
 pub lists::read_element-closure_param-requires : goal.lists::read_element-closure_param-requires
 lists::read_element-closure_param-requires t c =
     let seen = subst (λ (e : Element). Saw false (begins looks (element_of e)) c.args.p.now true) c.in-ClosureParam.is c.requires.begins in
-    (omega arith, ((λ d. pattern-begins seen), param-left seen))
+    (omega arith, ((λ d. closure-param-anywhere seen), param-left seen))
 
 pub lists::read_element-expression-requires : goal.lists::read_element-expression-requires
 unfolding look_of begins_below whole rule items statements expressions patterns types paths there_at shift passes is_silent begins in_mode anew row one_of any_of no_longer longest is_longer
@@ -201,41 +203,6 @@ pub lists::tuple_tail-returns-clause-reads : goal.lists::tuple_tail-returns-clau
 unfolding look_of begins_below whole rule items statements expressions patterns types paths there_at shift passes is_silent begins in_mode anew row one_of any_of no_longer longest is_longer
 lists::tuple_tail-returns-clause-reads t c = λ cond. reads-here (saw-so (c.at.ensures.sees cond) c.if-at.false and nothing) (after-look cond c.at.ensures.peeks.same (reads-wrap cond (c.expect.ensures.reads cond) c.wrap-2.ensures.wraps))
 
-pub lists::arguments-complete-requires : goal.lists::arguments-complete-requires
-lists::arguments-complete-requires t c = (c.rest_of_list.ensures.reads true).does.innermost _ ((c.take.ensures.reads true).does.innermost _ c.start-list.ensures.marker)
-
-pub lists::arguments-returns-clause-gives : goal.lists::arguments-returns-clause-gives
-unfolding look_of begins_below whole rule items statements expressions patterns types paths there_at shift passes is_silent begins in_mode anew row one_of any_of no_longer longest is_longer
-lists::arguments-returns-clause-gives t c = λ cond. gives-anew (anew-after refl (reads-node cond c.start-list.ensures.opens (reads-then cond (c.take.ensures.reads cond) (c.rest_of_list.ensures.reads cond)) c.complete.ensures.closes))
-
-pub lists::field_values-complete-requires : goal.lists::field_values-complete-requires
-lists::field_values-complete-requires t c = (c.rest_of_list.ensures.reads true).does.innermost _ ((c.take.ensures.reads true).does.innermost _ c.start-list.ensures.marker)
-
-pub lists::field_values-returns-clause-gives : goal.lists::field_values-returns-clause-gives
-unfolding look_of begins_below whole rule items statements expressions patterns types paths there_at shift passes is_silent begins in_mode anew row one_of any_of no_longer longest is_longer
-lists::field_values-returns-clause-gives t c = λ cond. gives-anew (anew-after refl (reads-node cond c.start-list.ensures.opens (reads-then cond (c.take.ensures.reads cond) (c.rest_of_list.ensures.reads cond)) c.complete.ensures.closes))
-
-pub lists::generic_params-complete-requires : goal.lists::generic_params-complete-requires
-lists::generic_params-complete-requires t c = (c.rest_of_list.ensures.reads true).does.innermost _ ((c.take.ensures.reads true).does.innermost _ c.start-list.ensures.marker)
-
-pub lists::generic_params-returns-clause-gives : goal.lists::generic_params-returns-clause-gives
-unfolding look_of begins_below whole rule items statements expressions patterns types paths there_at shift passes is_silent begins in_mode anew row one_of any_of no_longer longest is_longer
-lists::generic_params-returns-clause-gives t c = λ cond. gives-anew (anew-after refl (reads-node cond c.start-list.ensures.opens (reads-then cond (c.take.ensures.reads cond) (c.rest_of_list.ensures.reads cond)) c.complete.ensures.closes))
-
-pub lists::params-complete-requires : goal.lists::params-complete-requires
-lists::params-complete-requires t c = (c.rest_of_list.ensures.reads true).does.innermost _ ((c.take.ensures.reads true).does.innermost _ c.start-list.ensures.marker)
-
-pub lists::params-returns-clause-gives : goal.lists::params-returns-clause-gives
-unfolding look_of begins_below whole rule items statements expressions patterns types paths there_at shift passes is_silent begins in_mode anew row one_of any_of no_longer longest is_longer
-lists::params-returns-clause-gives t c = λ cond. gives-anew (anew-after refl (reads-node cond c.start-list.ensures.opens (reads-then cond (c.take.ensures.reads cond) (c.rest_of_list.ensures.reads cond)) c.complete.ensures.closes))
-
-pub lists::pattern_fields-complete-requires : goal.lists::pattern_fields-complete-requires
-lists::pattern_fields-complete-requires t c = (c.rest_of_list.ensures.reads true).does.innermost _ ((c.take.ensures.reads true).does.innermost _ c.start-list.ensures.marker)
-
-pub lists::pattern_fields-returns-clause-gives : goal.lists::pattern_fields-returns-clause-gives
-unfolding look_of begins_below whole rule items statements expressions patterns types paths there_at shift passes is_silent begins in_mode anew row one_of any_of no_longer longest is_longer
-lists::pattern_fields-returns-clause-gives t c = λ cond. gives-anew (anew-after refl (reads-node cond c.start-list.ensures.opens (reads-then cond (c.take.ensures.reads cond) (c.rest_of_list.ensures.reads cond)) c.complete.ensures.closes))
-
 pub lists::read_element-record_field-requires : goal.lists::read_element-record_field-requires
 unfolding look_of begins_below whole rule items statements expressions patterns types paths there_at shift passes is_silent begins in_mode anew row one_of any_of no_longer longest is_longer
 lists::read_element-record_field-requires t c =
@@ -263,27 +230,6 @@ lists::read_element-variant-requires t c =
 pub lists::read_element-returns-in-Variant-clause-reads : goal.lists::read_element-returns-in-Variant-clause-reads
 lists::read_element-returns-in-Variant-clause-reads t c = subst (λ (e : Element). Reads false (element_of e) c.args.p.now c.variant.new.p) (sym c.in-Variant.is) c.variant.ensures.reads
 
-pub lists::variants-complete-requires : goal.lists::variants-complete-requires
-lists::variants-complete-requires t c = (c.rest_of_list.ensures.reads true).does.innermost _ ((c.take.ensures.reads true).does.innermost _ c.start-list.ensures.marker)
-
-pub lists::variants-returns-clause-gives : goal.lists::variants-returns-clause-gives
-unfolding look_of begins_below whole rule items statements expressions patterns types paths there_at shift passes is_silent begins in_mode anew row one_of any_of no_longer longest is_longer
-lists::variants-returns-clause-gives t c = λ cond. gives-anew (anew-after refl (reads-node cond c.start-list.ensures.opens (reads-then cond (c.take.ensures.reads cond) (c.rest_of_list.ensures.reads cond)) c.complete.ensures.closes))
-
-pub lists::record_fields-complete-requires : goal.lists::record_fields-complete-requires
-lists::record_fields-complete-requires t c = (c.rest_of_list.ensures.reads true).does.innermost _ ((c.take.ensures.reads true).does.innermost _ c.start-list.ensures.marker)
-
-pub lists::record_fields-returns-clause-gives : goal.lists::record_fields-returns-clause-gives
-unfolding look_of begins_below whole rule items statements expressions patterns types paths there_at shift passes is_silent begins in_mode anew row one_of any_of no_longer longest is_longer
-lists::record_fields-returns-clause-gives t c = λ cond. gives-anew (anew-after refl (reads-node cond c.start-list.ensures.opens (reads-then cond (c.take.ensures.reads cond) (c.rest_of_list.ensures.reads cond)) c.complete.ensures.closes))
-
-pub lists::tuple_fields-complete-requires : goal.lists::tuple_fields-complete-requires
-lists::tuple_fields-complete-requires t c = (c.rest_of_list.ensures.reads true).does.innermost _ ((c.take.ensures.reads true).does.innermost _ c.start-list.ensures.marker)
-
-pub lists::tuple_fields-returns-clause-gives : goal.lists::tuple_fields-returns-clause-gives
-unfolding look_of begins_below whole rule items statements expressions patterns types paths there_at shift passes is_silent begins in_mode anew row one_of any_of no_longer longest is_longer
-lists::tuple_fields-returns-clause-gives t c = λ cond. gives-anew (anew-after refl (reads-node cond c.start-list.ensures.opens (reads-then cond (c.take.ensures.reads cond) (c.rest_of_list.ensures.reads cond)) c.complete.ensures.closes))
-
 pub lists::read_element-type_arg-requires : goal.lists::read_element-type_arg-requires
 unfolding look_of begins_below whole rule items statements expressions patterns types paths there_at shift passes is_silent begins in_mode anew row one_of any_of no_longer longest is_longer
 lists::read_element-type_arg-requires t c =
@@ -301,3 +247,15 @@ lists::read_element-fn_ptr_param-requires t c =
 
 pub lists::read_element-returns-in-FnPtrParam-clause-reads : goal.lists::read_element-returns-in-FnPtrParam-clause-reads
 lists::read_element-returns-in-FnPtrParam-clause-reads t c = subst (λ (e : Element). Reads false (element_of e) c.args.p.now c.fn_ptr_param.new.p) (sym c.in-FnPtrParam.is) (c.fn_ptr_param.ensures.reads false)
+
+pub lists::list-rest_of_list-requires : goal.lists::list-rest_of_list-requires
+lists::list-rest_of_list-requires t c = (omega arith, λ e. closes-inside c.args.which (sym c.closing.ensures.is ∙ e))
+
+pub lists::list-complete-requires : goal.lists::list-complete-requires
+lists::list-complete-requires t c = (c.rest_of_list.ensures.reads true).does.innermost _ ((c.take.ensures.reads true).does.innermost _ c.start-node.ensures.marker)
+
+pub lists::list-returns-clause-reads : goal.lists::list-returns-clause-reads
+lists::list-returns-clause-reads t c = λ cond. reads-list c.args.which (raw_of c.kind_of-kind.result) (raw_of c.opening.result) c.kind_of_element.result (raw_of c.closing.result) c.kind_of-kind.ensures.is c.opening.ensures.is c.kind_of_element.ensures.is c.closing.ensures.is (reads-node cond c.start-node.ensures.opens (reads-then cond (c.take.ensures.reads cond) (c.rest_of_list.ensures.reads cond)) c.complete.ensures.closes)
+
+pub lists::list-returns-clause-takes : goal.lists::list-returns-clause-takes
+lists::list-returns-clause-takes t c = record { left = omega (arith, c.rest_of_list.ensures.asks.left, c.take.ensures.left, c.start-node.ensures.stays.left, c.complete.ensures.stays.left); looks = subst (λ (e : Element). spent c.complete.new.p + left_by e ≤ spent c.args.p.now) c.kind_of_element.ensures.is (omega (arith, list-pays c.kind_of_element.result, c.rest_of_list.ensures.asks.looks, c.take.ensures.looks, c.start-node.ensures.stays.looks, c.complete.ensures.stays.looks)) }

@@ -16,7 +16,7 @@ use Rattle.rust_grammar.specs.Types.{types}
 use Rattle.rust_grammar.specs.Whole.{rule, whole}
 use Rattle.rust_productions.specs.Reads.{looks}
 use Rattle.rust_productions.proofs.ByHand.{after-look, reads-call, reads-node, reads-nothing, reads-then}
-use Rattle.rust_productions.proofs.Choices.{reads-here}
+use Rattle.rust_productions.proofs.Choices.{reads-here, gives-anew, anew-after}
 use Rattle.rust_productions.proofs.Facts.{begun, nothing, ◌and◌, saw-so}
 use Rattle.rust_productions.proofs.Given.{reads-three, reads-two}
 use Rattle.rust_productions.proofs.Looking.{saw-arm, saw-not}
@@ -56,11 +56,11 @@ unfolding look_of begins_below whole rule items statements expressions patterns 
 items::members::typed-attributes_and_visibility-requires t c = (omega arith, ((λ d. saw-after c.current.ensures.peeks.same (saw-told (saw-arm c.in-POUND.is (c.current.ensures.sees d) and nothing) refl)), omega arith))
 
 pub items::members::typed-returns-in-POUND-clause-reads : goal.items::members::typed-returns-in-POUND-clause-reads
-items::members::typed-returns-in-POUND-clause-reads t c = after-look false c.current.ensures.peeks.same (reads-two false (c.attributes_and_visibility.ensures.reads false) (c.expect_type.ensures.reads _))
+items::members::typed-returns-in-POUND-clause-reads t c = after-look false c.current.ensures.peeks.same (reads-two false (c.attributes_and_visibility.ensures.reads false) (c.expect_part.ensures.reads _))
 
 pub items::members::typed-returns-in-PUB_KW-clause-reads : goal.items::members::typed-returns-in-PUB_KW-clause-reads
 unfolding look_of begins_below whole rule items statements expressions patterns types paths there_at shift passes is_silent begins in_mode anew row one_of any_of no_longer longest is_longer
-items::members::typed-returns-in-PUB_KW-clause-reads t c = reads-here (saw-arm c.in-PUB_KW.is (c.current.ensures.sees false) and nothing) (after-look false c.current.ensures.peeks.same (reads-then false (reads-call false (c.visibility.ensures.gives false)) (c.expect_type-in-PUB_KW.ensures.reads _)))
+items::members::typed-returns-in-PUB_KW-clause-reads t c = reads-here (saw-arm c.in-PUB_KW.is (c.current.ensures.sees false) and nothing) (after-look false c.current.ensures.peeks.same (reads-then false (reads-call false (c.visibility.ensures.gives false)) (c.expect_part-in-PUB_KW.ensures.reads _)))
 
 pub items::members::typed-any_type-requires : goal.items::members::typed-any_type-requires
 unfolding look_of begins_below whole rule items statements expressions patterns types paths there_at shift passes is_silent begins in_mode anew row one_of any_of no_longer longest is_longer
@@ -70,19 +70,19 @@ pub items::members::typed-returns-in_default-clause-reads : goal.items::members:
 unfolding look_of begins_below whole rule items statements expressions patterns types paths there_at shift passes is_silent begins in_mode anew row one_of any_of no_longer longest is_longer
 items::members::typed-returns-in_default-clause-reads t c = reads-here (saw-not c.in_default.not-POUND (c.current.ensures.sees false) and saw-not c.in_default.not-PUB_KW (c.current.ensures.sees false) and begun rules.any_type (saw-else (looks rules.any_type) (begins looks (Attribute * ▸ ⁅ Visibility ⁆ ▸ AnyType !)) (saw-not c.in_default.not-POUND (c.current.ensures.sees false) and saw-not c.in_default.not-PUB_KW (c.current.ensures.sees false) and nothing) c.requires.begins refl) nothing) (after-look false c.current.ensures.peeks.same (reads-call false (c.any_type.ensures.gives _)))
 
-pub items::members::opt_fields-record_fields-requires : goal.items::members::opt_fields-record_fields-requires
-items::members::opt_fields-record_fields-requires t c = (omega arith, omega (arith, c.current.ensures.peeks.left, c.current.ensures.some (λ e. absurd (omega (arith, sym (ap raw_of c.in-L_CURLY.is) ∙ e)))))
+pub items::members::opt_fields-list-requires : goal.items::members::opt_fields-list-requires
+items::members::opt_fields-list-requires t c = (omega arith, omega (arith, c.current.ensures.peeks.left, c.current.ensures.some (λ e. absurd (omega (arith, sym (ap raw_of c.in-L_CURLY.is) ∙ e)))))
 
 pub items::members::opt_fields-returns-in-L_CURLY-clause-reads : goal.items::members::opt_fields-returns-in-L_CURLY-clause-reads
 unfolding look_of begins_below whole rule items statements expressions patterns types paths there_at shift passes is_silent begins in_mode anew row one_of any_of no_longer longest is_longer
-items::members::opt_fields-returns-in-L_CURLY-clause-reads t c = λ cond. reads-here (saw-arm c.in-L_CURLY.is (c.current.ensures.sees cond) and nothing) (after-look cond c.current.ensures.peeks.same (reads-call cond (c.record_fields.ensures.gives cond)))
+items::members::opt_fields-returns-in-L_CURLY-clause-reads t c = λ cond. reads-here (saw-arm c.in-L_CURLY.is (c.current.ensures.sees cond) and nothing) (after-look cond c.current.ensures.peeks.same (reads-call cond (gives-anew (anew-after refl (c.list.ensures.reads cond)))))
 
-pub items::members::opt_fields-tuple_fields-requires : goal.items::members::opt_fields-tuple_fields-requires
-items::members::opt_fields-tuple_fields-requires t c = (omega arith, omega (arith, c.current.ensures.peeks.left, c.current.ensures.some (λ e. absurd (omega (arith, sym (ap raw_of c.in-L_PAREN.is) ∙ e)))))
+pub items::members::opt_fields-list-requires-in-L_PAREN : goal.items::members::opt_fields-list-requires-in-L_PAREN
+items::members::opt_fields-list-requires-in-L_PAREN t c = (omega arith, omega (arith, c.current.ensures.peeks.left, c.current.ensures.some (λ e. absurd (omega (arith, sym (ap raw_of c.in-L_PAREN.is) ∙ e)))))
 
 pub items::members::opt_fields-returns-in-L_PAREN-clause-reads : goal.items::members::opt_fields-returns-in-L_PAREN-clause-reads
 unfolding look_of begins_below whole rule items statements expressions patterns types paths there_at shift passes is_silent begins in_mode anew row one_of any_of no_longer longest is_longer
-items::members::opt_fields-returns-in-L_PAREN-clause-reads t c = λ cond. reads-here (saw-arm c.in-L_PAREN.is (c.current.ensures.sees cond) and nothing) (after-look cond c.current.ensures.peeks.same (reads-call cond (c.tuple_fields.ensures.gives cond)))
+items::members::opt_fields-returns-in-L_PAREN-clause-reads t c = λ cond. reads-here (saw-arm c.in-L_PAREN.is (c.current.ensures.sees cond) and nothing) (after-look cond c.current.ensures.peeks.same (reads-call cond (gives-anew (anew-after refl (c.list-in-L_PAREN.ensures.reads cond)))))
 
 pub items::members::opt_fields-returns-in_default-clause-reads : goal.items::members::opt_fields-returns-in_default-clause-reads
 unfolding look_of begins_below whole rule items statements expressions patterns types paths there_at shift passes is_silent begins in_mode anew row one_of any_of no_longer longest is_longer
@@ -99,10 +99,10 @@ unfolding look_of begins_below whole rule items statements expressions patterns 
 items::members::variant-named-requires t c = (omega arith, (saw-inside c.start-variant.ensures.opens c.requires.begins, omega (arith, c.requires.some, c.start-variant.ensures.stays.left)))
 
 pub items::members::record_field-returns-clause-reads : goal.items::members::record_field-returns-clause-reads
-items::members::record_field-returns-clause-reads t c = reads-node false c.start-field.ensures.opens (reads-four false c.field_front.ensures.reads (reads-then false (c.expect.ensures.reads false) (reads-then false (c.expect_type.ensures.reads false) c.opt_discriminant.ensures.reads))) c.complete.ensures.closes
+items::members::record_field-returns-clause-reads t c = reads-node false c.start-field.ensures.opens (reads-four false c.field_front.ensures.reads (reads-then false (c.expect.ensures.reads false) (reads-then false (c.expect_part.ensures.reads false) c.opt_discriminant.ensures.reads))) c.complete.ensures.closes
 
 pub items::members::record_field-complete-requires : goal.items::members::record_field-complete-requires
-items::members::record_field-complete-requires t c = c.opt_discriminant.ensures.reads.does.innermost _ ((c.expect_type.ensures.reads true).does.innermost _ ((c.expect.ensures.reads true).does.innermost _ (c.field_front.ensures.reads.does.innermost _ (c.start-field.ensures.marker))))
+items::members::record_field-complete-requires t c = c.opt_discriminant.ensures.reads.does.innermost _ ((c.expect_part.ensures.reads true).does.innermost _ ((c.expect.ensures.reads true).does.innermost _ (c.field_front.ensures.reads.does.innermost _ (c.start-field.ensures.marker))))
 
 pub items::members::record_field-field_front-requires : goal.items::members::record_field-field_front-requires
 unfolding look_of begins_below whole rule items statements expressions patterns types paths there_at shift passes is_silent begins in_mode anew row one_of any_of no_longer longest is_longer

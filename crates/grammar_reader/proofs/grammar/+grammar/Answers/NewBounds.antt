@@ -46,16 +46,10 @@ unfolding look_of begins_below whole rule items statements expressions patterns 
 new_bounds::bound_inside-returns-clause-reads t c = λ cond. reads-here (saw-so (c.at.ensures.sees cond) c.if-at.false and saw-before c.at.ensures.peeks.same (saw-so (c.at_captures.ensures.sees cond) c.if-at_captures.false) and nothing) (after-look cond c.at.ensures.peeks.same (after-look cond c.at_captures.ensures.peeks.same (c.words_and_path.ensures.reads cond)))
 
 pub new_bounds::use_captures-returns-clause-reads : goal.new_bounds::use_captures-returns-clause-reads
-new_bounds::use_captures-returns-clause-reads t c = λ cond. reads-then cond (c.take.ensures.reads cond) (c.captures-2.ensures.reads cond)
-
-pub new_bounds::captures-complete-requires : goal.new_bounds::captures-complete-requires
-new_bounds::captures-complete-requires t c = (c.rest_of_list.ensures.reads true).does.innermost _ ((c.take.ensures.reads true).does.innermost _ (c.start-list.ensures.marker))
-
-pub new_bounds::captures-returns-clause-reads : goal.new_bounds::captures-returns-clause-reads
-new_bounds::captures-returns-clause-reads t c = λ cond. reads-node cond c.start-list.ensures.opens (reads-then cond (c.take.ensures.reads cond) (c.rest_of_list.ensures.reads cond)) c.complete.ensures.closes
+new_bounds::use_captures-returns-clause-reads t c = λ cond. reads-then cond (c.take.ensures.reads cond) (c.list.ensures.reads cond)
 
 pub new_bounds::words_and_path-returns-clause-reads : goal.new_bounds::words_and_path-returns-clause-reads
-new_bounds::words_and_path-returns-clause-reads t c = λ cond. reads-then cond (c.opt_binder.ensures.reads cond) (reads-then cond (c.opt_const_words.ensures.reads cond) (reads-then cond (c.eat.ensures.reads cond) (reads-then cond (c.eat-2.ensures.reads cond) (c.expect_path_type.ensures.reads cond))))
+new_bounds::words_and_path-returns-clause-reads t c = λ cond. reads-then cond (c.opt_binder.ensures.reads cond) (reads-then cond (c.opt_const_words.ensures.reads cond) (reads-then cond (c.eat.ensures.reads cond) (reads-then cond (c.eat-2.ensures.reads cond) (c.expect_part.ensures.reads cond))))
 
 pub new_bounds::opt_binder-returns-then-at_binder-clause-reads : goal.new_bounds::opt_binder-returns-then-at_binder-clause-reads
 unfolding look_of begins_below whole rule items statements expressions patterns types paths there_at shift passes is_silent begins in_mode anew row one_of any_of no_longer longest is_longer

@@ -55,18 +55,10 @@ unfolding look_of begins_below whole rule items statements expressions patterns 
 items::new_items::new_item-item_words-requires t c = (omega arith, (record { sees = λ d. saw-after c.at.ensures.peeks.same (saw-after c.at_macro_rules.ensures.peeks.same (saw-after c.at_union.ensures.peeks.same (saw-after c.at_extern_crate.ensures.peeks.same (saw-else words_begin (wide new_item_begins) (saw-so (c.at_extern_crate.ensures.sees d) c.if-at_extern_crate.false and saw-before c.at_extern_crate.ensures.peeks.same (saw-so (c.at_union.ensures.sees d) c.if-at_union.false) and saw-before c.at_extern_crate.ensures.peeks.same (saw-before c.at_union.ensures.peeks.same (saw-so (c.at_macro_rules.ensures.sees d) c.if-at_macro_rules.false)) and saw-before c.at_extern_crate.ensures.peeks.same (saw-before c.at_union.ensures.peeks.same (saw-before c.at_macro_rules.ensures.peeks.same (saw-so (c.at.ensures.sees d) c.if-at.false))) and nothing) (c.requires.begins.sees d) refl)))); some = omega (arith, c.requires.begins.some, c.at_extern_crate.ensures.peeks.left, c.at_union.ensures.peeks.left, c.at_macro_rules.ensures.peeks.left, c.at.ensures.peeks.left) }, c.at.ensures.peeks.same.innermost _ (c.at_macro_rules.ensures.peeks.same.innermost _ (c.at_union.ensures.peeks.same.innermost _ (c.at_extern_crate.ensures.peeks.same.innermost _ c.requires.innermost)))))
 
 pub items::new_items::union_item-returns-clause-completes : goal.items::new_items::union_item-returns-clause-completes
-items::new_items::union_item-returns-clause-completes t c = λ cond. completes-wrap (reads-then cond (c.take_contextual.ensures.reads cond) (reads-then cond (reads-call cond (c.name.ensures.gives cond)) (reads-then cond (c.opt_generic_params.ensures.reads cond) (reads-then cond (c.opt_where_clause.ensures.reads cond) (c.expect_record_fields.ensures.reads cond))))) c.complete.ensures.closes
+items::new_items::union_item-returns-clause-completes t c = λ cond. completes-wrap (reads-then cond (c.take_contextual.ensures.reads cond) (reads-then cond (reads-call cond (c.name.ensures.gives cond)) (reads-then cond (c.opt_part.ensures.reads cond) (reads-then cond (c.opt_part-2.ensures.reads cond) (c.expect_part.ensures.reads cond))))) c.complete.ensures.closes
 
 pub items::new_items::union_item-complete-requires : goal.items::new_items::union_item-complete-requires
-items::new_items::union_item-complete-requires t c = (c.expect_record_fields.ensures.reads true).does.innermost _ ((c.opt_where_clause.ensures.reads true).does.innermost _ ((c.opt_generic_params.ensures.reads true).does.innermost _ ((c.name.ensures.gives true).does.innermost _ ((c.take_contextual.ensures.reads true).does.innermost _ (c.requires.innermost)))))
-
-pub items::new_items::expect_record_fields-returns-then-at-clause-reads : goal.items::new_items::expect_record_fields-returns-then-at-clause-reads
-unfolding look_of begins_below whole rule items statements expressions patterns types paths there_at shift passes is_silent begins in_mode anew row one_of any_of no_longer longest is_longer
-items::new_items::expect_record_fields-returns-then-at-clause-reads t c = λ cond. reads-here (saw-so (c.at.ensures.sees cond) c.if-at.true and nothing) (after-look cond c.at.ensures.peeks.same (reads-call cond (c.record_fields.ensures.gives cond)))
-
-pub items::new_items::expect_record_fields-returns-clause-reads : goal.items::new_items::expect_record_fields-returns-clause-reads
-unfolding look_of begins_below whole rule items statements expressions patterns types paths there_at shift passes is_silent begins in_mode anew row one_of any_of no_longer longest is_longer
-items::new_items::expect_record_fields-returns-clause-reads t c = λ cond. reads-here (saw-so (c.at.ensures.sees cond) c.if-at.false and nothing) (after-look cond c.at.ensures.peeks.same (c.error.ensures.reads cond))
+items::new_items::union_item-complete-requires t c = (c.expect_part.ensures.reads true).does.innermost _ ((c.opt_part-2.ensures.reads true).does.innermost _ ((c.opt_part.ensures.reads true).does.innermost _ ((c.name.ensures.gives true).does.innermost _ ((c.take_contextual.ensures.reads true).does.innermost _ (c.requires.innermost)))))
 
 pub items::new_items::words_from_async-returns-clause-completes : goal.items::new_items::words_from_async-returns-clause-completes
 items::new_items::words_from_async-returns-clause-completes t c = completes-then (c.opt_async_word.ensures.reads c.args.condition) c.words_from_gen.ensures.completes

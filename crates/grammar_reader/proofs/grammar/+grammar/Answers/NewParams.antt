@@ -31,7 +31,7 @@ pub new_params::const_param-returns-clause-reads : goal.new_params::const_param-
 new_params::const_param-returns-clause-reads t c = λ cond. reads-node cond c.start-node.ensures.opens (c.inside_const_param.ensures.reads cond) c.complete.ensures.closes
 
 pub new_params::inside_const_param-returns-clause-reads : goal.new_params::inside_const_param-returns-clause-reads
-new_params::inside_const_param-returns-clause-reads t c = λ cond. reads-then cond (c.take.ensures.reads cond) (reads-then cond (c.expect_name.ensures.reads cond) (reads-then cond (c.expect.ensures.reads cond) (reads-then cond (c.expect_type.ensures.reads cond) (c.const_default.ensures.reads cond))))
+new_params::inside_const_param-returns-clause-reads t c = λ cond. reads-then cond (c.take.ensures.reads cond) (reads-then cond (c.expect_name.ensures.reads cond) (reads-then cond (c.expect.ensures.reads cond) (reads-then cond (c.expect_part.ensures.reads cond) (c.const_default.ensures.reads cond))))
 
 pub new_params::const_default-returns-then-at-clause-reads : goal.new_params::const_default-returns-then-at-clause-reads
 unfolding look_of begins_below whole rule items statements expressions patterns types paths there_at shift passes is_silent begins in_mode anew row one_of any_of no_longer longest is_longer

@@ -2,9 +2,9 @@
 use Rattle.std.proofs.Common.{true, refl, sym, ap, ◌∙◌, arith}
 use Rattle.parser_input.specs.Kind.{raw_of}
 use Rattle.parser_input.specs.declared.syntax_kind.SyntaxKind.{SyntaxKind}
-use Rattle.rust_grammar.specs.Notation.{more}
+use Rattle.rust_grammar.specs.Notation.{more, wide}
 use Rattle.rust_grammar.specs.Rule as rules
-use Rattle.rust_grammar.specs.Expressions.{expressions}
+use Rattle.rust_grammar.specs.Expressions.{expressions, mark_begins, new_operand_begins}
 use Rattle.rust_grammar.specs.Items.{items}
 use Rattle.rust_grammar.specs.Meaning.{begins_below, look_of}
 use Rattle.rust_grammar.specs.Notation.{any_of, is_longer, no_longer, longest, one_of, row}
@@ -20,33 +20,10 @@ use Rattle.rust_productions.proofs.ByHand.{after-look, completes-leave, goes, re
 use Rattle.rust_productions.proofs.Choices.{anew-after, anew-here, anew-look, gives-anew, reads-here}
 use Rattle.rust_productions.proofs.Facts.{nothing, saw-so, ◌and◌}
 use Rattle.rust_productions.proofs.Looking.{saw-arm, saw-not}
-use Rattle.rust_productions.proofs.Seen.{begins-else, ends-at-end, saw-after, saw-before, saw-inside}
+use Rattle.rust_productions.proofs.Seen.{begins-else, ends-at-end, saw-after, saw-before, saw-inside, saw-else}
 use Rattle.rust_productions.proofs.Turns.{last-turn, next-turn}
+use Rattle.rust_productions.specs.Reads.{looks}
 use Rattle.grammar_reader.proofs.grammar.+grammar.Goals as goal
-
-pub expressions::operand::prefixed-returns-in-MINUS-clause-gives : goal.expressions::operand::prefixed-returns-in-MINUS-clause-gives
-unfolding look_of begins_below whole rule items statements expressions patterns types paths there_at shift passes is_silent begins in_mode anew row one_of any_of no_longer longest is_longer
-expressions::operand::prefixed-returns-in-MINUS-clause-gives t c = gives-anew (anew-here (saw-arm c.in-MINUS.is (c.current.ensures.sees c.args.condition) and nothing) (anew-look c.current.ensures.peeks.same (anew-after refl c.prefix_expr.ensures.reads)))
-
-pub expressions::operand::prefixed-returns-in-BANG-clause-gives : goal.expressions::operand::prefixed-returns-in-BANG-clause-gives
-unfolding look_of begins_below whole rule items statements expressions patterns types paths there_at shift passes is_silent begins in_mode anew row one_of any_of no_longer longest is_longer
-expressions::operand::prefixed-returns-in-BANG-clause-gives t c = gives-anew (anew-here (saw-arm c.in-BANG.is (c.current.ensures.sees c.args.condition) and nothing) (anew-look c.current.ensures.peeks.same (anew-after refl c.prefix_expr-in-BANG.ensures.reads)))
-
-pub expressions::operand::prefixed-returns-in-STAR-clause-gives : goal.expressions::operand::prefixed-returns-in-STAR-clause-gives
-unfolding look_of begins_below whole rule items statements expressions patterns types paths there_at shift passes is_silent begins in_mode anew row one_of any_of no_longer longest is_longer
-expressions::operand::prefixed-returns-in-STAR-clause-gives t c = gives-anew (anew-here (saw-arm c.in-STAR.is (c.current.ensures.sees c.args.condition) and nothing) (anew-look c.current.ensures.peeks.same (anew-after refl c.prefix_expr-in-STAR.ensures.reads)))
-
-pub expressions::operand::prefixed-returns-in-AMP-clause-gives : goal.expressions::operand::prefixed-returns-in-AMP-clause-gives
-unfolding look_of begins_below whole rule items statements expressions patterns types paths there_at shift passes is_silent begins in_mode anew row one_of any_of no_longer longest is_longer
-expressions::operand::prefixed-returns-in-AMP-clause-gives t c = gives-anew (anew-here (saw-arm c.in-AMP.is (c.current.ensures.sees c.args.condition) and nothing) (anew-look c.current.ensures.peeks.same (anew-after refl c.ref_expr.ensures.reads)))
-
-pub expressions::operand::prefixed-operand-requires : goal.expressions::operand::prefixed-operand-requires
-unfolding look_of begins_below whole rule items statements expressions patterns types paths there_at shift passes is_silent begins in_mode anew row one_of any_of no_longer longest is_longer
-expressions::operand::prefixed-operand-requires t c = (omega arith, (saw-after c.current.ensures.peeks.same (begins-else rules.atom rules.prefixed refl (saw-not c.in_default.not-MINUS (c.current.ensures.sees c.args.condition) and saw-not c.in_default.not-BANG (c.current.ensures.sees c.args.condition) and saw-not c.in_default.not-STAR (c.current.ensures.sees c.args.condition) and saw-not c.in_default.not-AMP (c.current.ensures.sees c.args.condition) and nothing) c.requires.begins refl), omega arith))
-
-pub expressions::operand::prefixed-returns-in_default-clause-gives : goal.expressions::operand::prefixed-returns-in_default-clause-gives
-unfolding look_of begins_below whole rule items statements expressions patterns types paths there_at shift passes is_silent begins in_mode anew row one_of any_of no_longer longest is_longer
-expressions::operand::prefixed-returns-in_default-clause-gives t c = gives-anew (anew-here (saw-not c.in_default.not-MINUS (c.current.ensures.sees c.args.condition) and saw-not c.in_default.not-BANG (c.current.ensures.sees c.args.condition) and saw-not c.in_default.not-STAR (c.current.ensures.sees c.args.condition) and saw-not c.in_default.not-AMP (c.current.ensures.sees c.args.condition) and nothing) (anew-look c.current.ensures.peeks.same c.operand.ensures.anew))
 
 pub expressions::operand::prefix_expr-complete-requires : goal.expressions::operand::prefix_expr-complete-requires
 expressions::operand::prefix_expr-complete-requires t c = c.expect_expression.ensures.reads.does.innermost _ ((c.take.ensures.reads true).does.innermost _ c.start-node.ensures.marker)
@@ -85,11 +62,11 @@ unfolding look_of begins_below whole rule items statements expressions patterns 
 expressions::operand::postfixes-returns-clause-reads t c = λ cond. last-turn cond (more rules.postfix) (ends-at-end cond (more rules.postfix) refl) _ _ _ (c.turns.invariant.goes cond) (saw-so (c.at_postfix.ensures.sees cond) c.turns-test.false) c.at_postfix.ensures.peeks.same
 
 pub expressions::operand::postfix-wrap-requires : goal.expressions::operand::postfix-wrap-requires
-expressions::operand::postfix-wrap-requires t c = (c.arguments.ensures.gives true).does.innermost _ (c.current.ensures.peeks.same.innermost _ c.requires.innermost)
+expressions::operand::postfix-wrap-requires t c = (c.list.ensures.reads true).does.innermost _ (c.current.ensures.peeks.same.innermost _ c.requires.innermost)
 
 pub expressions::operand::postfix-returns-in-L_PAREN-clause-reads : goal.expressions::operand::postfix-returns-in-L_PAREN-clause-reads
 unfolding look_of begins_below whole rule items statements expressions patterns types paths there_at shift passes is_silent begins in_mode anew row one_of any_of no_longer longest is_longer
-expressions::operand::postfix-returns-in-L_PAREN-clause-reads t c = λ cond. reads-more cond (goes rules.postfix cond (reads-here (saw-arm c.in-L_PAREN.is (c.current.ensures.sees cond) and nothing) (after-look cond c.current.ensures.peeks.same (reads-wrap cond (reads-call cond (c.arguments.ensures.gives cond)) c.wrap.ensures.wraps))))
+expressions::operand::postfix-returns-in-L_PAREN-clause-reads t c = λ cond. reads-more cond (goes rules.postfix cond (reads-here (saw-arm c.in-L_PAREN.is (c.current.ensures.sees cond) and nothing) (after-look cond c.current.ensures.peeks.same (reads-wrap cond (reads-call cond (gives-anew (anew-after refl (c.list.ensures.reads cond)))) c.wrap.ensures.wraps))))
 
 pub expressions::operand::postfix-wrap-requires-in-L_BRACK : goal.expressions::operand::postfix-wrap-requires-in-L_BRACK
 expressions::operand::postfix-wrap-requires-in-L_BRACK t c = (c.index.ensures.reads true).does.innermost _ (c.current.ensures.peeks.same.innermost _ c.requires.innermost)
@@ -115,51 +92,8 @@ expressions::operand::postfix-returns-in_default-clause-reads t c = λ cond. rea
 pub expressions::operand::index-returns-clause-reads : goal.expressions::operand::index-returns-clause-reads
 expressions::operand::index-returns-clause-reads t c = λ cond. (reads-then cond (c.take.ensures.reads cond) (reads-then cond (reads-mode cond c.expect_expression.ensures.reads) (c.expect.ensures.reads cond)))
 
-pub expressions::operand::after_dot-wrap-requires : goal.expressions::operand::after_dot-wrap-requires
-expressions::operand::after_dot-wrap-requires t c = (c.method_call.ensures.reads true).does.innermost _ (c.at_method.ensures.peeks.same.innermost _ c.requires.innermost)
-
-pub expressions::operand::after_dot-returns-then-at_method-clause-reads : goal.expressions::operand::after_dot-returns-then-at_method-clause-reads
-unfolding look_of begins_below whole rule items statements expressions patterns types paths there_at shift passes is_silent begins in_mode anew row one_of any_of no_longer longest is_longer
-expressions::operand::after_dot-returns-then-at_method-clause-reads t c = λ cond. reads-more cond (goes rules.after_dot cond (reads-here (saw-so (c.at_method.ensures.sees cond) c.if-at_method.true and nothing) (after-look cond c.at_method.ensures.peeks.same (reads-wrap cond (c.method_call.ensures.reads cond) c.wrap.ensures.wraps))))
-
-pub expressions::operand::after_dot-wrap-requires-in-IDENT : goal.expressions::operand::after_dot-wrap-requires-in-IDENT
-expressions::operand::after_dot-wrap-requires-in-IDENT t c = (c.word_type.ensures.reads true).does.innermost _ (c.current.ensures.peeks.same.innermost _ (c.at_method.ensures.peeks.same.innermost _ c.requires.innermost))
-
-pub expressions::operand::after_dot-returns-in-IDENT-clause-reads : goal.expressions::operand::after_dot-returns-in-IDENT-clause-reads
-unfolding look_of begins_below whole rule items statements expressions patterns types paths there_at shift passes is_silent begins in_mode anew row one_of any_of no_longer longest is_longer
-expressions::operand::after_dot-returns-in-IDENT-clause-reads t c = λ cond. reads-more cond (goes rules.after_dot cond (reads-here (saw-so (c.at_method.ensures.sees cond) c.if-at_method.false and saw-before c.at_method.ensures.peeks.same (saw-arm c.in-IDENT.is (c.current.ensures.sees cond)) and nothing) (after-look cond c.at_method.ensures.peeks.same (after-look cond c.current.ensures.peeks.same (reads-wrap cond (c.word_type.ensures.reads cond) c.wrap-in-IDENT.ensures.wraps)))))
-
-pub expressions::operand::after_dot-wrap-requires-in-INT_NUMBER : goal.expressions::operand::after_dot-wrap-requires-in-INT_NUMBER
-expressions::operand::after_dot-wrap-requires-in-INT_NUMBER t c = (c.word_type-in-INT_NUMBER.ensures.reads true).does.innermost _ (c.current.ensures.peeks.same.innermost _ (c.at_method.ensures.peeks.same.innermost _ c.requires.innermost))
-
-pub expressions::operand::after_dot-returns-in-INT_NUMBER-clause-reads : goal.expressions::operand::after_dot-returns-in-INT_NUMBER-clause-reads
-unfolding look_of begins_below whole rule items statements expressions patterns types paths there_at shift passes is_silent begins in_mode anew row one_of any_of no_longer longest is_longer
-expressions::operand::after_dot-returns-in-INT_NUMBER-clause-reads t c = λ cond. reads-more cond (goes rules.after_dot cond (reads-here (saw-so (c.at_method.ensures.sees cond) c.if-at_method.false and saw-before c.at_method.ensures.peeks.same (saw-arm c.in-INT_NUMBER.is (c.current.ensures.sees cond)) and nothing) (after-look cond c.at_method.ensures.peeks.same (after-look cond c.current.ensures.peeks.same (reads-wrap cond (c.word_type-in-INT_NUMBER.ensures.reads cond) c.wrap-in-INT_NUMBER.ensures.wraps)))))
-
-pub expressions::operand::after_dot-float-requires : goal.expressions::operand::after_dot-float-requires
-expressions::operand::after_dot-float-requires t c = (omega arith, (record { sees = λ d. saw-after c.current.ensures.peeks.same (saw-arm c.in-FLOAT_NUMBER.is (c.current.ensures.sees d)); some = omega (arith, c.current.ensures.some (λ e. absurd (omega (arith, sym (ap (λ (k : SyntaxKind). raw_of k) c.in-FLOAT_NUMBER.is) ∙ e))), c.current.ensures.peeks.left) }, c.current.ensures.peeks.same.innermost _ (c.at_method.ensures.peeks.same.innermost _ c.requires.innermost)))
-
-pub expressions::operand::after_dot-returns-in-FLOAT_NUMBER-clause-reads : goal.expressions::operand::after_dot-returns-in-FLOAT_NUMBER-clause-reads
-unfolding look_of begins_below whole rule items statements expressions patterns types paths there_at shift passes is_silent begins in_mode anew row one_of any_of no_longer longest is_longer
-expressions::operand::after_dot-returns-in-FLOAT_NUMBER-clause-reads t c = λ cond. reads-more cond (goes rules.after_dot cond (reads-here (saw-so (c.at_method.ensures.sees cond) c.if-at_method.false and saw-before c.at_method.ensures.peeks.same (saw-arm c.in-FLOAT_NUMBER.is (c.current.ensures.sees cond)) and nothing) (after-look cond c.at_method.ensures.peeks.same (after-look cond c.current.ensures.peeks.same (c.float.ensures.reads cond)))))
-
-pub expressions::operand::after_dot-wrap-requires-in_default : goal.expressions::operand::after_dot-wrap-requires-in_default
-expressions::operand::after_dot-wrap-requires-in_default t c = (c.error.ensures.reads true).does.innermost _ (c.current.ensures.peeks.same.innermost _ (c.at_method.ensures.peeks.same.innermost _ c.requires.innermost))
-
-pub expressions::operand::after_dot-returns-in_default-clause-reads : goal.expressions::operand::after_dot-returns-in_default-clause-reads
-unfolding look_of begins_below whole rule items statements expressions patterns types paths there_at shift passes is_silent begins in_mode anew row one_of any_of no_longer longest is_longer
-expressions::operand::after_dot-returns-in_default-clause-reads t c = λ cond. reads-more cond (goes rules.after_dot cond (reads-here (saw-so (c.at_method.ensures.sees cond) c.if-at_method.false and saw-before c.at_method.ensures.peeks.same (saw-not c.in_default.not-IDENT (c.current.ensures.sees cond)) and saw-before c.at_method.ensures.peeks.same (saw-not c.in_default.not-INT_NUMBER (c.current.ensures.sees cond)) and saw-before c.at_method.ensures.peeks.same (saw-not c.in_default.not-FLOAT_NUMBER (c.current.ensures.sees cond)) and nothing) (after-look cond c.at_method.ensures.peeks.same (after-look cond c.current.ensures.peeks.same (reads-wrap cond (c.error.ensures.reads cond) c.wrap-in_default.ensures.wraps)))))
-
 pub expressions::operand::method_call-returns-clause-reads : goal.expressions::operand::method_call-returns-clause-reads
-expressions::operand::method_call-returns-clause-reads t c = λ cond. (reads-then cond (c.word_type.ensures.reads cond) (reads-then cond (c.opt_generic_args.ensures.reads cond) (c.expect_arguments.ensures.reads cond)))
-
-pub expressions::operand::expect_arguments-returns-then-at-clause-reads : goal.expressions::operand::expect_arguments-returns-then-at-clause-reads
-unfolding look_of begins_below whole rule items statements expressions patterns types paths there_at shift passes is_silent begins in_mode anew row one_of any_of no_longer longest is_longer
-expressions::operand::expect_arguments-returns-then-at-clause-reads t c = λ cond. reads-here (saw-so (c.at.ensures.sees cond) c.if-at.true and nothing) (after-look cond c.at.ensures.peeks.same (reads-call cond (c.arguments.ensures.gives cond)))
-
-pub expressions::operand::expect_arguments-returns-clause-reads : goal.expressions::operand::expect_arguments-returns-clause-reads
-unfolding look_of begins_below whole rule items statements expressions patterns types paths there_at shift passes is_silent begins in_mode anew row one_of any_of no_longer longest is_longer
-expressions::operand::expect_arguments-returns-clause-reads t c = λ cond. reads-here (saw-so (c.at.ensures.sees cond) c.if-at.false and nothing) (after-look cond c.at.ensures.peeks.same (c.error.ensures.reads cond))
+expressions::operand::method_call-returns-clause-reads t c = λ cond. (reads-then cond (c.word_type.ensures.reads cond) (reads-then cond (c.opt_part.ensures.reads cond) (c.expect_part.ensures.reads cond)))
 
 pub expressions::operand::float-split-frame-requires : goal.expressions::operand::float-split-frame-requires
 expressions::operand::float-split-frame-requires t c = record { float = record { float = λ d. saw-after c.at_joint-joint.ensures.same (c.requires.begins.sees d); joint = λ d. saw-after c.at_joint-joint.ensures.same (c.at_joint-joint.ensures.sees d); some = omega (arith, c.requires.begins.some, c.at_joint-joint.ensures.stays.left) }; innermost = c.at_joint-joint.ensures.same.innermost _ c.requires.innermost }
@@ -174,3 +108,100 @@ expressions::operand::float-returns-then-joint-clause-reads t c = λ cond. reads
 pub expressions::operand::float-returns-clause-reads : goal.expressions::operand::float-returns-clause-reads
 unfolding look_of begins_below whole rule items statements expressions patterns types paths there_at shift passes is_silent begins in_mode anew row one_of any_of no_longer longest is_longer
 expressions::operand::float-returns-clause-reads t c = λ cond. reads-here (c.requires.begins.sees cond and saw-so (c.at_joint-joint.ensures.sees cond) c.if-joint.false and nothing) (after-look cond c.at_joint-joint.ensures.same (reads-then cond (c.split-frame.ensures.reads cond) (c.after_dot.ensures.reads cond)))
+
+pub expressions::operand::raw_ref_expr-returns-clause-reads : goal.expressions::operand::raw_ref_expr-returns-clause-reads
+expressions::operand::raw_ref_expr-returns-clause-reads t c = reads-node c.args.condition c.start-node.ensures.opens (reads-then c.args.condition (c.take.ensures.reads c.args.condition) (reads-then c.args.condition (c.take_contextual.ensures.reads c.args.condition) (reads-then c.args.condition (c.opt_mut_or_const.ensures.reads c.args.condition) c.expect_expression.ensures.reads))) c.complete.ensures.closes
+
+pub expressions::operand::raw_ref_expr-complete-requires : goal.expressions::operand::raw_ref_expr-complete-requires
+expressions::operand::raw_ref_expr-complete-requires t c = c.expect_expression.ensures.reads.does.innermost _ ((c.opt_mut_or_const.ensures.reads true).does.innermost _ ((c.take_contextual.ensures.reads true).does.innermost _ ((c.take.ensures.reads true).does.innermost _ (c.start-node.ensures.marker))))
+
+pub expressions::operand::new_operand-returns-then-at_raw-clause-reads : goal.expressions::operand::new_operand-returns-then-at_raw-clause-reads
+unfolding look_of begins_below whole rule items statements expressions patterns types paths there_at shift passes is_silent begins in_mode anew row one_of any_of no_longer longest is_longer
+expressions::operand::new_operand-returns-then-at_raw-clause-reads t c = reads-here (saw-so (c.at_raw.ensures.sees c.args.condition) c.if-at_raw.true and nothing) (after-look c.args.condition c.at_raw.ensures.peeks.same c.raw_ref_expr.ensures.reads)
+
+pub expressions::operand::after_dot-returns-then-at_method-clause-reads : goal.expressions::operand::after_dot-returns-then-at_method-clause-reads
+unfolding look_of begins_below whole rule items statements expressions patterns types paths there_at shift passes is_silent begins in_mode anew row one_of any_of no_longer longest is_longer
+expressions::operand::after_dot-returns-then-at_method-clause-reads t c = λ cond. reads-more cond (goes rules.after_dot cond (reads-here (saw-so (c.at_method.ensures.sees cond) c.if-at_method.true and nothing) (after-look cond c.at_method.ensures.peeks.same (reads-wrap cond (c.method_call.ensures.reads cond) c.wrap.ensures.wraps))))
+
+pub expressions::operand::after_dot-returns-then-at_new-clause-reads : goal.expressions::operand::after_dot-returns-then-at_new-clause-reads
+unfolding look_of begins_below whole rule items statements expressions patterns types paths there_at shift passes is_silent begins in_mode anew row one_of any_of no_longer longest is_longer
+expressions::operand::after_dot-returns-then-at_new-clause-reads t c = λ cond. reads-more cond (goes rules.after_dot cond (reads-here (saw-so (c.at_method.ensures.sees cond) c.if-at_method.false and saw-before c.at_method.ensures.peeks.same (saw-so (c.at_new.ensures.sees cond) c.if-at_new.true) and nothing) (after-look cond c.at_method.ensures.peeks.same (after-look cond c.at_new.ensures.peeks.same (reads-wrap cond (c.take.ensures.reads cond) c.wrap-then-at_new.ensures.wraps)))))
+
+pub expressions::operand::after_dot-returns-in-IDENT-clause-reads : goal.expressions::operand::after_dot-returns-in-IDENT-clause-reads
+unfolding look_of begins_below whole rule items statements expressions patterns types paths there_at shift passes is_silent begins in_mode anew row one_of any_of no_longer longest is_longer
+expressions::operand::after_dot-returns-in-IDENT-clause-reads t c = λ cond. reads-more cond (goes rules.after_dot cond (reads-here (saw-so (c.at_method.ensures.sees cond) c.if-at_method.false and saw-before c.at_method.ensures.peeks.same (saw-so (c.at_new.ensures.sees cond) c.if-at_new.false) and saw-before c.at_method.ensures.peeks.same (saw-before c.at_new.ensures.peeks.same (saw-arm c.in-IDENT.is (c.current.ensures.sees cond))) and nothing) (after-look cond c.at_method.ensures.peeks.same (after-look cond c.at_new.ensures.peeks.same (after-look cond c.current.ensures.peeks.same (reads-wrap cond (c.word_type.ensures.reads cond) c.wrap-in-IDENT.ensures.wraps))))))
+
+pub expressions::operand::after_dot-returns-in-INT_NUMBER-clause-reads : goal.expressions::operand::after_dot-returns-in-INT_NUMBER-clause-reads
+unfolding look_of begins_below whole rule items statements expressions patterns types paths there_at shift passes is_silent begins in_mode anew row one_of any_of no_longer longest is_longer
+expressions::operand::after_dot-returns-in-INT_NUMBER-clause-reads t c = λ cond. reads-more cond (goes rules.after_dot cond (reads-here (saw-so (c.at_method.ensures.sees cond) c.if-at_method.false and saw-before c.at_method.ensures.peeks.same (saw-so (c.at_new.ensures.sees cond) c.if-at_new.false) and saw-before c.at_method.ensures.peeks.same (saw-before c.at_new.ensures.peeks.same (saw-arm c.in-INT_NUMBER.is (c.current.ensures.sees cond))) and nothing) (after-look cond c.at_method.ensures.peeks.same (after-look cond c.at_new.ensures.peeks.same (after-look cond c.current.ensures.peeks.same (reads-wrap cond (c.word_type-in-INT_NUMBER.ensures.reads cond) c.wrap-in-INT_NUMBER.ensures.wraps))))))
+
+pub expressions::operand::after_dot-returns-in-FLOAT_NUMBER-clause-reads : goal.expressions::operand::after_dot-returns-in-FLOAT_NUMBER-clause-reads
+unfolding look_of begins_below whole rule items statements expressions patterns types paths there_at shift passes is_silent begins in_mode anew row one_of any_of no_longer longest is_longer
+expressions::operand::after_dot-returns-in-FLOAT_NUMBER-clause-reads t c = λ cond. reads-more cond (goes rules.after_dot cond (reads-here (saw-so (c.at_method.ensures.sees cond) c.if-at_method.false and saw-before c.at_method.ensures.peeks.same (saw-so (c.at_new.ensures.sees cond) c.if-at_new.false) and saw-before c.at_method.ensures.peeks.same (saw-before c.at_new.ensures.peeks.same (saw-arm c.in-FLOAT_NUMBER.is (c.current.ensures.sees cond))) and nothing) (after-look cond c.at_method.ensures.peeks.same (after-look cond c.at_new.ensures.peeks.same (after-look cond c.current.ensures.peeks.same (c.float.ensures.reads cond))))))
+
+pub expressions::operand::after_dot-returns-in_default-clause-reads : goal.expressions::operand::after_dot-returns-in_default-clause-reads
+unfolding look_of begins_below whole rule items statements expressions patterns types paths there_at shift passes is_silent begins in_mode anew row one_of any_of no_longer longest is_longer
+expressions::operand::after_dot-returns-in_default-clause-reads t c = λ cond. reads-more cond (goes rules.after_dot cond (reads-here (saw-so (c.at_method.ensures.sees cond) c.if-at_method.false and saw-before c.at_method.ensures.peeks.same (saw-so (c.at_new.ensures.sees cond) c.if-at_new.false) and saw-before c.at_method.ensures.peeks.same (saw-before c.at_new.ensures.peeks.same (saw-not c.in_default.not-IDENT (c.current.ensures.sees cond))) and saw-before c.at_method.ensures.peeks.same (saw-before c.at_new.ensures.peeks.same (saw-not c.in_default.not-INT_NUMBER (c.current.ensures.sees cond))) and saw-before c.at_method.ensures.peeks.same (saw-before c.at_new.ensures.peeks.same (saw-not c.in_default.not-FLOAT_NUMBER (c.current.ensures.sees cond))) and nothing) (after-look cond c.at_method.ensures.peeks.same (after-look cond c.at_new.ensures.peeks.same (after-look cond c.current.ensures.peeks.same (reads-wrap cond (c.error.ensures.reads cond) c.wrap-in_default.ensures.wraps))))))
+
+pub expressions::operand::after_dot-wrap-requires : goal.expressions::operand::after_dot-wrap-requires
+expressions::operand::after_dot-wrap-requires t c = (c.method_call.ensures.reads true).does.innermost _ (c.at_method.ensures.peeks.same.innermost _ (c.requires.innermost))
+
+pub expressions::operand::after_dot-wrap-requires-then-at_new : goal.expressions::operand::after_dot-wrap-requires-then-at_new
+expressions::operand::after_dot-wrap-requires-then-at_new t c = (c.take.ensures.reads true).does.innermost _ (c.at_new.ensures.peeks.same.innermost _ (c.at_method.ensures.peeks.same.innermost _ (c.requires.innermost)))
+
+pub expressions::operand::after_dot-wrap-requires-in-IDENT : goal.expressions::operand::after_dot-wrap-requires-in-IDENT
+expressions::operand::after_dot-wrap-requires-in-IDENT t c = (c.word_type.ensures.reads true).does.innermost _ (c.current.ensures.peeks.same.innermost _ (c.at_new.ensures.peeks.same.innermost _ (c.at_method.ensures.peeks.same.innermost _ (c.requires.innermost))))
+
+pub expressions::operand::after_dot-wrap-requires-in-INT_NUMBER : goal.expressions::operand::after_dot-wrap-requires-in-INT_NUMBER
+expressions::operand::after_dot-wrap-requires-in-INT_NUMBER t c = (c.word_type-in-INT_NUMBER.ensures.reads true).does.innermost _ (c.current.ensures.peeks.same.innermost _ (c.at_new.ensures.peeks.same.innermost _ (c.at_method.ensures.peeks.same.innermost _ (c.requires.innermost))))
+
+pub expressions::operand::after_dot-wrap-requires-in_default : goal.expressions::operand::after_dot-wrap-requires-in_default
+expressions::operand::after_dot-wrap-requires-in_default t c = (c.error.ensures.reads true).does.innermost _ (c.current.ensures.peeks.same.innermost _ (c.at_new.ensures.peeks.same.innermost _ (c.at_method.ensures.peeks.same.innermost _ (c.requires.innermost))))
+
+pub expressions::operand::prefixed-new_operand-requires : goal.expressions::operand::prefixed-new_operand-requires
+expressions::operand::prefixed-new_operand-requires t c = (omega arith, record { sees = λ d. saw-after c.at_new_operand.ensures.peeks.same (saw-so (c.at_new_operand.ensures.sees d) c.if-at_new_operand.true); some = omega (arith, c.requires.some, c.at_new_operand.ensures.some c.if-at_new_operand.true, c.current.ensures.peeks.left, c.at_new_operand.ensures.peeks.left) })
+
+pub expressions::operand::prefixed-returns-in-MINUS-clause-gives : goal.expressions::operand::prefixed-returns-in-MINUS-clause-gives
+unfolding look_of begins_below whole rule items statements expressions patterns types paths there_at shift passes is_silent begins in_mode anew row one_of any_of no_longer longest is_longer
+expressions::operand::prefixed-returns-in-MINUS-clause-gives t c = gives-anew (anew-here (saw-arm c.in-MINUS.is (c.current.ensures.sees c.args.condition) and nothing) (anew-look c.current.ensures.peeks.same (anew-after refl c.prefix_expr.ensures.reads)))
+
+pub expressions::operand::prefixed-returns-in-BANG-clause-gives : goal.expressions::operand::prefixed-returns-in-BANG-clause-gives
+unfolding look_of begins_below whole rule items statements expressions patterns types paths there_at shift passes is_silent begins in_mode anew row one_of any_of no_longer longest is_longer
+expressions::operand::prefixed-returns-in-BANG-clause-gives t c = gives-anew (anew-here (saw-arm c.in-BANG.is (c.current.ensures.sees c.args.condition) and nothing) (anew-look c.current.ensures.peeks.same (anew-after refl c.prefix_expr-in-BANG.ensures.reads)))
+
+pub expressions::operand::prefixed-returns-in-STAR-clause-gives : goal.expressions::operand::prefixed-returns-in-STAR-clause-gives
+unfolding look_of begins_below whole rule items statements expressions patterns types paths there_at shift passes is_silent begins in_mode anew row one_of any_of no_longer longest is_longer
+expressions::operand::prefixed-returns-in-STAR-clause-gives t c = gives-anew (anew-here (saw-arm c.in-STAR.is (c.current.ensures.sees c.args.condition) and nothing) (anew-look c.current.ensures.peeks.same (anew-after refl c.prefix_expr-in-STAR.ensures.reads)))
+
+pub expressions::operand::prefixed-returns-then-at_new_operand-clause-gives : goal.expressions::operand::prefixed-returns-then-at_new_operand-clause-gives
+unfolding look_of begins_below whole rule items statements expressions patterns types paths there_at shift passes is_silent begins in_mode anew row one_of any_of no_longer longest is_longer
+expressions::operand::prefixed-returns-then-at_new_operand-clause-gives t c = gives-anew (anew-here (saw-not c.in_default.not-MINUS (c.current.ensures.sees c.args.condition) and saw-not c.in_default.not-BANG (c.current.ensures.sees c.args.condition) and saw-not c.in_default.not-STAR (c.current.ensures.sees c.args.condition) and saw-before c.current.ensures.peeks.same (saw-so (c.at_new_operand.ensures.sees c.args.condition) c.if-at_new_operand.true) and nothing) (anew-look c.current.ensures.peeks.same (anew-look c.at_new_operand.ensures.peeks.same (anew-after refl c.new_operand.ensures.reads))))
+
+pub expressions::operand::prefixed-returns-then-at-clause-gives : goal.expressions::operand::prefixed-returns-then-at-clause-gives
+unfolding look_of begins_below whole rule items statements expressions patterns types paths there_at shift passes is_silent begins in_mode anew row one_of any_of no_longer longest is_longer
+expressions::operand::prefixed-returns-then-at-clause-gives t c = gives-anew (anew-here (saw-not c.in_default.not-MINUS (c.current.ensures.sees c.args.condition) and saw-not c.in_default.not-BANG (c.current.ensures.sees c.args.condition) and saw-not c.in_default.not-STAR (c.current.ensures.sees c.args.condition) and saw-before c.current.ensures.peeks.same (saw-so (c.at_new_operand.ensures.sees c.args.condition) c.if-at_new_operand.false) and saw-before c.current.ensures.peeks.same (saw-before c.at_new_operand.ensures.peeks.same (saw-so (c.at.ensures.sees c.args.condition) c.if-at.true)) and nothing) (anew-look c.current.ensures.peeks.same (anew-look c.at_new_operand.ensures.peeks.same (anew-look c.at.ensures.peeks.same (anew-after refl c.ref_expr.ensures.reads)))))
+
+pub expressions::operand::prefixed-operand-requires : goal.expressions::operand::prefixed-operand-requires
+unfolding look_of begins_below whole rule items statements expressions patterns types paths there_at shift passes is_silent begins in_mode anew row one_of any_of no_longer longest is_longer
+expressions::operand::prefixed-operand-requires t c = (omega arith, (saw-after c.at.ensures.peeks.same (saw-after c.at_new_operand.ensures.peeks.same (saw-after c.current.ensures.peeks.same (begins-else rules.atom rules.prefixed refl (saw-not c.in_default.not-MINUS (c.current.ensures.sees c.args.condition) and saw-not c.in_default.not-BANG (c.current.ensures.sees c.args.condition) and saw-not c.in_default.not-STAR (c.current.ensures.sees c.args.condition) and saw-before c.current.ensures.peeks.same (saw-so (c.at_new_operand.ensures.sees c.args.condition) c.if-at_new_operand.false) and saw-before c.current.ensures.peeks.same (saw-before c.at_new_operand.ensures.peeks.same (saw-so (c.at.ensures.sees c.args.condition) c.if-at.false)) and nothing) c.requires.begins refl))), omega arith))
+
+pub expressions::operand::after_dot-float-requires : goal.expressions::operand::after_dot-float-requires
+expressions::operand::after_dot-float-requires t c = (omega arith, (record { sees = λ d. saw-after c.current.ensures.peeks.same (saw-arm c.in-FLOAT_NUMBER.is (c.current.ensures.sees d)); some = omega (arith, c.current.ensures.some (λ e. absurd (omega (arith, sym (ap (λ (k : SyntaxKind). raw_of k) c.in-FLOAT_NUMBER.is) ∙ e))), c.current.ensures.peeks.left) }, c.current.ensures.peeks.same.innermost _ (c.at_new.ensures.peeks.same.innermost _ (c.at_method.ensures.peeks.same.innermost _ c.requires.innermost))))
+
+pub expressions::operand::new_operand-open_range-requires : goal.expressions::operand::new_operand-open_range-requires
+unfolding look_of begins_below whole rule items statements expressions patterns types paths there_at shift passes is_silent begins in_mode anew row one_of any_of no_longer longest is_longer
+expressions::operand::new_operand-open_range-requires t c = (omega arith, record { sees = λ d. saw-after c.at_raw.ensures.peeks.same (saw-else mark_begins (wide new_operand_begins) (saw-so (c.at_raw.ensures.sees d) c.if-at_raw.false and nothing) (c.requires.begins.sees d) refl); some = omega (arith, c.requires.begins.some, c.at_raw.ensures.peeks.left) })
+
+pub expressions::operand::new_operand-returns-clause-reads : goal.expressions::operand::new_operand-returns-clause-reads
+unfolding look_of begins_below whole rule items statements expressions patterns types paths there_at shift passes is_silent begins in_mode anew row one_of any_of no_longer longest is_longer
+expressions::operand::new_operand-returns-clause-reads t c = reads-here (saw-so (c.at_raw.ensures.sees c.args.condition) c.if-at_raw.false and nothing) (after-look c.args.condition c.at_raw.ensures.peeks.same c.open_range.ensures.reads)
+
+pub expressions::operand::prefixed-returns-else-at : goal.expressions::operand::prefixed-returns-else-at
+unfolding look_of begins_below whole rule items statements expressions patterns types paths there_at shift passes is_silent begins in_mode anew row one_of any_of no_longer longest is_longer
+expressions::operand::prefixed-returns-else-at t c = record {
+  gives = gives-anew (anew-here (saw-not c.in_default.not-MINUS (c.current.ensures.sees c.args.condition) and saw-not c.in_default.not-BANG (c.current.ensures.sees c.args.condition) and saw-not c.in_default.not-STAR (c.current.ensures.sees c.args.condition) and saw-before c.current.ensures.peeks.same (saw-so (c.at_new_operand.ensures.sees c.args.condition) c.if-at_new_operand.false) and saw-before c.current.ensures.peeks.same (saw-before c.at_new_operand.ensures.peeks.same (saw-so (c.at.ensures.sees c.args.condition) c.if-at.false)) and nothing) (anew-look c.current.ensures.peeks.same (anew-look c.at_new_operand.ensures.peeks.same (anew-look c.at.ensures.peeks.same c.operand.ensures.anew))));
+  takes = record {
+    left = omega (arith, c.operand.ensures.takes.left, c.at.ensures.peeks.left, c.at_new_operand.ensures.peeks.left, c.current.ensures.peeks.left);
+    looks = omega (arith, c.operand.ensures.takes.looks, c.at.ensures.peeks.looks, c.at_new_operand.ensures.peeks.looks, c.current.ensures.peeks.looks);
+  };
+}

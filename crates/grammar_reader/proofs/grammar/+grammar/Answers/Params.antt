@@ -125,7 +125,7 @@ params::dots_or_param-returns-then-at_dots_dot-clause-reads t c = λ cond. reads
 
 pub params::dots_or_param-returns-clause-reads : goal.params::dots_or_param-returns-clause-reads
 unfolding look_of begins_below whole rule items statements expressions patterns types paths there_at shift passes is_silent begins in_mode anew row one_of any_of no_longer longest is_longer
-params::dots_or_param-returns-clause-reads t c = λ cond. reads-here (saw-so (c.at_dots_dot.ensures.sees cond) c.if-at_dots_dot.false and nothing) (after-look cond c.at_dots_dot.ensures.peeks.same (reads-then cond (c.expect_pattern.ensures.reads cond) (c.param_type.ensures.reads cond)))
+params::dots_or_param-returns-clause-reads t c = λ cond. reads-here (saw-so (c.at_dots_dot.ensures.sees cond) c.if-at_dots_dot.false and nothing) (after-look cond c.at_dots_dot.ensures.peeks.same (reads-then cond (c.expect_part.ensures.reads cond) (c.param_type.ensures.reads cond)))
 
 pub params::param_type-returns-clause-reads : goal.params::param_type-returns-clause-reads
 params::param_type-returns-clause-reads t c = λ cond. reads-then cond (c.expect.ensures.reads cond) (c.dots_or_type.ensures.reads cond)
@@ -136,4 +136,4 @@ params::dots_or_type-returns-then-at_new_dots-clause-reads t c = λ cond. reads-
 
 pub params::dots_or_type-returns-clause-reads : goal.params::dots_or_type-returns-clause-reads
 unfolding look_of begins_below whole rule items statements expressions patterns types paths there_at shift passes is_silent begins in_mode anew row one_of any_of no_longer longest is_longer
-params::dots_or_type-returns-clause-reads t c = λ cond. reads-here (saw-so (c.at_new_dots.ensures.sees cond) c.if-at_new_dots.false and nothing) (after-look cond c.at_new_dots.ensures.peeks.same (c.expect_type.ensures.reads cond))
+params::dots_or_type-returns-clause-reads t c = λ cond. reads-here (saw-so (c.at_new_dots.ensures.sees cond) c.if-at_new_dots.false and nothing) (after-look cond c.at_new_dots.ensures.peeks.same (c.expect_part.ensures.reads cond))

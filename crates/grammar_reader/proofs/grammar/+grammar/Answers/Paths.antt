@@ -94,17 +94,6 @@ pub paths::path_with_args-returns-clause-gives : goal.paths::path_with_args-retu
 paths::path_with_args-returns-clause-gives t c = λ cond. gives-anew (subst (λ (r : Rule). Anew cond r c.args.p.now c.abandon.new.p) (sym (path-row c.args.mode))
     (anew-completes c.start-frame.ensures.opens (completes-then (c.first_segment.ensures.reads cond) (completes-leave (c.next_segments-frame.ensures.reads cond) c.abandon.ensures.leaves))))
 
-pub paths::opt_generic_args-generic_args-requires : goal.paths::opt_generic_args-generic_args-requires
-paths::opt_generic_args-generic_args-requires t c = (omega arith, ((λ d. saw-after c.at_generic_args.ensures.peeks.same (saw-so (c.at_generic_args.ensures.sees d) c.if-at_generic_args.true)), omega (arith, c.at_generic_args.ensures.some c.if-at_generic_args.true, c.at_generic_args.ensures.peeks.left)))
-
-pub paths::opt_generic_args-returns-then-at_generic_args-clause-reads : goal.paths::opt_generic_args-returns-then-at_generic_args-clause-reads
-unfolding look_of begins_below whole rule items statements expressions patterns types paths there_at shift passes is_silent begins in_mode anew row one_of any_of no_longer longest is_longer
-paths::opt_generic_args-returns-then-at_generic_args-clause-reads t c = λ cond. reads-here (begun rules.generic_args (saw-so (c.at_generic_args.ensures.sees cond) c.if-at_generic_args.true) nothing) (after-look cond c.at_generic_args.ensures.peeks.same (reads-call cond (c.generic_args.ensures.gives cond)))
-
-pub paths::opt_generic_args-returns-else-at_generic_args-clause-reads : goal.paths::opt_generic_args-returns-else-at_generic_args-clause-reads
-unfolding look_of begins_below whole rule items statements expressions patterns types paths there_at shift passes is_silent begins in_mode anew row one_of any_of no_longer longest is_longer
-paths::opt_generic_args-returns-else-at_generic_args-clause-reads t c = λ cond. reads-here (begun rules.generic_args (saw-so (c.at_generic_args.ensures.sees cond) c.if-at_generic_args.false) nothing) (reads-nothing cond c.at_generic_args.ensures.peeks.same)
-
 pub paths::paren_args-opt_colons_before_paren-requires : goal.paths::paren_args-opt_colons_before_paren-requires
 paths::paren_args-opt_colons_before_paren-requires t c = record { begins = record { sees = λ d. saw-inside c.start-list.ensures.opens (c.requires.begins.sees d); some = omega (arith, c.requires.begins.some, c.start-list.ensures.stays.left) } }
 
@@ -165,14 +154,14 @@ pub paths::qualifier-returns-clause-reads : goal.paths::qualifier-returns-clause
 paths::qualifier-returns-clause-reads t c = λ cond. reads-node cond c.start-path.ensures.opens (reads-node cond c.start-segment.ensures.opens (c.anchor.ensures.reads cond) c.complete.ensures.closes) c.complete-2.ensures.closes
 
 pub paths::anchor-complete-requires : goal.paths::anchor-complete-requires
-paths::anchor-complete-requires t c = (c.expect.ensures.reads true).does.innermost _ ((c.opt_as_trait.ensures.reads true).does.innermost _ ((c.expect_type.ensures.reads true).does.innermost _ ((c.take.ensures.reads true).does.innermost _ c.start-node.ensures.marker)))
+paths::anchor-complete-requires t c = (c.expect.ensures.reads true).does.innermost _ ((c.opt_as_trait.ensures.reads true).does.innermost _ ((c.expect_part.ensures.reads true).does.innermost _ ((c.take.ensures.reads true).does.innermost _ c.start-node.ensures.marker)))
 
 pub paths::anchor-returns-clause-reads : goal.paths::anchor-returns-clause-reads
-paths::anchor-returns-clause-reads t c = λ cond. reads-node _ c.start-node.ensures.opens (reads-then _ (c.take.ensures.reads cond) (reads-then _ (c.expect_type.ensures.reads cond) (reads-then _ (c.opt_as_trait.ensures.reads cond) (c.expect.ensures.reads cond)))) c.complete.ensures.closes
+paths::anchor-returns-clause-reads t c = λ cond. reads-node _ c.start-node.ensures.opens (reads-then _ (c.take.ensures.reads cond) (reads-then _ (c.expect_part.ensures.reads cond) (reads-then _ (c.opt_as_trait.ensures.reads cond) (c.expect.ensures.reads cond)))) c.complete.ensures.closes
 
 pub paths::opt_as_trait-returns-then-at-clause-reads : goal.paths::opt_as_trait-returns-then-at-clause-reads
 unfolding look_of begins_below whole rule items statements expressions patterns types paths there_at shift passes is_silent begins in_mode anew row one_of any_of no_longer longest is_longer
-paths::opt_as_trait-returns-then-at-clause-reads t c = λ cond. reads-opt _ (saw-so (c.at.ensures.sees cond) c.if-at.true) (after-look _ c.at.ensures.peeks.same (reads-then _ (c.take.ensures.reads cond) (c.expect_path_type.ensures.reads cond)))
+paths::opt_as_trait-returns-then-at-clause-reads t c = λ cond. reads-opt _ (saw-so (c.at.ensures.sees cond) c.if-at.true) (after-look _ c.at.ensures.peeks.same (reads-then _ (c.take.ensures.reads cond) (c.expect_part.ensures.reads cond)))
 
 pub paths::opt_as_trait-returns-else-at-clause-reads : goal.paths::opt_as_trait-returns-else-at-clause-reads
 unfolding look_of begins_below whole rule items statements expressions patterns types paths there_at shift passes is_silent begins in_mode anew row one_of any_of no_longer longest is_longer

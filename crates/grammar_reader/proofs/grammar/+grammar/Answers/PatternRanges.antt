@@ -10,7 +10,7 @@ use Rattle.rust_grammar.specs.Statements.{statements}
 use Rattle.rust_grammar.specs.Types.{types}
 use Rattle.rust_grammar.specs.Whole.{rule, whole}
 use Rattle.rust_productions.proofs.ByHand.{after-look, completes-leave, goes, reads-call, reads-more, reads-node, reads-nothing, reads-then, reads-wrap}
-use Rattle.rust_productions.proofs.Choices.{anew-completes, gives-anew, reads-here}
+use Rattle.rust_productions.proofs.Choices.{anew-completes, gives-anew, reads-here, anew-after}
 use Rattle.std.proofs.Common.{arith, refl, true}
 use Rattle.rust_productions.specs.Reads.{looks}
 use Rattle.rust_productions.proofs.Facts.{nothing, saw-so, ◌and◌}

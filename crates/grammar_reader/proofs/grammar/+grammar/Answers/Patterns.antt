@@ -1,16 +1,17 @@
 -- Patterns, arm by arm.
 use Rattle.std.proofs.Common.{Bool, true, refl, subst, arith}
+use Rattle.parser_input.specs.Kinds as kinds
 use Rattle.rust_grammar.specs.Calls.{SinglePattern}
 use Rattle.rust_grammar.specs.Notation.{◌▸◌, ◌!, next, wide}
 use Rattle.rust_grammar.specs.Rule as rules
-use Rattle.rust_grammar.specs.Rule.{Look, One}
-use Rattle.rust_grammar.specs.Words.{'|', '<'}
+use Rattle.rust_grammar.specs.Rule.{Look, One, Kind, spelled_at}
+use Rattle.rust_grammar.specs.Words.{'|', '<', 'dots'}
 use Rattle.rust_grammar.specs.Expressions.{expressions}
 use Rattle.rust_grammar.specs.Items.{items}
 use Rattle.rust_grammar.specs.Meaning.{begins_below, look_of}
 use Rattle.rust_grammar.specs.Notation.{any_of, is_longer, no_longer, longest, one_of, row}
 use Rattle.rust_grammar.specs.Paths.{paths}
-use Rattle.rust_grammar.specs.Patterns.{patterns}
+use Rattle.rust_grammar.specs.Patterns.{patterns, open_range_begins}
 use Rattle.rust_grammar.specs.Rule.{begins, in_mode, anew, is_silent, passes, shift, there_at}
 use Rattle.rust_grammar.specs.Statements.{statements}
 use Rattle.rust_grammar.specs.Types.{types}
@@ -19,13 +20,14 @@ use Rattle.grammar_reader.specs.declared.grammar.paths.Mode.TheVariants as modes
 use Rattle.grammar_reader.proofs.PathArgs.{paths-begin, reads-flat}
 use Rattle.rust_productions.specs.Looks.{tokens}
 use Rattle.rust_productions.specs.Reads.{looks, Saw}
-use Rattle.rust_productions.proofs.ByHand.{after-look, completes-leave, does-then, reads-call, reads-node, reads-nothing, reads-then, reads-wrap, does-nothing}
-use Rattle.rust_productions.proofs.Choices.{anew-completes, gives-anew, reads-here}
+use Rattle.rust_productions.proofs.ByHand.{after-look, completes-leave, does-then, reads-call, reads-node, reads-nothing, reads-then, reads-wrap, does-nothing, reads-more, goes}
+use Rattle.rust_productions.proofs.Choices.{anew-completes, gives-anew, reads-here, anew-after, anew-inside}
 use Rattle.rust_productions.proofs.Facts.{begun, nothing, saw-so, ◌and◌}
 use Rattle.rust_productions.proofs.Looking.{saw-arm, saw-not}
-use Rattle.rust_productions.proofs.Seen.{begins-else, ends-at-end, saw-left, saw-after, saw-before, saw-inside, saw-else}
+use Rattle.rust_productions.proofs.Seen.{begins-else, ends-at-end, saw-left, saw-after, saw-before, saw-inside, saw-else, saw-none}
 use Rattle.rust_productions.proofs.Turns.{last-turn, next-turn}
 use Rattle.grammar_reader.proofs.Parts.{reads-in-turn}
+use Rattle.grammar_reader.proofs.Seeing.{gives-look}
 use Rattle.grammar_reader.proofs.grammar.+grammar.Goals as goal
 
 pub patterns::inside-returns-in-MINUS-clause-reads : goal.patterns::inside-returns-in-MINUS-clause-reads
@@ -63,13 +65,13 @@ patterns::inside-returns-in-AMP-clause-takes t c = record {
 
 pub patterns::inside-returns-in-L_BRACK-clause-reads : goal.patterns::inside-returns-in-L_BRACK-clause-reads
 unfolding look_of begins_below whole rule items statements expressions patterns types paths there_at shift passes is_silent begins in_mode anew row one_of any_of no_longer longest is_longer
-patterns::inside-returns-in-L_BRACK-clause-reads t c = λ cond. reads-here (saw-arm c.in-L_BRACK.is (c.current.ensures.sees cond) and nothing) (after-look cond c.current.ensures.peeks.same (c.slice_pat.ensures.reads cond))
+patterns::inside-returns-in-L_BRACK-clause-reads t c = λ cond. reads-here (saw-arm c.in-L_BRACK.is (c.current.ensures.sees cond) and nothing) (after-look cond c.current.ensures.peeks.same (c.list.ensures.reads cond))
 
 pub patterns::inside-returns-in-L_BRACK-clause-takes : goal.patterns::inside-returns-in-L_BRACK-clause-takes
 patterns::inside-returns-in-L_BRACK-clause-takes t c = record {
   left = omega arith;
   looks = omega arith;
-  marker = (c.slice_pat.ensures.reads true).does.innermost _ (c.current.ensures.peeks.same.innermost _ c.requires.innermost);
+  marker = (c.list.ensures.reads true).does.innermost _ (c.current.ensures.peeks.same.innermost _ c.requires.innermost);
 }
 
 pub patterns::inside-returns-in-REF_KW-clause-reads : goal.patterns::inside-returns-in-REF_KW-clause-reads
@@ -97,11 +99,11 @@ patterns::inside-returns-in-MUT_KW-clause-takes t c = record {
 pub patterns::inside-returns-then-at_paren_before_dots : goal.patterns::inside-returns-then-at_paren_before_dots
 unfolding look_of begins_below whole rule items statements expressions patterns types paths there_at shift passes is_silent begins in_mode anew row one_of any_of no_longer longest is_longer
 patterns::inside-returns-then-at_paren_before_dots t c = record {
-  reads = λ cond. reads-here (saw-arm c.in-L_PAREN.is (c.current.ensures.sees cond) and saw-before c.current.ensures.peeks.same (saw-so (c.at_paren_before_dots.ensures.sees cond) c.if-at_paren_before_dots.true) and nothing) (after-look cond c.current.ensures.peeks.same (after-look cond c.at_paren_before_dots.ensures.peeks.same (c.tuple_pat.ensures.reads cond)));
+  reads = λ cond. reads-here (saw-arm c.in-L_PAREN.is (c.current.ensures.sees cond) and saw-before c.current.ensures.peeks.same (saw-so (c.at_paren_before_dots.ensures.sees cond) c.if-at_paren_before_dots.true) and nothing) (after-look cond c.current.ensures.peeks.same (after-look cond c.at_paren_before_dots.ensures.peeks.same (c.list-then-at_paren_before_dots.ensures.reads cond)));
   takes = record {
-    left = omega (arith, c.tuple_pat.ensures.takes.left, c.at_paren_before_dots.ensures.peeks.left, c.current.ensures.peeks.left);
-    looks = omega (arith, c.tuple_pat.ensures.takes.looks, c.at_paren_before_dots.ensures.peeks.looks, c.current.ensures.peeks.looks);
-    marker = (c.tuple_pat.ensures.reads true).does.innermost _ (c.at_paren_before_dots.ensures.peeks.same.innermost _ (c.current.ensures.peeks.same.innermost _ c.requires.innermost));
+    left = omega (arith, c.list-then-at_paren_before_dots.ensures.takes.left, c.at_paren_before_dots.ensures.peeks.left, c.current.ensures.peeks.left);
+    looks = omega (arith, c.list-then-at_paren_before_dots.ensures.takes.looks, c.at_paren_before_dots.ensures.peeks.looks, c.current.ensures.peeks.looks);
+    marker = (c.list-then-at_paren_before_dots.ensures.reads true).does.innermost _ (c.at_paren_before_dots.ensures.peeks.same.innermost _ (c.current.ensures.peeks.same.innermost _ c.requires.innermost));
   };
 }
 
@@ -172,45 +174,11 @@ patterns::inside-path_pat-requires t c =
       ),
     )
 
-pub patterns::expect_single-single_pattern-requires : goal.patterns::expect_single-single_pattern-requires
-patterns::expect_single-single_pattern-requires t c = (omega arith, (λ d. saw-after c.at_single_pattern.ensures.peeks.same (saw-so (c.at_single_pattern.ensures.sees d) c.if-at_single_pattern.true), omega (arith, c.at_single_pattern.ensures.some c.if-at_single_pattern.true, c.at_single_pattern.ensures.peeks.left)))
-
-pub patterns::expect_single-returns-then-at_single_pattern-clause-reads : goal.patterns::expect_single-returns-then-at_single_pattern-clause-reads
-unfolding look_of begins_below whole rule items statements expressions patterns types paths there_at shift passes is_silent begins in_mode anew row one_of any_of no_longer longest is_longer
-patterns::expect_single-returns-then-at_single_pattern-clause-reads t c = λ cond. reads-here (begun rules.single_pattern (saw-so (c.at_single_pattern.ensures.sees cond) c.if-at_single_pattern.true) nothing) (after-look cond c.at_single_pattern.ensures.peeks.same (reads-call cond (c.single_pattern.ensures.gives cond)))
-
-pub patterns::expect_single-returns-clause-reads : goal.patterns::expect_single-returns-clause-reads
-unfolding look_of begins_below whole rule items statements expressions patterns types paths there_at shift passes is_silent begins in_mode anew row one_of any_of no_longer longest is_longer
-patterns::expect_single-returns-clause-reads t c = λ cond. reads-here (begun rules.single_pattern (saw-so (c.at_single_pattern.ensures.sees cond) c.if-at_single_pattern.false) nothing) (after-look cond c.at_single_pattern.ensures.peeks.same (c.error.ensures.reads cond))
-
-pub or_patterns::expect_pattern-pattern-requires : goal.or_patterns::expect_pattern-pattern-requires
-or_patterns::expect_pattern-pattern-requires t c = (omega arith, (λ d. saw-after c.at_pattern.ensures.peeks.same (saw-so (c.at_pattern.ensures.sees d) c.if-at_pattern.true), omega (arith, c.at_pattern.ensures.some c.if-at_pattern.true, c.at_pattern.ensures.peeks.left)))
-
-pub or_patterns::expect_pattern-returns-then-at_pattern-clause-reads : goal.or_patterns::expect_pattern-returns-then-at_pattern-clause-reads
-unfolding look_of begins_below whole rule items statements expressions patterns types paths there_at shift passes is_silent begins in_mode anew row one_of any_of no_longer longest is_longer
-or_patterns::expect_pattern-returns-then-at_pattern-clause-reads t c = λ cond. reads-here (begun rules.pattern (saw-so (c.at_pattern.ensures.sees cond) c.if-at_pattern.true) nothing) (after-look cond c.at_pattern.ensures.peeks.same (reads-call cond (c.pattern.ensures.gives cond)))
-
-pub or_patterns::expect_pattern-returns-clause-reads : goal.or_patterns::expect_pattern-returns-clause-reads
-unfolding look_of begins_below whole rule items statements expressions patterns types paths there_at shift passes is_silent begins in_mode anew row one_of any_of no_longer longest is_longer
-or_patterns::expect_pattern-returns-clause-reads t c = λ cond. reads-here (begun rules.pattern (saw-so (c.at_pattern.ensures.sees cond) c.if-at_pattern.false) nothing) (after-look cond c.at_pattern.ensures.peeks.same (c.error.ensures.reads cond))
-
 pub patterns::ref_pat-complete-requires : goal.patterns::ref_pat-complete-requires
-patterns::ref_pat-complete-requires t c = ((c.expect_single.ensures.reads true).does.innermost _ ((c.eat.ensures.reads true).does.innermost _ ((c.take.ensures.reads true).does.innermost _ c.start-node.ensures.marker)))
+patterns::ref_pat-complete-requires t c = ((c.expect_part.ensures.reads true).does.innermost _ ((c.eat.ensures.reads true).does.innermost _ ((c.take.ensures.reads true).does.innermost _ c.start-node.ensures.marker)))
 
 pub patterns::ref_pat-returns-clause-reads : goal.patterns::ref_pat-returns-clause-reads
-patterns::ref_pat-returns-clause-reads t c = λ cond. reads-node cond c.start-node.ensures.opens (reads-then cond (c.take.ensures.reads cond) (reads-then cond (c.eat.ensures.reads cond) (c.expect_single.ensures.reads cond))) c.complete.ensures.closes
-
-pub patterns::slice_pat-complete-requires : goal.patterns::slice_pat-complete-requires
-patterns::slice_pat-complete-requires t c = ((c.rest_of_list.ensures.reads true).does.innermost _ ((c.take.ensures.reads true).does.innermost _ c.start-node.ensures.marker))
-
-pub patterns::slice_pat-returns-clause-reads : goal.patterns::slice_pat-returns-clause-reads
-patterns::slice_pat-returns-clause-reads t c = λ cond. reads-node cond c.start-node.ensures.opens (reads-then cond (c.take.ensures.reads cond) (c.rest_of_list.ensures.reads cond)) c.complete.ensures.closes
-
-pub patterns::tuple_pat-complete-requires : goal.patterns::tuple_pat-complete-requires
-patterns::tuple_pat-complete-requires t c = ((c.rest_of_list.ensures.reads true).does.innermost _ ((c.take.ensures.reads true).does.innermost _ c.start-node.ensures.marker))
-
-pub patterns::tuple_pat-returns-clause-reads : goal.patterns::tuple_pat-returns-clause-reads
-patterns::tuple_pat-returns-clause-reads t c = λ cond. reads-node cond c.start-node.ensures.opens (reads-then cond (c.take.ensures.reads cond) (c.rest_of_list.ensures.reads cond)) c.complete.ensures.closes
+patterns::ref_pat-returns-clause-reads t c = λ cond. reads-node cond c.start-node.ensures.opens (reads-then cond (c.take.ensures.reads cond) (reads-then cond (c.eat.ensures.reads cond) (c.expect_part.ensures.reads cond))) c.complete.ensures.closes
 
 pub patterns::ident_pat-complete-requires : goal.patterns::ident_pat-complete-requires
 patterns::ident_pat-complete-requires t c = ((c.opt_at.ensures.reads true).does.innermost _ ((c.name.ensures.gives true).does.innermost _ c.start-node.ensures.marker))
@@ -232,7 +200,7 @@ patterns::ident_after_ref-returns-clause-reads t c = λ cond. reads-node cond c.
 
 pub patterns::opt_at-returns-then-at-clause-reads : goal.patterns::opt_at-returns-then-at-clause-reads
 unfolding look_of begins_below whole rule items statements expressions patterns types paths there_at shift passes is_silent begins in_mode anew row one_of any_of no_longer longest is_longer
-patterns::opt_at-returns-then-at-clause-reads t c = λ cond. reads-here (saw-so (c.at.ensures.sees cond) c.if-at.true and nothing) (after-look cond c.at.ensures.peeks.same (reads-then cond (c.take.ensures.reads cond) (c.expect_single.ensures.reads cond)))
+patterns::opt_at-returns-then-at-clause-reads t c = λ cond. reads-here (saw-so (c.at.ensures.sees cond) c.if-at.true and nothing) (after-look cond c.at.ensures.peeks.same (reads-then cond (c.take.ensures.reads cond) (c.expect_part.ensures.reads cond)))
 
 pub patterns::opt_at-returns-else-at-clause-reads : goal.patterns::opt_at-returns-else-at-clause-reads
 unfolding look_of begins_below whole rule items statements expressions patterns types paths there_at shift passes is_silent begins in_mode anew row one_of any_of no_longer longest is_longer
@@ -248,7 +216,7 @@ pub patterns::after_paren-wrap-requires : goal.patterns::after_paren-wrap-requir
 patterns::after_paren-wrap-requires t c = (c.take.ensures.reads true).does.innermost _ (c.at.ensures.peeks.same.innermost _ c.requires.innermost)
 
 pub patterns::after_paren-tuple_tail-requires : goal.patterns::after_paren-tuple_tail-requires
-patterns::after_paren-tuple_tail-requires t c = (omega arith, (c.expect_pattern.ensures.reads true).does.innermost _ (c.at.ensures.peeks.same.innermost _ c.requires.innermost))
+patterns::after_paren-tuple_tail-requires t c = (omega arith, (c.expect_part.ensures.reads true).does.innermost _ (c.at.ensures.peeks.same.innermost _ c.requires.innermost))
 
 pub patterns::after_paren-returns-then-at-clause-reads : goal.patterns::after_paren-returns-then-at-clause-reads
 unfolding look_of begins_below whole rule items statements expressions patterns types paths there_at shift passes is_silent begins in_mode anew row one_of any_of no_longer longest is_longer
@@ -256,7 +224,7 @@ patterns::after_paren-returns-then-at-clause-reads t c = λ cond. reads-here (sa
 
 pub patterns::after_paren-returns-clause-reads : goal.patterns::after_paren-returns-clause-reads
 unfolding look_of begins_below whole rule items statements expressions patterns types paths there_at shift passes is_silent begins in_mode anew row one_of any_of no_longer longest is_longer
-patterns::after_paren-returns-clause-reads t c = λ cond. reads-here (saw-so (c.at.ensures.sees cond) c.if-at.false and nothing) (after-look cond c.at.ensures.peeks.same (reads-then cond (c.expect_pattern.ensures.reads cond) (c.tuple_tail.ensures.reads cond)))
+patterns::after_paren-returns-clause-reads t c = λ cond. reads-here (saw-so (c.at.ensures.sees cond) c.if-at.false and nothing) (after-look cond c.at.ensures.peeks.same (reads-then cond (c.expect_part.ensures.reads cond) (c.tuple_tail.ensures.reads cond)))
 
 pub patterns::path_pat-path_with_args-requires : goal.patterns::path_pat-path_with_args-requires
 patterns::path_pat-path_with_args-requires t c = (omega arith, (c.requires.begins.sees, c.requires.begins.some))
@@ -274,7 +242,7 @@ pub or_patterns::pattern-returns-clause-gives : goal.or_patterns::pattern-return
 or_patterns::pattern-returns-clause-gives t c = λ cond. gives-anew (anew-completes c.start-frame.ensures.opens (completes-leave (c.alternatives-frame.ensures.reads cond) c.abandon.ensures.leaves))
 
 pub or_patterns::alternatives-wrap-requires : goal.or_patterns::alternatives-wrap-requires
-or_patterns::alternatives-wrap-requires t c = (c.further.ensures.reads true).does.innermost _ ((c.expect_single.ensures.reads true).does.innermost _ ((c.take.ensures.reads true).does.innermost _ (c.at.ensures.peeks.same.innermost _ c.requires.innermost)))
+or_patterns::alternatives-wrap-requires t c = (c.further.ensures.reads true).does.innermost _ ((c.expect_part.ensures.reads true).does.innermost _ ((c.take.ensures.reads true).does.innermost _ (c.at.ensures.peeks.same.innermost _ c.requires.innermost)))
 
 pub or_patterns::alternatives-single_pattern-requires : goal.or_patterns::alternatives-single_pattern-requires
 unfolding look_of begins_below whole rule items statements expressions patterns types paths there_at shift passes is_silent begins in_mode anew row one_of any_of no_longer longest is_longer
@@ -285,14 +253,14 @@ or_patterns::alternatives-opt_further-requires t c = (omega arith, (c.single_pat
 
 pub or_patterns::alternatives-returns-then-at-clause-reads : goal.or_patterns::alternatives-returns-then-at-clause-reads
 unfolding look_of begins_below whole rule items statements expressions patterns types paths there_at shift passes is_silent begins in_mode anew row one_of any_of no_longer longest is_longer
-or_patterns::alternatives-returns-then-at-clause-reads t c = λ cond. reads-here (saw-so (c.at.ensures.sees cond) c.if-at.true and nothing) (after-look cond c.at.ensures.peeks.same (reads-then cond (c.take.ensures.reads cond) (reads-then cond (c.expect_single.ensures.reads cond) (reads-wrap cond (c.further.ensures.reads cond) c.wrap.ensures.wraps))))
+or_patterns::alternatives-returns-then-at-clause-reads t c = λ cond. reads-here (saw-so (c.at.ensures.sees cond) c.if-at.true and nothing) (after-look cond c.at.ensures.peeks.same (reads-then cond (c.take.ensures.reads cond) (reads-then cond (c.expect_part.ensures.reads cond) (reads-wrap cond (c.further.ensures.reads cond) c.wrap.ensures.wraps))))
 
 pub or_patterns::alternatives-returns-clause-reads : goal.or_patterns::alternatives-returns-clause-reads
 unfolding look_of begins_below whole rule items statements expressions patterns types paths there_at shift passes is_silent begins in_mode anew row one_of any_of no_longer longest is_longer
 or_patterns::alternatives-returns-clause-reads t c = λ cond. reads-here (saw-so (c.at.ensures.sees cond) c.if-at.false and nothing) (after-look cond c.at.ensures.peeks.same (reads-then cond (reads-call cond (c.single_pattern.ensures.gives cond)) (c.opt_further.ensures.reads cond)))
 
 pub or_patterns::one_further-returns-clause-reads : goal.or_patterns::one_further-returns-clause-reads
-or_patterns::one_further-returns-clause-reads t c = λ cond. reads-then cond (c.take.ensures.reads cond) (c.expect_single.ensures.reads cond)
+or_patterns::one_further-returns-clause-reads t c = λ cond. reads-then cond (c.take.ensures.reads cond) (c.expect_part.ensures.reads cond)
 
 pub or_patterns::further-turns-preserved : goal.or_patterns::further-turns-preserved
 unfolding tokens look_of begins_below whole rule items statements expressions patterns types paths there_at shift passes is_silent begins in_mode anew row one_of any_of no_longer longest is_longer
@@ -354,7 +322,7 @@ patterns::after_path-returns-then-at-clause-reads t c = λ cond. reads-here (saw
 
 pub patterns::after_path-returns-then-at-2-clause-reads : goal.patterns::after_path-returns-then-at-2-clause-reads
 unfolding look_of begins_below whole rule items statements expressions patterns types paths there_at shift passes is_silent begins in_mode anew row one_of any_of no_longer longest is_longer
-patterns::after_path-returns-then-at-2-clause-reads t c = λ cond. reads-here (saw-so (c.at.ensures.sees cond) c.if-at.false and saw-before c.at.ensures.peeks.same (saw-so (c.at-2.ensures.sees cond) c.if-at-2.true) and nothing) (after-look cond c.at.ensures.peeks.same (after-look cond c.at-2.ensures.peeks.same (reads-wrap cond (reads-call cond (c.pattern_fields.ensures.gives cond)) c.wrap-then-at-2.ensures.wraps)))
+patterns::after_path-returns-then-at-2-clause-reads t c = λ cond. reads-here (saw-so (c.at.ensures.sees cond) c.if-at.false and saw-before c.at.ensures.peeks.same (saw-so (c.at-2.ensures.sees cond) c.if-at-2.true) and nothing) (after-look cond c.at.ensures.peeks.same (after-look cond c.at-2.ensures.peeks.same (reads-wrap cond (reads-call cond (gives-anew (anew-after refl (c.list.ensures.reads cond)))) c.wrap-then-at-2.ensures.wraps)))
 
 pub patterns::after_path-returns-then-at_new-clause-reads : goal.patterns::after_path-returns-then-at_new-clause-reads
 unfolding look_of begins_below whole rule items statements expressions patterns types paths there_at shift passes is_silent begins in_mode anew row one_of any_of no_longer longest is_longer
@@ -368,10 +336,49 @@ pub patterns::after_path-wrap-requires : goal.patterns::after_path-wrap-requires
 patterns::after_path-wrap-requires t c = (c.rest_of_list.ensures.reads true).does.innermost _ ((c.take.ensures.reads true).does.innermost _ (c.at.ensures.peeks.same.innermost _ (c.requires.innermost)))
 
 pub patterns::after_path-wrap-requires-then-at-2 : goal.patterns::after_path-wrap-requires-then-at-2
-patterns::after_path-wrap-requires-then-at-2 t c = (c.pattern_fields.ensures.gives true).does.innermost _ (c.at-2.ensures.peeks.same.innermost _ (c.at.ensures.peeks.same.innermost _ (c.requires.innermost)))
+patterns::after_path-wrap-requires-then-at-2 t c = (c.list.ensures.reads true).does.innermost _ (c.at-2.ensures.peeks.same.innermost _ (c.at.ensures.peeks.same.innermost _ (c.requires.innermost)))
 
 pub patterns::after_path-wrap-requires-then-at_new : goal.patterns::after_path-wrap-requires-then-at_new
 patterns::after_path-wrap-requires-then-at_new t c = (c.expect_token_tree.ensures.reads true).does.innermost _ ((c.take-then-at_new.ensures.reads true).does.innermost _ (c.at_new.ensures.peeks.same.innermost _ (c.at-2.ensures.peeks.same.innermost _ (c.at.ensures.peeks.same.innermost _ (c.requires.innermost)))))
 
 pub patterns::after_path-wrap-requires-2 : goal.patterns::after_path-wrap-requires-2
 patterns::after_path-wrap-requires-2 t c = c.at_new.ensures.peeks.same.innermost _ (c.at-2.ensures.peeks.same.innermost _ (c.at.ensures.peeks.same.innermost _ (c.requires.innermost)))
+
+pub patterns::single_or_missing-returns-then-at_single_pattern-clause-gives : goal.patterns::single_or_missing-returns-then-at_single_pattern-clause-gives
+patterns::single_or_missing-returns-then-at_single_pattern-clause-gives t c = λ cond. gives-look c.at_single_pattern.ensures.peeks.same (c.single_pattern.ensures.gives cond)
+
+pub patterns::single_or_missing-returns-clause-gives : goal.patterns::single_or_missing-returns-clause-gives
+patterns::single_or_missing-returns-clause-gives t c = λ cond. gives-look c.at_single_pattern.ensures.peeks.same (c.missing_single.ensures.gives cond)
+
+pub patterns::single_or_missing-single_pattern-requires : goal.patterns::single_or_missing-single_pattern-requires
+patterns::single_or_missing-single_pattern-requires t c = (omega arith, ((λ d. saw-after c.at_single_pattern.ensures.peeks.same (saw-so (c.at_single_pattern.ensures.sees d) c.if-at_single_pattern.true)), omega (arith, c.at_single_pattern.ensures.some c.if-at_single_pattern.true, c.at_single_pattern.ensures.peeks.left)))
+
+pub patterns::single_or_missing-missing_single-requires : goal.patterns::single_or_missing-missing_single-requires
+patterns::single_or_missing-missing_single-requires t c = (omega arith, λ d. saw-after c.at_single_pattern.ensures.peeks.same (saw-so (c.at_single_pattern.ensures.sees d) c.if-at_single_pattern.false))
+
+pub patterns::missing_single-after_path-frame-requires : goal.patterns::missing_single-after_path-frame-requires
+patterns::missing_single-after_path-frame-requires t c = (omega arith, (c.missing_expr_path.ensures.gives true).does.innermost _ c.start-frame.ensures.marker)
+
+pub patterns::missing_single-opt_range-frame-requires : goal.patterns::missing_single-opt_range-frame-requires
+patterns::missing_single-opt_range-frame-requires t c = (omega arith, c.after_path-frame.ensures.asks.marker)
+
+pub or_patterns::pattern_or_missing-returns-then-at_pattern-clause-gives : goal.or_patterns::pattern_or_missing-returns-then-at_pattern-clause-gives
+or_patterns::pattern_or_missing-returns-then-at_pattern-clause-gives t c = λ cond. gives-look c.at_pattern.ensures.peeks.same (c.pattern.ensures.gives cond)
+
+pub or_patterns::pattern_or_missing-pattern-requires : goal.or_patterns::pattern_or_missing-pattern-requires
+or_patterns::pattern_or_missing-pattern-requires t c = (omega arith, (λ d. saw-after c.at_pattern.ensures.peeks.same (saw-so (c.at_pattern.ensures.sees d) c.if-at_pattern.true), omega (arith, c.at_pattern.ensures.some c.if-at_pattern.true, c.at_pattern.ensures.peeks.left)))
+
+pub or_patterns::pattern_or_missing-opt_further-frame-requires : goal.or_patterns::pattern_or_missing-opt_further-frame-requires
+or_patterns::pattern_or_missing-opt_further-frame-requires t c = (omega arith, (c.single_or_missing.ensures.gives true).does.innermost _ c.start-frame.ensures.marker)
+
+pub patterns::missing_single-returns-clause-gives : goal.patterns::missing_single-returns-clause-gives
+unfolding look_of begins_below whole rule items statements expressions patterns types paths there_at shift passes is_silent begins in_mode anew row one_of any_of no_longer longest is_longer
+patterns::missing_single-returns-clause-gives t c = λ cond. gives-anew (anew-inside c.start-frame.ensures.opens (reads-here (saw-none (wide open_range_begins) (looks rules.single_pattern) nothing (saw-inside c.start-frame.ensures.opens (c.requires.none cond)) refl and nothing) (reads-then cond (reads-more cond (goes rules.pattern_atom cond (reads-here (begun rules.literal (saw-none (looks rules.literal) (looks rules.single_pattern) nothing (saw-inside c.start-frame.ensures.opens (c.requires.none cond)) refl) (saw-none (Kind 0 kinds.MINUS) (looks rules.single_pattern) nothing (saw-inside c.start-frame.ensures.opens (c.requires.none cond)) refl and saw-none (Kind 0 kinds.UNDERSCORE) (looks rules.single_pattern) nothing (saw-inside c.start-frame.ensures.opens (c.requires.none cond)) refl and saw-none (Kind 0 kinds.AMP) (looks rules.single_pattern) nothing (saw-inside c.start-frame.ensures.opens (c.requires.none cond)) refl and saw-none (Kind 0 kinds.L_PAREN) (looks rules.single_pattern) nothing (saw-inside c.start-frame.ensures.opens (c.requires.none cond)) refl and saw-none (Kind 0 kinds.L_BRACK) (looks rules.single_pattern) nothing (saw-inside c.start-frame.ensures.opens (c.requires.none cond)) refl and saw-none (Kind 0 kinds.REF_KW) (looks rules.single_pattern) nothing (saw-inside c.start-frame.ensures.opens (c.requires.none cond)) refl and saw-none (Kind 0 kinds.MUT_KW) (looks rules.single_pattern) nothing (saw-inside c.start-frame.ensures.opens (c.requires.none cond)) refl and saw-none (Kind 0 kinds.IDENT) (looks rules.single_pattern) nothing (saw-inside c.start-frame.ensures.opens (c.requires.none cond)) refl and saw-none (spelled_at 0 'dots') (looks rules.single_pattern) nothing (saw-inside c.start-frame.ensures.opens (c.requires.none cond)) refl and saw-none (wide (next '<')) (looks rules.single_pattern) nothing (saw-inside c.start-frame.ensures.opens (c.requires.none cond)) refl and nothing)) (reads-then cond (reads-call cond (c.missing_expr_path.ensures.gives cond)) (c.after_path-frame.ensures.reads cond))))) (c.opt_range-frame.ensures.reads cond))) c.abandon.ensures.leaves)
+
+pub or_patterns::pattern_or_missing-returns-clause-gives : goal.or_patterns::pattern_or_missing-returns-clause-gives
+unfolding look_of begins_below whole rule items statements expressions patterns types paths there_at shift passes is_silent begins in_mode anew row one_of any_of no_longer longest is_longer
+or_patterns::pattern_or_missing-returns-clause-gives t c = λ cond. gives-look c.at_pattern.ensures.peeks.same (gives-anew (anew-inside c.start-frame.ensures.opens (reads-here (saw-none (Kind 0 kinds.PIPE) (looks rules.pattern) nothing (saw-inside c.start-frame.ensures.opens (saw-after c.at_pattern.ensures.peeks.same (saw-so (c.at_pattern.ensures.sees cond) c.if-at_pattern.false))) refl and nothing) (reads-then cond (reads-call cond (c.single_or_missing.ensures.gives cond)) (c.opt_further-frame.ensures.reads cond))) c.abandon.ensures.leaves))
+
+pub patterns::missing_single-missing_expr_path-requires : goal.patterns::missing_single-missing_expr_path-requires
+unfolding look_of begins_below whole rule items statements expressions patterns types paths there_at shift passes is_silent begins in_mode anew row one_of any_of no_longer longest is_longer
+patterns::missing_single-missing_expr_path-requires t c = record { none = λ d. saw-inside c.start-frame.ensures.opens (saw-none (looks rules.path) (looks rules.single_pattern) nothing (c.requires.none d) refl) }

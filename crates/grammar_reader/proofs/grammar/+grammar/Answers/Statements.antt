@@ -50,10 +50,10 @@ pub statements::statement-returns-else-at_item-clause-pays : goal.statements::st
 statements::statement-returns-else-at_item-clause-pays t c = λ e. omega (arith, c.current.ensures.peeks.looks, c.at_inner_attribute.ensures.peeks.looks, c.at_item.ensures.peeks.looks, c.expression_statement.ensures.pays (omega (arith, e, c.current.ensures.peeks.left, c.at_inner_attribute.ensures.peeks.left, c.at_item.ensures.peeks.left)))
 
 pub statements::let_stmt-complete-requires : goal.statements::let_stmt-complete-requires
-statements::let_stmt-complete-requires t c = (c.expect.ensures.reads true).does.innermost _ ((c.opt_else.ensures.reads true).does.innermost _ (c.opt_value.ensures.reads.does.innermost _ (c.opt_type.ensures.reads.does.innermost _ ((c.expect_pattern.ensures.reads true).does.innermost _ ((c.take.ensures.reads true).does.innermost _ c.start-node.ensures.marker)))))
+statements::let_stmt-complete-requires t c = (c.expect.ensures.reads true).does.innermost _ ((c.opt_else.ensures.reads true).does.innermost _ (c.opt_value.ensures.reads.does.innermost _ (c.opt_type.ensures.reads.does.innermost _ ((c.expect_part.ensures.reads true).does.innermost _ ((c.take.ensures.reads true).does.innermost _ c.start-node.ensures.marker)))))
 
 pub statements::let_stmt-returns-clause-reads : goal.statements::let_stmt-returns-clause-reads
-statements::let_stmt-returns-clause-reads t c = reads-node false c.start-node.ensures.opens (reads-then false (c.take.ensures.reads false) (reads-then false (c.expect_pattern.ensures.reads false) (reads-then false c.opt_type.ensures.reads (reads-then false c.opt_value.ensures.reads (reads-then false (c.opt_else.ensures.reads false) (c.expect.ensures.reads false)))))) c.complete.ensures.closes
+statements::let_stmt-returns-clause-reads t c = reads-node false c.start-node.ensures.opens (reads-then false (c.take.ensures.reads false) (reads-then false (c.expect_part.ensures.reads false) (reads-then false c.opt_type.ensures.reads (reads-then false c.opt_value.ensures.reads (reads-then false (c.opt_else.ensures.reads false) (c.expect.ensures.reads false)))))) c.complete.ensures.closes
 
 pub statements::opt_else-returns-then-at-clause-reads : goal.statements::opt_else-returns-then-at-clause-reads
 unfolding look_of begins_below whole rule items statements expressions patterns types paths there_at shift passes is_silent begins in_mode anew row one_of any_of no_longer longest is_longer
@@ -64,16 +64,16 @@ unfolding look_of begins_below whole rule items statements expressions patterns 
 statements::opt_else-returns-else-at-clause-reads t c = λ cond. reads-here (saw-so (c.at.ensures.sees cond) c.if-at.false and nothing) (reads-nothing cond c.at.ensures.peeks.same)
 
 pub statements::defer_stmt-complete-requires : goal.statements::defer_stmt-complete-requires
-statements::defer_stmt-complete-requires t c = (c.expect_block.ensures.reads true).does.innermost _ ((c.take.ensures.reads true).does.innermost _ c.start-node.ensures.marker)
+statements::defer_stmt-complete-requires t c = (c.expect_part.ensures.reads true).does.innermost _ ((c.take.ensures.reads true).does.innermost _ c.start-node.ensures.marker)
 
 pub statements::defer_stmt-returns-clause-reads : goal.statements::defer_stmt-returns-clause-reads
-statements::defer_stmt-returns-clause-reads t c = λ cond. reads-node cond c.start-node.ensures.opens (reads-then cond (c.take.ensures.reads cond) (c.expect_block.ensures.reads cond)) c.complete.ensures.closes
+statements::defer_stmt-returns-clause-reads t c = λ cond. reads-node cond c.start-node.ensures.opens (reads-then cond (c.take.ensures.reads cond) (c.expect_part.ensures.reads cond)) c.complete.ensures.closes
 
 pub statements::let_else-complete-requires : goal.statements::let_else-complete-requires
-statements::let_else-complete-requires t c = (c.expect_block.ensures.reads true).does.innermost _ ((c.take.ensures.reads true).does.innermost _ c.start-node.ensures.marker)
+statements::let_else-complete-requires t c = (c.expect_part.ensures.reads true).does.innermost _ ((c.take.ensures.reads true).does.innermost _ c.start-node.ensures.marker)
 
 pub statements::let_else-returns-clause-reads : goal.statements::let_else-returns-clause-reads
-statements::let_else-returns-clause-reads t c = λ cond. reads-node cond c.start-node.ensures.opens (reads-then cond (c.take.ensures.reads cond) (c.expect_block.ensures.reads cond)) c.complete.ensures.closes
+statements::let_else-returns-clause-reads t c = λ cond. reads-node cond c.start-node.ensures.opens (reads-then cond (c.take.ensures.reads cond) (c.expect_part.ensures.reads cond)) c.complete.ensures.closes
 
 pub statements::expression_statement-block_statement-requires : goal.statements::expression_statement-block_statement-requires
 statements::expression_statement-block_statement-requires t c = (omega arith, ((λ d. saw-after c.at_block_like.ensures.peeks.same (saw-so (c.at_block_like.ensures.sees d) c.if-at_block_like.true)), omega (arith, c.requires.some, c.at_block_like.ensures.peeks.left)))

@@ -1,5 +1,5 @@
 -- Traits and implementations, path by path.
-use Rattle.std.proofs.Common.{true, arith}
+use Rattle.std.proofs.Common.{true, arith, refl}
 use Rattle.rust_grammar.specs.Expressions.{expressions}
 use Rattle.rust_grammar.specs.Items.{items}
 use Rattle.rust_grammar.specs.Meaning.{begins_below, look_of}
@@ -11,7 +11,7 @@ use Rattle.rust_grammar.specs.Statements.{statements}
 use Rattle.rust_grammar.specs.Types.{types}
 use Rattle.rust_grammar.specs.Whole.{rule, whole}
 use Rattle.rust_productions.proofs.ByHand.{after-look, completes-wrap, reads-call, reads-then, reads-none, reads-opt}
-use Rattle.rust_productions.proofs.Choices.{reads-here}
+use Rattle.rust_productions.proofs.Choices.{reads-here, gives-anew, anew-after}
 use Rattle.rust_productions.proofs.Facts.{nothing, saw-so, ◌and◌}
 use Rattle.rust_productions.proofs.Given.{reads-two}
 use Rattle.grammar_reader.proofs.grammar.+grammar.Goals as goal
@@ -21,14 +21,6 @@ items::traits::impl_item-unsafe_word-requires t c = record { begins = record { s
 
 pub items::traits::trait_item-unsafe_word-requires : goal.items::traits::trait_item-unsafe_word-requires
 items::traits::trait_item-unsafe_word-requires t c = record { begins = record { sees = c.requires.begins.sees; some = c.requires.begins.some }; word = record { other = λ e. absurd (omega (arith, e)); inside = λ e. absurd (omega (arith, e)) } }
-
-pub items::traits::expect_assoc_items-returns-then-at-clause-reads : goal.items::traits::expect_assoc_items-returns-then-at-clause-reads
-unfolding look_of begins_below whole rule items statements expressions patterns types paths there_at shift passes is_silent begins in_mode anew row one_of any_of no_longer longest is_longer
-items::traits::expect_assoc_items-returns-then-at-clause-reads t c = λ cond. reads-here (saw-so (c.at.ensures.sees cond) c.if-at.true and nothing) (after-look cond c.at.ensures.peeks.same (reads-call cond (c.assoc_items.ensures.gives cond)))
-
-pub items::traits::expect_assoc_items-returns-clause-reads : goal.items::traits::expect_assoc_items-returns-clause-reads
-unfolding look_of begins_below whole rule items statements expressions patterns types paths there_at shift passes is_silent begins in_mode anew row one_of any_of no_longer longest is_longer
-items::traits::expect_assoc_items-returns-clause-reads t c = λ cond. reads-here (saw-so (c.at.ensures.sees cond) c.if-at.false and nothing) (after-look cond c.at.ensures.peeks.same (c.error.ensures.reads cond))
 
 pub items::traits::impl_item-returns-clause-completes : goal.items::traits::impl_item-returns-clause-completes
 items::traits::impl_item-returns-clause-completes t c = completes-wrap (reads-two c.args.condition (c.unsafe_word.ensures.reads c.args.condition) (c.after_impl.ensures.reads c.args.condition)) c.complete.ensures.closes
@@ -49,7 +41,7 @@ pub items::traits::plain_impl-complete-requires : goal.items::traits::plain_impl
 items::traits::plain_impl-complete-requires t c = (c.after_impl.ensures.reads true).does.innermost _ ((c.take.ensures.reads true).does.innermost _ (c.requires.innermost))
 
 pub items::traits::after_impl-returns-clause-reads : goal.items::traits::after_impl-returns-clause-reads
-items::traits::after_impl-returns-clause-reads t c = λ cond. reads-then cond (c.opt_impl_params.ensures.reads cond) (reads-then cond (c.opt_const_before_trait.ensures.reads cond) (reads-then cond (c.opt_negation.ensures.reads cond) (reads-then cond (c.expect_type.ensures.reads cond) (reads-then cond (c.opt_type_after.ensures.reads cond) (reads-then cond (c.opt_where_clause.ensures.reads cond) (c.expect_assoc_items.ensures.reads cond))))))
+items::traits::after_impl-returns-clause-reads t c = λ cond. reads-then cond (c.opt_impl_params.ensures.reads cond) (reads-then cond (c.opt_const_before_trait.ensures.reads cond) (reads-then cond (c.opt_negation.ensures.reads cond) (reads-then cond (c.expect_part.ensures.reads cond) (reads-then cond (c.opt_type_after.ensures.reads cond) (reads-then cond (c.opt_part.ensures.reads cond) (c.expect_part-2.ensures.reads cond))))))
 
 pub items::traits::plain_trait-returns-clause-completes : goal.items::traits::plain_trait-returns-clause-completes
 items::traits::plain_trait-returns-clause-completes t c = λ cond. completes-wrap (reads-then cond (c.take.ensures.reads cond) (c.after_trait.ensures.reads cond)) c.complete.ensures.closes
@@ -58,7 +50,7 @@ pub items::traits::plain_trait-complete-requires : goal.items::traits::plain_tra
 items::traits::plain_trait-complete-requires t c = (c.after_trait.ensures.reads true).does.innermost _ ((c.take.ensures.reads true).does.innermost _ (c.requires.innermost))
 
 pub items::traits::after_trait-returns-clause-reads : goal.items::traits::after_trait-returns-clause-reads
-items::traits::after_trait-returns-clause-reads t c = λ cond. reads-then cond (c.expect_name.ensures.reads cond) (reads-then cond (c.opt_generic_params.ensures.reads cond) (c.trait_body.ensures.reads cond))
+items::traits::after_trait-returns-clause-reads t c = λ cond. reads-then cond (c.expect_name.ensures.reads cond) (reads-then cond (c.opt_part.ensures.reads cond) (c.trait_body.ensures.reads cond))
 
 pub items::traits::trait_body-returns-then-at_new-clause-reads : goal.items::traits::trait_body-returns-then-at_new-clause-reads
 unfolding look_of begins_below whole rule items statements expressions patterns types paths there_at shift passes is_silent begins in_mode anew row one_of any_of no_longer longest is_longer
@@ -69,14 +61,14 @@ unfolding look_of begins_below whole rule items statements expressions patterns 
 items::traits::trait_body-returns-clause-reads t c = λ cond. reads-here (saw-so (c.at_new.ensures.sees cond) c.if-at_new.false and nothing) (after-look cond c.at_new.ensures.peeks.same (c.trait_items.ensures.reads cond))
 
 pub items::traits::alias_bounds-returns-clause-reads : goal.items::traits::alias_bounds-returns-clause-reads
-items::traits::alias_bounds-returns-clause-reads t c = λ cond. reads-then cond (c.take.ensures.reads cond) (reads-then cond (reads-call cond (c.bounds.ensures.gives cond)) (reads-then cond (c.opt_where_clause.ensures.reads cond) (c.expect.ensures.reads cond)))
+items::traits::alias_bounds-returns-clause-reads t c = λ cond. reads-then cond (c.take.ensures.reads cond) (reads-then cond (reads-call cond (c.bounds.ensures.gives cond)) (reads-then cond (c.opt_part.ensures.reads cond) (c.expect.ensures.reads cond)))
 
 pub items::traits::trait_items-returns-clause-reads : goal.items::traits::trait_items-returns-clause-reads
-items::traits::trait_items-returns-clause-reads t c = λ cond. reads-then cond (c.bounds_after_colon.ensures.reads cond) (reads-then cond (c.opt_where_clause.ensures.reads cond) (c.expect_assoc_items.ensures.reads cond))
+items::traits::trait_items-returns-clause-reads t c = λ cond. reads-then cond (c.bounds_after_colon.ensures.reads cond) (reads-then cond (c.opt_part.ensures.reads cond) (c.expect_part.ensures.reads cond))
 
 pub items::traits::opt_impl_params-returns-then-at_impl_params-clause-reads : goal.items::traits::opt_impl_params-returns-then-at_impl_params-clause-reads
 unfolding look_of begins_below whole rule items statements expressions patterns types paths there_at shift passes is_silent begins in_mode anew row one_of any_of no_longer longest is_longer
-items::traits::opt_impl_params-returns-then-at_impl_params-clause-reads t c = λ cond. reads-opt cond (saw-so (c.at_impl_params.ensures.sees cond) c.if-at_impl_params.true) (reads-here (c.at_impl_params.ensures.goes c.if-at_impl_params.true cond and nothing) (after-look cond c.at_impl_params.ensures.peeks.same (reads-call cond (c.generic_params.ensures.gives cond))))
+items::traits::opt_impl_params-returns-then-at_impl_params-clause-reads t c = λ cond. reads-opt cond (saw-so (c.at_impl_params.ensures.sees cond) c.if-at_impl_params.true) (reads-here (c.at_impl_params.ensures.goes c.if-at_impl_params.true cond and nothing) (after-look cond c.at_impl_params.ensures.peeks.same (reads-call cond (gives-anew (anew-after refl (c.list.ensures.reads cond))))))
 
 pub items::traits::opt_impl_params-returns-else-at_impl_params-clause-reads : goal.items::traits::opt_impl_params-returns-else-at_impl_params-clause-reads
 unfolding look_of begins_below whole rule items statements expressions patterns types paths there_at shift passes is_silent begins in_mode anew row one_of any_of no_longer longest is_longer

@@ -114,25 +114,17 @@ types::path_type-complete-requires t c = (c.path_with_args.ensures.gives true).d
 pub types::path_type-returns-clause-reads : goal.types::path_type-returns-clause-reads
 types::path_type-returns-clause-reads t c = λ cond. reads-node cond c.start-node.ensures.opens (reads-call cond (c.path_with_args.ensures.gives cond)) c.complete.ensures.closes
 
-pub types::expect_type-returns-then-at_type-clause-reads : goal.types::expect_type-returns-then-at_type-clause-reads
-unfolding look_of begins_below whole rule items statements expressions patterns types paths there_at shift passes is_silent begins in_mode anew row one_of any_of no_longer longest is_longer
-types::expect_type-returns-then-at_type-clause-reads t c = λ cond. reads-here (begun rules.any_type (saw-so (c.at_type.ensures.sees cond) c.if-at_type.true) nothing) (after-look _ c.at_type.ensures.peeks.same (reads-call _ (c.any_type.ensures.gives cond)))
-
-pub types::expect_type-returns-clause-reads : goal.types::expect_type-returns-clause-reads
-unfolding look_of begins_below whole rule items statements expressions patterns types paths there_at shift passes is_silent begins in_mode anew row one_of any_of no_longer longest is_longer
-types::expect_type-returns-clause-reads t c = λ cond. reads-here (begun rules.any_type (saw-so (c.at_type.ensures.sees cond) c.if-at_type.false) nothing) (after-look _ c.at_type.ensures.peeks.same (c.error.ensures.reads cond))
-
 pub types::ptr_type-complete-requires : goal.types::ptr_type-complete-requires
-types::ptr_type-complete-requires t c = (c.expect_type_no_bounds.ensures.reads true).does.innermost _ ((c.const_or_mut.ensures.reads true).does.innermost _ ((c.take.ensures.reads true).does.innermost _ c.start-node.ensures.marker))
+types::ptr_type-complete-requires t c = (c.expect_part.ensures.reads true).does.innermost _ ((c.const_or_mut.ensures.reads true).does.innermost _ ((c.take.ensures.reads true).does.innermost _ c.start-node.ensures.marker))
 
 pub types::ptr_type-returns-clause-reads : goal.types::ptr_type-returns-clause-reads
-types::ptr_type-returns-clause-reads t c = λ cond. reads-node _ c.start-node.ensures.opens (reads-then _ (c.take.ensures.reads cond) (reads-then _ (c.const_or_mut.ensures.reads cond) (c.expect_type_no_bounds.ensures.reads cond))) c.complete.ensures.closes
+types::ptr_type-returns-clause-reads t c = λ cond. reads-node _ c.start-node.ensures.opens (reads-then _ (c.take.ensures.reads cond) (reads-then _ (c.const_or_mut.ensures.reads cond) (c.expect_part.ensures.reads cond))) c.complete.ensures.closes
 
 pub types::ref_type-complete-requires : goal.types::ref_type-complete-requires
-types::ref_type-complete-requires t c = (c.expect_type_no_bounds.ensures.reads true).does.innermost _ ((c.eat.ensures.reads true).does.innermost _ ((c.opt_lifetime.ensures.reads true).does.innermost _ ((c.take.ensures.reads true).does.innermost _ c.start-node.ensures.marker)))
+types::ref_type-complete-requires t c = (c.expect_part.ensures.reads true).does.innermost _ ((c.eat.ensures.reads true).does.innermost _ ((c.opt_lifetime.ensures.reads true).does.innermost _ ((c.take.ensures.reads true).does.innermost _ c.start-node.ensures.marker)))
 
 pub types::ref_type-returns-clause-reads : goal.types::ref_type-returns-clause-reads
-types::ref_type-returns-clause-reads t c = λ cond. reads-node _ c.start-node.ensures.opens (reads-then _ (c.take.ensures.reads cond) (reads-then _ (c.opt_lifetime.ensures.reads cond) (reads-then _ (c.eat.ensures.reads cond) (c.expect_type_no_bounds.ensures.reads cond)))) c.complete.ensures.closes
+types::ref_type-returns-clause-reads t c = λ cond. reads-node _ c.start-node.ensures.opens (reads-then _ (c.take.ensures.reads cond) (reads-then _ (c.opt_lifetime.ensures.reads cond) (reads-then _ (c.eat.ensures.reads cond) (c.expect_part.ensures.reads cond)))) c.complete.ensures.closes
 
 pub types::paren_type-after_paren-requires : goal.types::paren_type-after_paren-requires
 types::paren_type-after_paren-requires t c = (omega arith, (c.take.ensures.reads true).does.innermost _ c.requires.innermost)
@@ -149,13 +141,13 @@ types::after_paren-returns-then-at-clause-reads t c = λ cond. reads-here (saw-s
 
 pub types::after_paren-returns-clause-reads : goal.types::after_paren-returns-clause-reads
 unfolding look_of begins_below whole rule items statements expressions patterns types paths there_at shift passes is_silent begins in_mode anew row one_of any_of no_longer longest is_longer
-types::after_paren-returns-clause-reads t c = λ cond. reads-here (saw-so (c.at.ensures.sees cond) c.if-at.false and nothing) (after-look _ c.at.ensures.peeks.same (reads-then _ (c.expect_type.ensures.reads cond) (c.tuple_tail.ensures.reads cond)))
+types::after_paren-returns-clause-reads t c = λ cond. reads-here (saw-so (c.at.ensures.sees cond) c.if-at.false and nothing) (after-look _ c.at.ensures.peeks.same (reads-then _ (c.expect_part.ensures.reads cond) (c.tuple_tail.ensures.reads cond)))
 
 pub types::bracket_type-after_element-requires : goal.types::bracket_type-after_element-requires
-types::bracket_type-after_element-requires t c = (omega arith, (c.expect_type.ensures.reads true).does.innermost _ ((c.take.ensures.reads true).does.innermost _ c.requires.innermost))
+types::bracket_type-after_element-requires t c = (omega arith, (c.expect_part.ensures.reads true).does.innermost _ ((c.take.ensures.reads true).does.innermost _ c.requires.innermost))
 
 pub types::bracket_type-returns-clause-reads : goal.types::bracket_type-returns-clause-reads
-types::bracket_type-returns-clause-reads t c = λ cond. reads-then _ (c.take.ensures.reads cond) (reads-then _ (c.expect_type.ensures.reads cond) (c.after_element.ensures.reads cond))
+types::bracket_type-returns-clause-reads t c = λ cond. reads-then _ (c.take.ensures.reads cond) (reads-then _ (c.expect_part.ensures.reads cond) (c.after_element.ensures.reads cond))
 
 pub types::after_element-wrap-requires : goal.types::after_element-wrap-requires
 types::after_element-wrap-requires t c = (c.expect.ensures.reads true).does.innermost _ ((c.array_length.ensures.reads true).does.innermost _ ((c.take.ensures.reads true).does.innermost _ (c.at.ensures.peeks.same.innermost _ c.requires.innermost)))
@@ -175,15 +167,15 @@ pub types::array_length-returns-clause-reads : goal.types::array_length-returns-
 types::array_length-returns-clause-reads t c = λ cond. reads-node cond c.start-node.ensures.opens (reads-mode cond c.expect_expression.ensures.reads) c.complete.ensures.closes
 
 pub types::ret_type-complete-requires : goal.types::ret_type-complete-requires
-types::ret_type-complete-requires t c = (c.expect_type_no_bounds.ensures.reads true).does.innermost _ ((c.take_pair.ensures.reads true 0 0).does.innermost _ c.start-node.ensures.marker)
+types::ret_type-complete-requires t c = (c.expect_part.ensures.reads true).does.innermost _ ((c.take_pair.ensures.reads true 0 0).does.innermost _ c.start-node.ensures.marker)
 
 pub types::ret_type-returns-clause-gives : goal.types::ret_type-returns-clause-gives
 unfolding look_of begins_below whole rule items statements expressions patterns types paths there_at shift passes is_silent begins in_mode anew row one_of any_of no_longer longest is_longer
-types::ret_type-returns-clause-gives t c = λ cond. gives-anew (anew-after refl (reads-node _ c.start-node.ensures.opens (reads-then _ (c.take_pair.ensures.reads cond _ _) (c.expect_type_no_bounds.ensures.reads cond)) c.complete.ensures.closes))
+types::ret_type-returns-clause-gives t c = λ cond. gives-anew (anew-after refl (reads-node _ c.start-node.ensures.opens (reads-then _ (c.take_pair.ensures.reads cond _ _) (c.expect_part.ensures.reads cond)) c.complete.ensures.closes))
 
 pub types::opt_type_after-returns-then-at-clause-reads : goal.types::opt_type_after-returns-then-at-clause-reads
 unfolding look_of begins_below whole rule items statements expressions patterns types paths there_at shift passes is_silent begins in_mode anew row one_of any_of no_longer longest is_longer
-types::opt_type_after-returns-then-at-clause-reads t c = λ cond. reads-opt _ (saw-so (c.at.ensures.sees cond) c.if-at.true) (after-look _ c.at.ensures.peeks.same (reads-then _ (c.take.ensures.reads cond) (c.expect_type.ensures.reads cond)))
+types::opt_type_after-returns-then-at-clause-reads t c = λ cond. reads-opt _ (saw-so (c.at.ensures.sees cond) c.if-at.true) (after-look _ c.at.ensures.peeks.same (reads-then _ (c.take.ensures.reads cond) (c.expect_part.ensures.reads cond)))
 
 pub types::opt_type_after-returns-else-at-clause-reads : goal.types::opt_type_after-returns-else-at-clause-reads
 unfolding look_of begins_below whole rule items statements expressions patterns types paths there_at shift passes is_silent begins in_mode anew row one_of any_of no_longer longest is_longer
@@ -217,17 +209,6 @@ types::bare_or_any-returns-then-at_bare_type-clause-reads t c = λ cond. reads-h
 pub types::bare_or_any-returns-clause-reads : goal.types::bare_or_any-returns-clause-reads
 unfolding look_of begins_below whole rule items statements expressions patterns types paths there_at shift passes is_silent begins in_mode anew row one_of any_of no_longer longest is_longer
 types::bare_or_any-returns-clause-reads t c = λ cond. reads-here (saw-so (c.at_bare_type.ensures.sees cond) c.if-at_bare_type.false and nothing) (after-look _ c.at_bare_type.ensures.peeks.same (reads-more _ (goes rules.any_type _ (c.inside.ensures.reads cond))))
-
-pub types::expect_type_no_bounds-type_no_bounds-requires : goal.types::expect_type_no_bounds-type_no_bounds-requires
-types::expect_type_no_bounds-type_no_bounds-requires t c = (omega arith, record { sees = λ d. saw-after c.at_type_no_bounds.ensures.peeks.same (saw-so (c.at_type_no_bounds.ensures.sees d) c.if-at_type_no_bounds.true); some = omega (arith, c.at_type_no_bounds.ensures.some c.if-at_type_no_bounds.true, c.at_type_no_bounds.ensures.peeks.left) })
-
-pub types::expect_type_no_bounds-returns-then-at_type_no_bounds-clause-reads : goal.types::expect_type_no_bounds-returns-then-at_type_no_bounds-clause-reads
-unfolding look_of begins_below whole rule items statements expressions patterns types paths there_at shift passes is_silent begins in_mode anew row one_of any_of no_longer longest is_longer
-types::expect_type_no_bounds-returns-then-at_type_no_bounds-clause-reads t c = λ cond. reads-here (begun rules.type_no_bounds (saw-so (c.at_type_no_bounds.ensures.sees cond) c.if-at_type_no_bounds.true) nothing) (after-look _ c.at_type_no_bounds.ensures.peeks.same (reads-call _ (c.type_no_bounds.ensures.gives cond)))
-
-pub types::expect_type_no_bounds-returns-clause-reads : goal.types::expect_type_no_bounds-returns-clause-reads
-unfolding look_of begins_below whole rule items statements expressions patterns types paths there_at shift passes is_silent begins in_mode anew row one_of any_of no_longer longest is_longer
-types::expect_type_no_bounds-returns-clause-reads t c = λ cond. reads-here (begun rules.type_no_bounds (saw-so (c.at_type_no_bounds.ensures.sees cond) c.if-at_type_no_bounds.false) nothing) (after-look _ c.at_type_no_bounds.ensures.peeks.same (c.error.ensures.reads cond))
 
 pub types::for_or_path-returns-then-at-clause-reads : goal.types::for_or_path-returns-then-at-clause-reads
 unfolding look_of begins_below whole rule items statements expressions patterns types paths there_at shift passes is_silent begins in_mode anew row one_of any_of no_longer longest is_longer
@@ -271,10 +252,10 @@ types::front_path-returns-clause-takes t c = record {
 }
 
 pub types::for_type-complete-requires : goal.types::for_type-complete-requires
-types::for_type-complete-requires t c = (c.expect_type_no_bounds.ensures.reads true).does.innermost _ ((c.for_binder.ensures.reads true).does.innermost _ c.start-node.ensures.marker)
+types::for_type-complete-requires t c = (c.expect_part.ensures.reads true).does.innermost _ ((c.for_binder.ensures.reads true).does.innermost _ c.start-node.ensures.marker)
 
 pub types::for_type-returns-clause-reads : goal.types::for_type-returns-clause-reads
-types::for_type-returns-clause-reads t c = λ cond. reads-node _ c.start-node.ensures.opens (reads-then _ (c.for_binder.ensures.reads cond) (c.expect_type_no_bounds.ensures.reads cond)) c.complete.ensures.closes
+types::for_type-returns-clause-reads t c = λ cond. reads-node _ c.start-node.ensures.opens (reads-then _ (c.for_binder.ensures.reads cond) (c.expect_part.ensures.reads cond)) c.complete.ensures.closes
 
 pub types::opt_plus_bounds-wrap-frame-requires-then-at : goal.types::opt_plus_bounds-wrap-frame-requires-then-at
 types::opt_plus_bounds-wrap-frame-requires-then-at t c = (c.bounds_after_plus.ensures.reads true).does.innermost _ c.wrap-frame.ensures.marker
@@ -331,14 +312,11 @@ types::inside-returns-else-at_new_type t c = record {
   };
 }
 
-pub types::expect_type-any_type-requires : goal.types::expect_type-any_type-requires
-types::expect_type-any_type-requires t c = (omega arith, record { sees = λ d. saw-after c.at_type.ensures.peeks.same (saw-so (c.at_type.ensures.sees d) c.if-at_type.true); some = omega (arith, c.at_type.ensures.some c.if-at_type.true, c.at_type.ensures.peeks.left) })
-
 pub types::any_type-inside-frame-requires : goal.types::any_type-inside-frame-requires
 types::any_type-inside-frame-requires t c = (omega arith, (record { sees = λ d. saw-inside c.start-frame.ensures.opens (c.requires.begins.sees d); some = omega (arith, c.requires.begins.some, c.start-frame.ensures.stays.left) }, c.start-frame.ensures.marker))
 
 pub types::after_paren-tuple_tail-requires : goal.types::after_paren-tuple_tail-requires
-types::after_paren-tuple_tail-requires t c = (omega arith, (c.expect_type.ensures.reads true).does.innermost _ (c.at.ensures.peeks.same.innermost _ c.requires.innermost))
+types::after_paren-tuple_tail-requires t c = (omega arith, (c.expect_part.ensures.reads true).does.innermost _ (c.at.ensures.peeks.same.innermost _ c.requires.innermost))
 
 pub types::inside-returns-in-STAR-clause-takes : goal.types::inside-returns-in-STAR-clause-takes
 types::inside-returns-in-STAR-clause-takes t c = record {

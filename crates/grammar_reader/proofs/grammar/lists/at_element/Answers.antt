@@ -14,7 +14,6 @@ use Rattle.rust_grammar.specs.Whole.{rule, whole}
 use Rattle.grammar_reader.specs.Told.{element_of, looks_before}
 use Rattle.grammar_reader.specs.declared.grammar.lists.Element.{Element}
 use Rattle.rust_productions.specs.Looks.{spent}
-use Rattle.grammar_reader.proofs.Seeing.{closure-param-begins}
 use Rattle.rust_productions.specs.Reads.{looks, Saw}
 use Rattle.rust_productions.proofs.Ranges.{begins-call}
 use Rattle.grammar_reader.proofs.grammar.lists.at_element.Goals as goal
@@ -32,13 +31,13 @@ returns-in-Captured-clause-peeks c = record {
 
 pub returns-in-ClosureParam-clause-sees : goal.returns-in-ClosureParam-clause-sees
 unfolding begins
-returns-in-ClosureParam-clause-sees c = subst (λ (e : Element). Saw false (begins looks (element_of e)) c.args.p.now c.at_single_pattern.result) (sym c.in-ClosureParam.is) (closure-param-begins (c.at_single_pattern.ensures.sees false))
+returns-in-ClosureParam-clause-sees c = subst (λ (e : Element). Saw false (begins looks (element_of e)) c.args.p.now c.at_closure_param.result) (sym c.in-ClosureParam.is) (c.at_closure_param.ensures.sees false)
 
 pub returns-in-ClosureParam-clause-peeks : goal.returns-in-ClosureParam-clause-peeks
 returns-in-ClosureParam-clause-peeks c = record {
   same = search rules;
   left = omega arith;
-  looks = subst (λ (e : Element). spent c.at_single_pattern.new.p ≤ spent c.args.p.now + looks_before e) (sym c.in-ClosureParam.is) (omega (arith, c.at_single_pattern.ensures.peeks.looks));
+  looks = subst (λ (e : Element). spent c.at_closure_param.new.p ≤ spent c.args.p.now + looks_before e) (sym c.in-ClosureParam.is) (omega (arith, c.at_closure_param.ensures.peeks.looks));
 }
 
 pub returns-in-Expression-clause-sees : goal.returns-in-Expression-clause-sees

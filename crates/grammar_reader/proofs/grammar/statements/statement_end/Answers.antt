@@ -1,4 +1,4 @@
--- What stands after an expression, path by path.
+-- The end of an expression statement, path by path.
 use Rattle.std.proofs.Common.{true, arith}
 use Rattle.rust_grammar.specs.Expressions.{expressions}
 use Rattle.rust_grammar.specs.Items.{items}

@@ -1,4 +1,4 @@
--- By the mark of a range, or by an operand.
+-- A range operator or an operand is next.
 use Rattle.rust_productions.proofs.Ranges.{operation-marked, operation-unmarked}
 use Rattle.rust_productions.proofs.Seen.{saw-before}
 use Rattle.rust_productions.proofs.Peeking.{peeks-then}

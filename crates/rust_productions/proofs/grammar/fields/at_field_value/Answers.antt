@@ -11,33 +11,43 @@ use Rattle.rust_grammar.specs.Statements.{statements}
 use Rattle.rust_grammar.specs.Types.{types}
 use Rattle.rust_grammar.specs.Whole.{rule, whole}
 use Rattle.rust_grammar.specs.Rule as rules
-use Rattle.rust_productions.proofs.Begins.{saw-expr-path}
+use Rattle.rust_productions.proofs.Begins.{saw-expr-path, saw-path-begins, saw-type-path}
 use Rattle.rust_productions.proofs.Facts.{begun, nothing, saw-so, ◌and◌}
-use Rattle.rust_productions.proofs.Seen.{begins-row, saw-before, saw-left, saw-right}
+use Rattle.rust_productions.proofs.Seen.{begins-row, saw-before}
 use Rattle.rust_productions.proofs.Peeking.{peeks-then, peeks-within}
 use Rattle.rust_productions.proofs.grammar.fields.at_field_value.Goals as goal
 
+pub returns-then-at_new-clause-sees : goal.returns-then-at_new-clause-sees
+unfolding look_of begins_below whole rule items statements expressions patterns types paths there_at shift passes is_silent begins in_mode anew row one_of any_of no_longer longest is_longer
+returns-then-at_new-clause-sees c cond = begins-row rules.field_value (saw-so (c.at_new.ensures.sees cond) c.if-at_new.true and nothing) refl
+
+pub returns-then-at_new-clause-peeks : goal.returns-then-at_new-clause-peeks
+returns-then-at_new-clause-peeks c = peeks-within (c.at_new.ensures.peeks) (omega arith)
+
 pub returns-then-at_path-clause-sees : goal.returns-then-at_path-clause-sees
 unfolding look_of begins_below whole rule items statements expressions patterns types paths there_at shift passes is_silent begins in_mode anew row one_of any_of no_longer longest is_longer
-returns-then-at_path-clause-sees c cond = begins-row rules.field_value (begun rules.expr_path (saw-expr-path (saw-so (c.at_path.ensures.sees cond) c.if-at_path.true)) (nothing)) refl
+returns-then-at_path-clause-sees c cond = begins-row rules.field_value (saw-so (c.at_new.ensures.sees cond) c.if-at_new.false and begun rules.type_path (saw-type-path (saw-before c.at_new.ensures.peeks.same (saw-so (c.at_path.ensures.sees cond) c.if-at_path.true))) (begun rules.expr_path (saw-expr-path (saw-before c.at_new.ensures.peeks.same (saw-so (c.at_path.ensures.sees cond) c.if-at_path.true))) (begun rules.path (saw-before c.at_new.ensures.peeks.same (saw-so (c.at_path.ensures.sees cond) c.if-at_path.true)) (saw-path-begins (saw-before c.at_new.ensures.peeks.same (saw-so (c.at_path.ensures.sees cond) c.if-at_path.true)) and nothing)))) refl
+
+pub returns-then-at_path-clause-peeks : goal.returns-then-at_path-clause-peeks
+returns-then-at_path-clause-peeks c = peeks-within (peeks-then c.at_new.ensures.peeks (c.at_path.ensures.peeks)) (omega arith)
 
 pub returns-then-at_named_field-clause-sees : goal.returns-then-at_named_field-clause-sees
 unfolding look_of begins_below whole rule items statements expressions patterns types paths there_at shift passes is_silent begins in_mode anew row one_of any_of no_longer longest is_longer
-returns-then-at_named_field-clause-sees c cond = begins-row rules.field_value (saw-before c.at_path.ensures.peeks.same (saw-so (c.at_named_field.ensures.sees cond) c.if-at_named_field.true) and nothing) refl
+returns-then-at_named_field-clause-sees c cond = begins-row rules.field_value (saw-so (c.at_new.ensures.sees cond) c.if-at_new.false and begun rules.type_path (saw-type-path (saw-before c.at_new.ensures.peeks.same (saw-so (c.at_path.ensures.sees cond) c.if-at_path.false))) (begun rules.expr_path (saw-expr-path (saw-before c.at_new.ensures.peeks.same (saw-so (c.at_path.ensures.sees cond) c.if-at_path.false))) (begun rules.path (saw-before c.at_new.ensures.peeks.same (saw-so (c.at_path.ensures.sees cond) c.if-at_path.false)) (saw-path-begins (saw-before c.at_new.ensures.peeks.same (saw-so (c.at_path.ensures.sees cond) c.if-at_path.false)) and saw-before c.at_new.ensures.peeks.same (saw-before c.at_path.ensures.peeks.same (saw-so (c.at_named_field.ensures.sees cond) c.if-at_named_field.true)) and nothing)))) refl
 
 pub returns-then-at_named_field-clause-peeks : goal.returns-then-at_named_field-clause-peeks
-returns-then-at_named_field-clause-peeks c = peeks-within (peeks-then c.at_path.ensures.peeks c.at_named_field.ensures.peeks) (omega arith)
+returns-then-at_named_field-clause-peeks c = peeks-within (peeks-then c.at_new.ensures.peeks (peeks-then c.at_path.ensures.peeks (c.at_named_field.ensures.peeks))) (omega arith)
 
 pub returns-then-at_pair-clause-sees : goal.returns-then-at_pair-clause-sees
 unfolding look_of begins_below whole rule items statements expressions patterns types paths there_at shift passes is_silent begins in_mode anew row one_of any_of no_longer longest is_longer
-returns-then-at_pair-clause-sees c cond = begins-row rules.field_value (saw-before c.at_path.ensures.peeks.same (saw-before c.at_named_field.ensures.peeks.same (saw-left (saw-so (c.at_pair.ensures.sees cond) c.if-at_pair.true))) and saw-before c.at_path.ensures.peeks.same (saw-before c.at_named_field.ensures.peeks.same (saw-left (saw-right (saw-so (c.at_pair.ensures.sees cond) c.if-at_pair.true)))) and saw-before c.at_path.ensures.peeks.same (saw-before c.at_named_field.ensures.peeks.same (saw-right (saw-right (saw-so (c.at_pair.ensures.sees cond) c.if-at_pair.true)))) and nothing) refl
+returns-then-at_pair-clause-sees c cond = begins-row rules.field_value (saw-so (c.at_new.ensures.sees cond) c.if-at_new.false and begun rules.type_path (saw-type-path (saw-before c.at_new.ensures.peeks.same (saw-so (c.at_path.ensures.sees cond) c.if-at_path.false))) (begun rules.expr_path (saw-expr-path (saw-before c.at_new.ensures.peeks.same (saw-so (c.at_path.ensures.sees cond) c.if-at_path.false))) (begun rules.path (saw-before c.at_new.ensures.peeks.same (saw-so (c.at_path.ensures.sees cond) c.if-at_path.false)) (saw-path-begins (saw-before c.at_new.ensures.peeks.same (saw-so (c.at_path.ensures.sees cond) c.if-at_path.false)) and saw-before c.at_new.ensures.peeks.same (saw-before c.at_path.ensures.peeks.same (saw-so (c.at_named_field.ensures.sees cond) c.if-at_named_field.false)) and saw-before c.at_new.ensures.peeks.same (saw-before c.at_path.ensures.peeks.same (saw-before c.at_named_field.ensures.peeks.same (saw-so (c.at_pair.ensures.sees cond) c.if-at_pair.true))) and nothing)))) refl
 
 pub returns-then-at_pair-clause-peeks : goal.returns-then-at_pair-clause-peeks
-returns-then-at_pair-clause-peeks c = peeks-then c.at_path.ensures.peeks (peeks-then c.at_named_field.ensures.peeks c.at_pair.ensures.peeks)
+returns-then-at_pair-clause-peeks c = peeks-within (peeks-then c.at_new.ensures.peeks (peeks-then c.at_path.ensures.peeks (peeks-then c.at_named_field.ensures.peeks (c.at_pair.ensures.peeks)))) (omega arith)
 
 pub returns-clause-sees : goal.returns-clause-sees
 unfolding look_of begins_below whole rule items statements expressions patterns types paths there_at shift passes is_silent begins in_mode anew row one_of any_of no_longer longest is_longer
-returns-clause-sees c cond = begins-row rules.field_value (begun rules.expr_path (saw-expr-path (saw-so (c.at_path.ensures.sees cond) c.if-at_path.false)) (saw-before c.at_path.ensures.peeks.same (saw-so (c.at_named_field.ensures.sees cond) c.if-at_named_field.false) and saw-before c.at_path.ensures.peeks.same (saw-before c.at_named_field.ensures.peeks.same (saw-so (c.at_pair.ensures.sees cond) c.if-at_pair.false)) and nothing)) refl
+returns-clause-sees c cond = begins-row rules.field_value (saw-so (c.at_new.ensures.sees cond) c.if-at_new.false and begun rules.type_path (saw-type-path (saw-before c.at_new.ensures.peeks.same (saw-so (c.at_path.ensures.sees cond) c.if-at_path.false))) (begun rules.expr_path (saw-expr-path (saw-before c.at_new.ensures.peeks.same (saw-so (c.at_path.ensures.sees cond) c.if-at_path.false))) (begun rules.path (saw-before c.at_new.ensures.peeks.same (saw-so (c.at_path.ensures.sees cond) c.if-at_path.false)) (saw-path-begins (saw-before c.at_new.ensures.peeks.same (saw-so (c.at_path.ensures.sees cond) c.if-at_path.false)) and saw-before c.at_new.ensures.peeks.same (saw-before c.at_path.ensures.peeks.same (saw-so (c.at_named_field.ensures.sees cond) c.if-at_named_field.false)) and saw-before c.at_new.ensures.peeks.same (saw-before c.at_path.ensures.peeks.same (saw-before c.at_named_field.ensures.peeks.same (saw-so (c.at_pair.ensures.sees cond) c.if-at_pair.false))) and nothing)))) refl
 
 pub returns-clause-peeks : goal.returns-clause-peeks
-returns-clause-peeks c = peeks-then c.at_path.ensures.peeks (peeks-then c.at_named_field.ensures.peeks c.at_pair.ensures.peeks)
+returns-clause-peeks c = peeks-within (peeks-then c.at_new.ensures.peeks (peeks-then c.at_path.ensures.peeks (peeks-then c.at_named_field.ensures.peeks (c.at_pair.ensures.peeks)))) (omega arith)

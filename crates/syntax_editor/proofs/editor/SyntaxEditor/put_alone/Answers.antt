@@ -1,4 +1,4 @@
--- Last of all where none is there, else over the first.
+-- At the end if there is none, else over the first.
 use Rattle.std.proofs.Common.{◌≡◌, ◌++◌, [], ◌∷◌, length, map, Some, None, ap, sym, ◌∙◌, get_or, set, rules, arith}
 use Rattle.std.proofs.lemmas.Result.{on_ok_weaker}
 use Rattle.syntax_tree.specs.Handle.{element_of}

@@ -1,4 +1,4 @@
--- The children that were passed are no tokens of the kind.
+-- The children before the current one are not tokens of the kind.
 use Rattle.std.proofs.Common.{◌≡◌}
 use Rattle.std.specs.List.{filter, filter_map}
 use Rattle.rowan.specs.Around.{first}

@@ -1,4 +1,4 @@
--- One number of the way after the other.
+-- One index of the up-path after the other.
 use Rattle.std.proofs.Common.{◌≡◌, ℕ, ◌-◌, ◌∷◌, ◌++◌, take, get_or, ap, sym, ◌∙◌, arith, option_map, Some, None}
 use Rattle.syntax_tree.specs.Element.{Element}
 use Rattle.syntax_tree.specs.Handle.{element_of, standing_at}

@@ -1,4 +1,4 @@
--- Nothing is missed where what lies inside an element is passed over.
+-- No match is missed if the elements inside an element are skipped.
 use Rattle.std.proofs.Common.{◌≡◌, List, ◌∷◌, ◌&&◌, ℕ, true, false, Some, nat_le, ap, sym, ◌∙◌, map, subst}
 use Rattle.std.proofs.lemmas.Bool.{cond-true}
 use Rattle.rowan_green.specs.declared.utility_types.NodeOrToken.TheVariants.{Node}

@@ -1,4 +1,4 @@
--- What a job puts in is the last on the sheet on which the job is made, and on no other.
+-- The executed change is the last of its target tree, and of no other.
 use Rattle.std.proofs.Common.{◌≡◌, ℕ, List, ◌∷◌, ◌++◌, [], Some, refl, sym, ap, ◌∙◌, Option, cond, length, arith}
 use Rattle.syntax_tree.specs.Element.{same_way}
 use Rattle.tree_rewrite.specs.Recorded.{way_of}

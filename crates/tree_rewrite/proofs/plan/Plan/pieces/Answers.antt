@@ -1,4 +1,4 @@
--- The jobs are made one by one, and every admitted order of them ends in the rewritten element.
+-- The planned changes are executed one at a time, and every admitted order leads to the rewritten element.
 use Rattle.std.proofs.Common.{[], None, reverse, refl, subst, sym, ap, ◌∙◌}
 use Rattle.rowan_green.specs.Forest.{Tree}
 use Rattle.rowan.specs.Place.{term_at}

@@ -1,0 +1,270 @@
+//! Labels and words before blocks and closures, and what else of an expression only the whole
+//! language has.
+
+ghost use Rattle.std.specs.Prelude.{◌≤◌, Bool, IsTrue};
+ghost use Rattle.rust_grammar.specs.Expressions as rows;
+ghost use Rattle.rust_grammar.specs.Notation.{wide};
+ghost use Rattle.rust_productions.specs.Looks.{tokens, Takes, Asks, Peeks};
+ghost use Rattle.rust_productions.specs.Reads.{Reads, Saw};
+
+use crate::grammar::names::lifetime;
+use crate::grammar::{
+    at, at_new, at_second, at_third, at_whole, complete, current, eat, expect, nth, start, take,
+};
+use parser_events::parser::Parser;
+use parser_input::syntax_kind::SyntaxKind;
+
+/// Returns `true` if an `async` is next that begins a block.
+fn at_async_block(p: &mut Parser<'_>) -> bool
+    ensures sees { (c : Bool) → Saw c rows.async_block_begins p.old result }
+    ensures some { IsTrue result → 1 ≤ tokens p.old }
+    ensures peeks { Peeks 3 p.old p.new }
+{
+    if !at(p, SyntaxKind::ASYNC_KW) {
+        return false;
+    }
+    match nth(p, 1) {
+        SyntaxKind::L_CURLY | SyntaxKind::GEN_KW => true,
+        SyntaxKind::MOVE_KW => {
+            if at_third(p, SyntaxKind::L_CURLY) {
+                return true;
+            }
+            false
+        }
+        _ => false,
+    }
+}
+
+/// Returns `true` if a `gen` is next that begins a block.
+fn at_gen_block(p: &mut Parser<'_>) -> bool
+    ensures sees { (c : Bool) → Saw c rows.gen_block_begins p.old result }
+    ensures some { IsTrue result → 1 ≤ tokens p.old }
+    ensures peeks { Peeks 3 p.old p.new }
+{
+    if !at(p, SyntaxKind::GEN_KW) {
+        return false;
+    }
+    match nth(p, 1) {
+        SyntaxKind::L_CURLY => true,
+        SyntaxKind::MOVE_KW => {
+            if at_third(p, SyntaxKind::L_CURLY) {
+                return true;
+            }
+            false
+        }
+        _ => false,
+    }
+}
+
+/// Returns `true` if an expression starts here that ends in a block and that only the whole language
+/// has: at a label, or at words before a block.
+pub fn at_new_block(p: &mut Parser<'_>) -> bool
+    ensures sees { (c : Bool) → Saw c (wide rows.new_block_begins) p.old result }
+    ensures some { IsTrue result → 1 ≤ tokens p.old }
+    ensures peeks { Peeks 4 p.old p.new }
+{
+    if !at_whole(p) {
+        return false;
+    }
+    match current(p) {
+        SyntaxKind::LIFETIME_IDENT => {
+            if at_second(p, SyntaxKind::COLON) {
+                return true;
+            }
+            false
+        }
+        SyntaxKind::CONST_KW | SyntaxKind::TRY_KW => {
+            if at_second(p, SyntaxKind::L_CURLY) {
+                return true;
+            }
+            false
+        }
+        SyntaxKind::ASYNC_KW => {
+            if at_async_block(p) {
+                return true;
+            }
+            false
+        }
+        _ => {
+            if at_gen_block(p) {
+                return true;
+            }
+            false
+        }
+    }
+}
+
+/// Returns `true` if a `const` is next that begins a closure.
+fn at_const_closure(p: &mut Parser<'_>) -> bool
+    ensures sees { (c : Bool) → Saw c rows.const_closure_begins p.old result }
+    ensures some { IsTrue result → 1 ≤ tokens p.old }
+    ensures peeks { Peeks 2 p.old p.new }
+{
+    if !at(p, SyntaxKind::CONST_KW) {
+        return false;
+    }
+    match nth(p, 1) {
+        SyntaxKind::PIPE | SyntaxKind::MOVE_KW | SyntaxKind::ASYNC_KW | SyntaxKind::STATIC_KW =>
+            true,
+        _ => false,
+    }
+}
+
+/// Returns `true` if an expression without prefix operators starts here that only the whole language
+/// has: at `let`, at the `<` of a qualified path, at `_`, or at words before a closure.
+pub fn at_new_atom(p: &mut Parser<'_>) -> bool
+    ensures sees { (c : Bool) → Saw c (wide rows.new_atom_begins) p.old result }
+    ensures some { IsTrue result → 1 ≤ tokens p.old }
+    ensures peeks { Peeks 3 p.old p.new }
+{
+    if !at_whole(p) {
+        return false;
+    }
+    match current(p) {
+        SyntaxKind::LET_KW
+        | SyntaxKind::UNDERSCORE
+        | SyntaxKind::ASYNC_KW
+        | SyntaxKind::STATIC_KW => true,
+        SyntaxKind::L_ANGLE => {
+            if at_second(p, SyntaxKind::EQ) {
+                return false;
+            }
+            true
+        }
+        SyntaxKind::FOR_KW => {
+            if at_second(p, SyntaxKind::L_ANGLE) {
+                return true;
+            }
+            false
+        }
+        _ => {
+            if at_const_closure(p) {
+                return true;
+            }
+            false
+        }
+    }
+}
+
+/// Parses the label after `break` or `continue`, in the whole language, if there is one.
+// 'a
+pub fn opt_jump_label(p: &mut Parser<'_>)
+    ensures reads { (c : Bool) → Reads c rows.jump_label p.old p.new }
+    ensures asks { Asks 1 p.old p.new }
+{
+    if at_new(p, SyntaxKind::LIFETIME_IDENT) {
+        lifetime(p);
+    }
+}
+
+/// Parses the label before a loop or a block.
+// 'a:
+pub fn label(p: &mut Parser<'_>)
+    requires some { 1 ≤ tokens p.old }
+    ensures reads { (c : Bool) → Reads c rows.label p.old p.new }
+    ensures takes { Takes 4090 p.old p.new }
+{
+    let label = start(p);
+    lifetime(p);
+    expect(p, SyntaxKind::COLON);
+    complete(p, label, SyntaxKind::LABEL);
+}
+
+/// Takes `gen` and `move` before a closure, or before a block after `async`, if they are there.
+// gen move
+pub fn opt_gen_move(p: &mut Parser<'_>)
+    ensures reads { (c : Bool) → Reads c rows.gen_move p.old p.new }
+    ensures asks { Asks 2 p.old p.new }
+{
+    eat(p, SyntaxKind::GEN_KW);
+    eat(p, SyntaxKind::MOVE_KW);
+}
+
+/// Takes the words before a closure that stand there from `async` on, if they are there.
+// async move
+pub fn opt_async_to_move(p: &mut Parser<'_>)
+    ensures reads { (c : Bool) → Reads c rows.async_to_move p.old p.new }
+    ensures asks { Asks 3 p.old p.new }
+{
+    eat(p, SyntaxKind::ASYNC_KW);
+    opt_gen_move(p);
+}
+
+/// Takes the words before a closure that stand there from `static` on, if they are there.
+// static move
+pub fn opt_static_to_move(p: &mut Parser<'_>)
+    ensures reads { (c : Bool) → Reads c rows.static_to_move p.old p.new }
+    ensures asks { Asks 4 p.old p.new }
+{
+    eat(p, SyntaxKind::STATIC_KW);
+    opt_async_to_move(p);
+}
+
+/// Takes the words before a closure that stand there from `const` on, if they are there.
+// const move
+pub fn opt_const_to_move(p: &mut Parser<'_>)
+    ensures reads { (c : Bool) → Reads c rows.const_to_move p.old p.new }
+    ensures asks { Asks 5 p.old p.new }
+{
+    eat(p, SyntaxKind::CONST_KW);
+    opt_static_to_move(p);
+}
+
+/// Takes `async` and the words after it before a closure or a block.
+// async move
+pub fn words_from_async(p: &mut Parser<'_>)
+    requires some { 1 ≤ tokens p.old }
+    ensures reads { (c : Bool) → Reads c rows.words_from_async p.old p.new }
+    ensures takes { Takes 4090 p.old p.new }
+{
+    take(p, SyntaxKind::ASYNC_KW);
+    opt_gen_move(p);
+}
+
+/// Takes `static` and the words after it before a closure.
+// static move
+pub fn words_from_static(p: &mut Parser<'_>)
+    requires some { 1 ≤ tokens p.old }
+    ensures reads { (c : Bool) → Reads c rows.words_from_static p.old p.new }
+    ensures takes { Takes 4090 p.old p.new }
+{
+    take(p, SyntaxKind::STATIC_KW);
+    opt_async_to_move(p);
+}
+
+/// Takes `const` and the words after it before a closure.
+// const move
+pub fn words_from_const(p: &mut Parser<'_>)
+    requires some { 1 ≤ tokens p.old }
+    ensures reads { (c : Bool) → Reads c rows.words_from_const p.old p.new }
+    ensures takes { Takes 4090 p.old p.new }
+{
+    take(p, SyntaxKind::CONST_KW);
+    opt_static_to_move(p);
+}
+
+/// Takes `gen` and the `move` after it before a block.
+// gen move
+fn words_from_gen(p: &mut Parser<'_>)
+    requires some { 1 ≤ tokens p.old }
+    ensures reads { (c : Bool) → Reads c rows.words_from_gen p.old p.new }
+    ensures takes { Takes 4090 p.old p.new }
+{
+    take(p, SyntaxKind::GEN_KW);
+    eat(p, SyntaxKind::MOVE_KW);
+}
+
+/// Takes the words before a block.
+// async move
+pub fn block_words(p: &mut Parser<'_>)
+    requires some { 1 ≤ tokens p.old }
+    ensures reads { (c : Bool) → Reads c rows.block_words p.old p.new }
+    ensures takes { Takes 4080 p.old p.new }
+{
+    match current(p) {
+        SyntaxKind::CONST_KW => take(p, SyntaxKind::CONST_KW),
+        SyntaxKind::TRY_KW => take(p, SyntaxKind::TRY_KW),
+        SyntaxKind::ASYNC_KW => words_from_async(p),
+        _ => words_from_gen(p),
+    }
+}
