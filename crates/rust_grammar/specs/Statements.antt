@@ -79,8 +79,11 @@ abbrev pub any_item_begins : Look
 any_item_begins = Both (Either item_begins new_item_begins) (Not no_item_begins)
 
 -- a statement that begins with a path of several segments: a macro call in braces needs no `;`
+abbrev pub path_tail : Listing → Rule
+path_tail list = When braced_macro_begins (braced_macro ▸ after_block list) or after_path ▸ (more postfix) * ▸ after_operand ▸ more list.end
+
 abbrev pub long_path_statement : Listing → Rule
-long_path_statement list = ExprPath ▸ (When braced_macro_begins (braced_macro ▸ after_block list) or after_path ▸ (more postfix) * ▸ after_operand ▸ more list.end)
+long_path_statement list = ExprPath ▸ path_tail list
 
 -- a statement that only the whole language has, and where one begins
 abbrev pub new_statement_begins : Look
