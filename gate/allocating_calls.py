@@ -41,6 +41,7 @@ MADE_BY = {
     "rust_source::Source::payload_node": "rust_document::payload",
     "rust_source::Source::payload_statement": "rust_document::payload",
     "rust_source::Source::rename": "rust_document::Document::commit",
+    "rust_source::Source::try_commit": "rust_document::Document::try_commit",
     "rust_source::ancestor_below": "syntax_tree::SyntaxNode::parent",
     "syntax_tree::Element::syntax_element": "syntax_tree::SyntaxNode::syntax_element",
     "syntax_tree::elements::node": "syntax_tree::SyntaxToken::detached",

@@ -53,7 +53,7 @@ reads-let {c} {old} {new} begun is p = which (is-whole old) (saw-whole old)
         let inside = in-condition (saw-else InCondition (looks rules.atom) (is c and w and nothing) begun refl) in
         reads-here (is c and w and nothing) (subst (λ (d : Bool). Reads d let_expr old new) (sym inside) (as-condition (p true)))
 
--- The operators of all layers after an operand, and what stands after those.
+-- The operators of all layers after an operand, and then the tail of the operation.
 pub reads-after-operand : {c : Bool} {old mid new : View} → Reads c (repeated (turns_from 10 1)) old mid → Reads c (Continue rules.operation_tail) mid new → Reads c after_operand old new
 unfolding read turns_from turn_at operators_at operators layer_at layers
 reads-after-operand p q = record { does = does-as (λ s e. refl) (does-then p.does q.does) }

@@ -56,7 +56,7 @@ opens old new h is =
     step opened_here with_node old new h is
     (λ kept at f below eq. record { first = End; below = f ∷ below; are = refl; same = records-start f below })
 
--- so many nodes are open where the innermost node's marker is known
+-- `around + 1` nodes are open if `around` is the model of the innermost node's marker
 around-is : (around : ℕ) (old : Option Kept) → IsInnermost around (nodes_of old) → (kept : Kept) → old ≡ Some kept → (f : Marked) (below : List Marked) → read_back kept ≡ f ∷ below → length below ≡ suc around
 around-is around old inner kept at f below eq =
     sym (ap level eq) ∙ subst (λ (o : Option Kept). IsInnermost around (nodes_of o)) at inner
@@ -186,7 +186,7 @@ just-closed kind around place (Some (f ∷ g ∷ below)) (Some n) inner at h = r
   inside = ap (λ (p : Place). p.inside) at;
 }
 
--- whether the innermost node is the one with so many around it
+-- the innermost node has `around` nodes around it if and only if `around + 1` nodes are open
 pub innermost-tells : (n around : ℕ) (old : Option Kept) → (old ≡ None → ⊥) → IsRecord old → CountsOpen n old → (IsInnermost around (nodes_of old) → n ≡ suc around) × (n ≡ suc around → IsInnermost around (nodes_of old))
 innermost-tells n around None some is counts = absurd (some refl)
 innermost-tells n around (Some o) some is counts =

@@ -101,7 +101,7 @@ rest-cut bs k u within at before =
     let c = cut bs k u within at before in
     sym (ap (λ (n : ℕ). drop n (chars bs)) c.front_is ∙ ap (drop (length (chars (take k bs)))) c.whole_is ∙ drop-append_seam (chars (take k bs)) (chars (drop k bs)))
 
--- what stands from the first dot on begins with it, or is nothing
+-- the text from the first dot on is empty if it does not begin with a dot
 pub dot-first : (rest t : List ℕ) → IsUtf8 rest → chars rest ≡ from_dot t → ((r : List ℕ) → rest ≢ 46 ∷ r) → is_empty (from_dot t) ≡ true
 unfolding from_dot is_empty
 dot-first rest [] u e h = refl

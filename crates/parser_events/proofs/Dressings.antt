@@ -46,7 +46,7 @@ pub step-through : (step : Step) (xs : List Step) (r : Step) (rs : List Step) (s
 step-through step [] r rs s = refl
 step-through step (x ∷ xs) r rs s = refl
 
--- one step, where it puts what stands after the present elements
+-- one step that appends its elements to the present ones
 one-step : (step : Step) (d e : Dressing) (xs : List Step) (r : Step) (rs : List Step) →
     text_steps e.given ≡ text_steps d.given ++ put_by step (reached d) → reached e ≡ after_step step (reached d) →
     through d (step ∷ (xs ++ r ∷ rs)) ≡ through e (xs ++ r ∷ rs)
@@ -108,7 +108,7 @@ each-left : (count inside k : ℕ) (d : Dressing) →
 unfolding put_each put
 each-left count inside k d = refl
 
--- A node is entered: what was put before it, and what stands after its opening.
+-- A node is entered: the trivia outside it comes before its opening, the attached trivia after it.
 enter-node : (k : ℕ) (d : Dressing) (xs : List Step) (r : Step) (rs : List Step) →
     through d (walk.Enter k ∷ (xs ++ r ∷ rs))
     ≡ (text_steps (put_each (length (pending d.left) - attached k (pending d.left)) d).given ++ Enter k ∷ [])

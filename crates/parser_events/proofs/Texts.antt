@@ -81,7 +81,7 @@ one-parts : (t : List ℕ) → take 1 t ++ drop 1 t ≡ t
 one-parts [] = refl
 one-parts (c ∷ t) = refl
 
--- an access put in three pieces
+-- the text of a field access in three pieces
 pieces : (a d b t o g j : List ℕ) → a ++ (d ++ b) ≡ t → ((o ++ ((g ++ ((a ++ []) ++ [])) ++ [])) ++ (d ++ ((b ++ []) ++ []))) ++ j ≡ o ++ (g ++ (t ++ j))
 pieces a d b t o g j e = rw (sym e) simp (append_assoc, append-nil) refl
 

@@ -43,7 +43,7 @@ message_at-message_number forest.ExpectedField = refl
 message_at-message_number forest.UnexpectedTokens = refl
 message_at-message_number forest.IllegalFloat = refl
 
--- One sign of a list that stands for trees: it builds on those that were built before it, of which a node takes two.
+-- One sign of a list that encodes trees. Each sign builds on the trees before it; a node combines two of them.
 pub data Sign : Type 0 where
   Nothing : Sign
   Leaf : (kind count : ℕ) → Sign

@@ -12,13 +12,13 @@ use Rattle.parser_events.specs.Trivia.{pending}
 abbrev pub from_token : List Leaf → List Leaf
 from_token ls = drop (length (pending ls)) ls
 
--- so many leaves stand next, and none of them is white space or a comment
+-- there are `n` leaves next, and none of them is trivia
 abbrev pub is_unbroken : ℕ → List Leaf → Bool
 is_unbroken zero ls = true
 is_unbroken (suc n) [] = false
 is_unbroken (suc n) (l ∷ ls) = not (is_trivia l) && is_unbroken n ls
 
--- a float stands next whose text ends in a dot just where this says so
+-- the first leaf is a float, and its text ends in a dot if and only if `expected` is true
 abbrev pub is_split_at : Bool → List Leaf → Bool
 is_split_at expected [] = false
 is_split_at expected (l ∷ ls) = l.kind == FLOAT_NUMBER && (if expected then ends_in_dot l.text else not (ends_in_dot l.text))
@@ -27,8 +27,8 @@ abbrev pub is_none_left : List Leaf → Bool
 is_none_left [] = true
 is_none_left (l ∷ ls) = false
 
--- The steps take the tokens of the leaves one after another, all of them: no white space or comment stands inside a leaf of
--- several tokens, and a float is split just as its text says.
+-- The steps consume all tokens of the leaves, in order. No trivia is inside a token of several leaves, and a float is
+-- split as its text requires.
 abbrev pub covers : List Step → List Leaf → Bool
 covers [] ls = is_none_left (from_token ls)
 covers (Token kind count ∷ ss) ls = is_unbroken count (from_token ls) && covers ss (drop count (from_token ls))
@@ -41,8 +41,8 @@ abbrev pub is_end : List Step → Bool
 is_end [] = true
 is_end (s ∷ ss) = false
 
--- So many nodes are open inside the root; it is left by the last step alone. A split leaves a node, and what stands after
--- its float is not in that.
+-- Only the last step leaves the root; `level` is the number of nodes open inside it. A split also leaves a node, so the
+-- steps after it are outside of that node.
 abbrev pub leaves_root : ℕ → List Step → Bool
 leaves_root level [] = false
 leaves_root zero (Exit ∷ ss) = is_end ss
@@ -53,7 +53,7 @@ leaves_root level (Enter kind ∷ ss) = leaves_root (suc level) ss
 leaves_root level (Token kind count ∷ ss) = leaves_root level ss
 leaves_root level (Error message ∷ ss) = leaves_root level ss
 
--- one node stands around all
+-- one node is around all steps
 abbrev pub has_one_root : List Step → Bool
 has_one_root [] = false
 has_one_root (Enter kind ∷ ss) = leaves_root 0 ss

@@ -10,7 +10,7 @@ use Rattle.parser_events.specs.Steps as steps
 use Rattle.parser_events.specs.TextSteps.{TextStep, Token, Enter, Exit, Error, leaf_steps}
 use Rattle.parser_events.specs.Trivia.{pending, attached}
 
--- how far the text was put: so many bytes, and these leaves are left
+-- a position in the text: the number of bytes before it, and the leaves after it
 pub record Place : Type 0 where
   pub bytes : ℕ
   pub left : List leaves.Leaf
@@ -24,11 +24,11 @@ place_at ls n =
 abbrev pub after : ℕ → Place → Place
 after count s = record { bytes = s.bytes + length (encode_utf8_all (joined (take count s.left))); left = drop count s.left }
 
--- after the white space and comments that stand next
+-- after the trivia that comes next
 abbrev pub after_pending : Place → Place
 after_pending s = after (length (pending s.left)) s
 
--- how many of the leaves that stand next stand before a node of this kind
+-- the number of the next trivia leaves that are outside a node of this kind
 abbrev pub outside : ℕ → Place → ℕ
 outside kind s = length (pending s.left) - attached kind (pending s.left)
 
@@ -51,8 +51,8 @@ split_steps ends_in_dot place text =
     ∷ Enter NAME_REF ∷ Token INT_NUMBER (drop 1 rest) ∷ Exit ∷ [] in
     if is_empty rest then wrong else (if ends_in_dot then one else two)
 
--- What a step puts. Before a leaf stand all pending white space and comments, before a node those that are not attached to
--- it.
+-- The steps with text for one step. All pending trivia comes before a leaf; before a node, only the trivia that is not
+-- attached to it.
 abbrev pub put_by : steps.Step → Place → List TextStep
 put_by (steps.Token kind count) s =
     let t = after_pending s in leaf_steps (pending s.left) ++ Token kind (joined (take (reach count t.left) t.left)) ∷ []
@@ -70,7 +70,7 @@ put_inside [] s = []
 put_inside (step ∷ []) s = leaf_steps s.left ++ Exit ∷ []
 put_inside (step ∷ next ∷ ss) s = put_by step s ++ put_inside (next ∷ ss) (after_step step s)
 
--- What the steps of one tree put. Nothing stands before the root.
+-- The steps with text for the steps of one tree. No trivia is before the root.
 abbrev pub put_around : List steps.Step → List leaves.Leaf → List TextStep
 put_around [] ls = []
 put_around (steps.Enter kind ∷ ss) ls = Enter kind ∷ put_inside ss (record { bytes = 0; left = ls })

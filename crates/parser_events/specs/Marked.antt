@@ -31,7 +31,7 @@ size (Said m f) = suc (size f)
 size (Node k c f) = suc (size c + size f)
 size (Split e c f) = suc (size c + size f)
 
--- the first trees, which have so many leaves, messages and nodes
+-- the first trees, which have `n` leaves, messages and nodes
 abbrev pub front : ℕ → Marked → Marked
 front zero f = End
 front (suc n) End = End

@@ -43,6 +43,6 @@ event_of (events.Split ends_in_dot start) = nodes.Ended ends_in_dot start
 abbrev pub pending_of : Pending → unwinding.Pending
 pending_of p = record { kind = raw_of p.kind; start = p.start }
 
--- the steps from front to end, and the nodes from the innermost on
+-- the steps in order, and the nodes, the innermost first
 abbrev pub state_of : Unwinding → unwinding.Unwound
 state_of u = record { pending = map pending_of (reverse u.pending.items); laid = map step_of u.steps }

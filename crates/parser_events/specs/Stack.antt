@@ -14,14 +14,14 @@ abbrev pub total_size : List Marked → ℕ
 total_size [] = 0
 total_size (f ∷ below) = size f + total_size below
 
--- This becomes what the change makes of it, unless a growth is refused: then it is none, and stays so.
+-- The change is applied, or an allocation fails: the value is `None` then, and from then on.
 abbrev pub Becomes : {A : Type 0} → (A → A) → Option A → Option A → Type 0
 Becomes change None None = Unit {0}
 Becomes change None (Some new) = ⊥
 Becomes change (Some old) None = Unit {0}
 Becomes change (Some old) (Some new) = new ≡ change old
 
--- a tree stands after those of the innermost node
+-- a tree is appended to those of the innermost node
 abbrev pub with_tree : Marked → List Marked → List Marked
 with_tree tree [] = []
 with_tree tree (f ∷ below) = (f beside tree) ∷ below
@@ -36,7 +36,7 @@ closed kind [] = []
 closed kind (f ∷ []) = f ∷ []
 closed kind (f ∷ around ∷ below) = (around beside Node kind f End) ∷ below
 
--- the innermost node is left out: what it has stands in the one around it
+-- the innermost node is abandoned: its trees become trees of the node around it
 abbrev pub left_out : List Marked → List Marked
 left_out [] = []
 left_out (f ∷ []) = f ∷ []
@@ -47,13 +47,13 @@ abbrev pub split : Bool → List Marked → List Marked
 split ends_in_dot [] = []
 split ends_in_dot (f ∷ below) = Split ends_in_dot f End ∷ below
 
--- A node is opened around the trees of the innermost one that have so many leaves, messages and nodes before them, those
--- of the nodes around counted too.
+-- `CompletedMarker::precede`: opens a node around the last trees of the innermost open node. `before` counts the
+-- leaves, messages and nodes before them, in all open nodes.
 abbrev pub wrapped : ℕ → List Marked → List Marked
 wrapped before [] = []
 wrapped before (f ∷ below) = after (before - total_size below) f ∷ front (before - total_size below) f ∷ below
 
--- The innermost node is the one with so many open nodes around it. Where a growth was refused nothing is asked.
+-- The innermost node has `around` open nodes around it. Nothing is required after an allocation failure.
 abbrev pub IsInnermost : ℕ → Option (List Marked) → Type 0
 IsInnermost around nodes = IfSome nodes (λ open_nodes. level open_nodes ≡ suc around)
 
@@ -61,8 +61,8 @@ IsInnermost around nodes = IfSome nodes (λ open_nodes. level open_nodes ≡ suc
 abbrev pub IsClosed : Option (List Marked) → Type 0
 IsClosed nodes = IfSome nodes (λ open_nodes. level open_nodes ≡ 0)
 
--- A closed node is known by how many leaves, messages and nodes stand before it, those of the open nodes around it counted
--- too, and by how many it has. No two nodes have both the same.
+-- A completed node is identified by the number of leaves, messages and nodes before it, in all open nodes, and the
+-- number inside it. No two nodes have both in common.
 pub record Place : Type 0 where
   pub before : ℕ
   pub inside : ℕ
@@ -84,7 +84,7 @@ pub record IsAmong (place : Place) (nodes : List Marked) : Type 0 where
   pub before : place.before ≡ total_size (earlier ∷ below)
   pub inside : place.inside ≡ size children
 
--- Where a growth was refused nothing is asked.
+-- The node is one of the trees of the innermost open node. Nothing is required after an allocation failure.
 abbrev pub IsChild : Place → Option (List Marked) → Type 0
 IsChild place nodes = IfSome nodes (IsAmong place)
 

@@ -25,8 +25,8 @@ steps (forest.Float ends_in_dot receiver f) =
     let two = Enter FIELD_EXPR ∷ Enter FIELD_EXPR ∷ (steps receiver ++ FloatSplit ends_in_dot ∷ Exit ∷ steps f) in
     if ends_in_dot then one else two
 
--- how many nodes are open after the steps, where so many are open before them; none where a step leaves a node that is
--- not open
+-- the number of open nodes after the steps, with `level` open before them; `None` if a step leaves a node that is not
+-- open
 unfoldable pub level_after : ℕ → List Step → Option ℕ
 level_after level [] = Some level
 level_after level (Token kind count ∷ ss) = level_after level ss

@@ -10,7 +10,7 @@ pub record Pending : Type 0 where
   pub kind : ℕ
   pub start : ℕ
 
--- the nodes, the innermost first, and the steps from front to end
+-- the nodes, the innermost first, and the steps in order
 pub record Unwound : Type 0 where
   pub pending : List Pending
   pub laid : List Step

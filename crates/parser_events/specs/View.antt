@@ -4,15 +4,16 @@ use Rattle.parser_input.specs.Input.{Token}
 use Rattle.parser_events.specs.Marked.{Marked}
 use Rattle.parser_events.specs.Steps.{Step}
 
--- The input, how many of its tokens were taken, the open nodes with the trees that each has so far, the innermost first
--- (none once a growth was refused; the last trees stand outside of all nodes), and how many looks were made.
+-- The input, the number of consumed tokens, the open nodes with the trees that each has so far, and the number of
+-- lookaheads. The innermost node is the first; the last trees are outside of all nodes. There are no nodes after an
+-- allocation failure.
 pub record View : Type 0 where
   pub input : List Token
   pub position : ℕ
   pub nodes : Option (List Marked)
   pub looks : ℕ
 
--- the steps of a parser's trees, and how many looks it made
+-- the steps of a parser's trees, and its number of lookaheads
 pub record Parsed : Type 0 where
   pub steps : List Step
   pub looks : ℕ

@@ -3,8 +3,8 @@
 use crate::message::Message;
 use parser_input::syntax_kind::SyntaxKind;
 
-/// One entry of the record. A node stands after what it holds, so that nothing is recorded where it
-/// is opened, left out, or put around another.
+/// One recorded event. The event of a node comes after those of its descendants, so opening,
+/// abandoning or preceding a node records nothing.
 #[derive(Clone, Copy)]
 pub(crate) enum Event {
     Token {
@@ -14,12 +14,12 @@ pub(crate) enum Event {
     Error {
         msg: Message,
     },
-    /// The node that begins at the entry of number `start` ends here.
+    /// A node ends here. Its first event is at index `start`.
     Close {
         kind: SyntaxKind,
         start: usize,
     },
-    /// The same of a field access, by a float after a dot.
+    /// A field access ends here, inside a float after a dot. Its first event is at index `start`.
     Split {
         ends_in_dot: bool,
         start: usize,

@@ -80,8 +80,8 @@ pub(crate) fn has_one_root(mut steps: Steps<'_>) -> bool
     }
 }
 
-/// The number of the leaf after so many, from one on; none where one of them is white space or a
-/// comment, or the end comes before that.
+/// Returns the index of the leaf after the `n` leaves from `start` on; `None` if one of them is
+/// trivia or fewer than `n` are left.
 fn unbroken_end(lexed: &LexedStr<'_>, start: usize, n: usize) -> Option<usize>
     requires { start ≤ length lexed.now.leaves }
     ensures { MatchOption result (is_unbroken n (drop start (leaves_of lexed.now.leaves)) ≡ false)
@@ -128,8 +128,9 @@ fn is_split_at(lexed: &LexedStr<'_>, expected: bool, i: usize) -> bool
     !ends_in_dot(lexed.text(i))
 }
 
-/// The leaf that a step over so many tokens leads to, from one on; none where white space, a
-/// comment or the end stands between the tokens.
+/// Returns the index of the leaf after a token of `n` leaves, with the trivia from `start` on
+/// skipped before it. Returns `None` if trivia is between the `n` leaves, or if fewer than `n` are
+/// left.
 fn after_token(lexed: &LexedStr<'_>, n: usize, start: usize) -> Option<usize>
     requires { start ≤ length lexed.now.leaves }
     ensures { MatchOption result ((kind : ℕ) → Misfits lexed.now.leaves (steps.Token kind n) start)

@@ -1,9 +1,9 @@
 //! The calls by which a grammar marks its nodes, and the steps of the trees that they make.
 //!
-//! A [`parser::Parser`] reads an input and records trees; a [`parser::Marker`] is a node that is
-//! open and must be spent. [`parser::Parser::finish`] gives an [`output::Output`], whose steps
-//! enter and leave the nodes in order. The definitions also say how a forest is dressed with a
-//! text's own leaves, white space, comments and messages.
+//! A [`parser::Parser`] reads an input and records trees; a [`parser::Marker`] is an open node and
+//! must be consumed. [`parser::Parser::finish`] returns an [`output::Output`], whose steps enter
+//! and leave the nodes in order. The specs also define dressed trees: the trees of a parser with
+//! the leaves of a text, its trivia, and the offset of each message.
 #![tactic(auto)]
 
 mod event;

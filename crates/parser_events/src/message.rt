@@ -1,14 +1,14 @@
-//! What a parser says of a place in its input.
+//! The messages of syntax errors.
 
 use parser_input::syntax_kind::SyntaxKind;
 use std::fmt;
 
-/// What a parser says of a place.
+/// The message of a syntax error.
 #[derive(Clone, Copy, Debug, PartialEq, Eq)]
 pub enum Message {
     /// A token of this kind is missing.
     Expected(SyntaxKind),
-    /// A token that cannot stand in a list of this kind.
+    /// A token that is not allowed in a list of this kind.
     UnexpectedIn(SyntaxKind),
     ExpectedType,
     ExpectedExpression,

@@ -62,10 +62,11 @@ impl Output {
         self.looks
     }
 
-    /// Whether the steps are those of one tree over the leaves of a text: one node stands around
-    /// all, the steps take as many tokens as the text has, no white space or comment stands inside
-    /// a leaf of several tokens, and each split is on a float that ends in a dot just where the
-    /// split says so.
+    /// Returns `true` if the steps are those of one tree over the leaves of `lexed`.
+    ///
+    /// One node is around all steps, and the steps consume every token of the text. No trivia is
+    /// inside a token of several leaves. Each split is at a float, and its `ends_in_dot` is `true`
+    /// if and only if the text of the float ends in a dot.
     pub fn fits(&self, lexed: &LexedStr<'_>) -> bool
         ensures { result ≡ fits self.now.steps (leaves_of lexed.now.leaves) }
     {

@@ -1,9 +1,9 @@
 //! The calls by which a grammar reads its input and marks its nodes.
 //!
-//! Contracts see a parser's nodes as the stack of those that are open, with the trees that each has
-//! so far. A call changes that stack or is refused a growth; then there is no stack from there on.
-//! So a body that records nothing and says that a growth was refused meets every clause on nodes:
-//! that nothing is refused while there is memory is what the tests show.
+//! The model of a parser's nodes is the stack of the open nodes, with the trees that each has so
+//! far. From the first allocation failure in a call that records on, it is `None`. So a body that
+//! records nothing and reports an allocation failure meets every clause on nodes; tests show that
+//! calls succeed while allocations succeed.
 
 ghost use Rattle.std.specs.Prelude.{◌≡◌, ◌≢◌, ◌+◌, ◌-◌, ◌^◌, ◌<◌, ◌≤◌, ◌↔◌, ◌∷◌, [], true, length, min, Some, IfSome, IfOk};
 ghost use Rattle.parser_input.specs.Kind.{raw_of};
@@ -26,12 +26,13 @@ use std::marker::Model;
 /// sources have two and a half.
 const ENTRIES_PER_TOKEN: usize = 3;
 
-/// A walk over an input, and the trees that are made of it on the way. Once a growth is refused,
-/// nothing more is recorded, and [`Parser::finish`] answers that; all else goes on as before.
+/// A parser: its input, its position, and the trees recorded so far. Once a recording call fails to
+/// allocate, nothing more is recorded and [`Parser::finish`] returns an error. The position and the
+/// count of lookaheads go on as before.
 #[derive(Drop)]
 pub struct Parser<'t> {
     input: &'t Input,
-    /// How many tokens were not taken.
+    /// The number of tokens not yet consumed.
     left: usize,
     looks: u64,
     recorder: Recorder,
@@ -83,7 +84,8 @@ impl<'t> Parser<'t> {
         self.input.len() - self.position()
     }
 
-    /// The kind of the token so far ahead; `EOF` past the end, and there alone. This is one look.
+    /// Returns the kind of the token `n` tokens ahead; `EOF` past the end, and only there. It
+    /// counts one lookahead.
     pub fn kind_at(&mut self, n: usize) -> SyntaxKind
         ensures kind { raw_of result ≡ (token_at self.old.input (self.old.position + n)).kind }
         ensures token { self.old.position + n < length self.old.input → raw_of result ≢ kinds.EOF }
@@ -142,7 +144,9 @@ impl<'t> Parser<'t> {
         false
     }
 
-    /// Whether the token so far ahead touches the next one. No past the end. This is no look.
+    /// Returns `true` if the token `n` tokens ahead is joint: the next token directly follows it. A
+    /// float is joint if its text does not end in a dot. Returns `false` past the end. It counts no
+    /// lookahead.
     pub fn joint_at(&self, n: usize) -> bool
         ensures { result ≡ (token_at self.now.input (self.now.position + n)).joint }
     {
@@ -163,7 +167,8 @@ impl<'t> Parser<'t> {
         Marker { around }
     }
 
-    /// Whether the marker's node is the innermost open one. Yes once a growth was refused.
+    /// Returns `true` if the marker's node is the innermost open node, or if a recording call
+    /// failed to allocate.
     pub fn is_innermost(&self, marker: &Marker) -> bool
         ensures { (result ≡ true) ↔ IsInnermost marker.now self.now.nodes }
     {
@@ -175,9 +180,9 @@ impl<'t> Parser<'t> {
         above == 1
     }
 
-    /// Whether the closed node is one of the trees of the innermost open node, or stands outside of
-    /// all nodes where none is open. Yes once a growth was refused. This passes over the trees
-    /// after it, each in one step.
+    /// Returns `true` if the completed node is one of the trees of the innermost open node; if none
+    /// is open, one of the trees outside of all nodes. Returns `true` if a recording call failed to
+    /// allocate. Takes one step for each tree after the node.
     pub fn can_precede(&self, completed: &CompletedMarker) -> bool
         ensures { (result ≡ true) ↔ IsChild completed.now self.now.nodes }
     {
@@ -261,13 +266,13 @@ impl Marker {
     }
 }
 
-/// A node that was closed. It may be dropped. Contracts see where it stands, in leaves, messages
-/// and nodes.
+/// A completed node. It may be dropped. Model: the number of leaves, messages and nodes before it,
+/// and the number inside it.
 #[derive(Drop)]
 pub struct CompletedMarker {
-    /// The number of the first entry that stands for the node and what it holds.
+    /// The index of the node's first event.
     first: usize,
-    /// The number of the last one, the node's own.
+    /// The index of the node's last event, which ends it.
     last: usize,
 }
 
@@ -281,8 +286,8 @@ impl Model for CompletedMarker {
 }
 
 impl CompletedMarker {
-    /// Opens a node around this one and all that stands after it in the innermost open node, of
-    /// which it must be a child.
+    /// Opens a node around this one and the trees after it in the innermost open node. The
+    /// completed node must be a child of that node.
     pub fn precede(self, p: &mut Parser<'_>) -> Marker
         requires { IsChild self p.old.nodes }
         ensures nodes { Becomes (wrapped self.before) p.old.nodes p.new.nodes }

@@ -14,7 +14,7 @@ use parser_input::syntax_kind::SyntaxKind;
 use std::alloc::{AllocError, Global};
 use std::marker::Model;
 
-/// What a parser recorded, until a growth is refused.
+/// The events of a parser, until an allocation fails in a call that records.
 #[derive(Drop)]
 pub(crate) struct Recorder {
     alloc: Global,
@@ -58,7 +58,7 @@ impl Recorder {
         }
     }
 
-    /// Whether a growth was refused. From then on nothing is recorded.
+    /// Returns `true` if a call that records failed to allocate. From then on, nothing is recorded.
     pub(crate) fn is_refused(&self) -> bool
         ensures { (result ≡ true) ↔ (self.now ≡ None) }
     {
@@ -147,9 +147,10 @@ impl Recorder {
         unwind(self.alloc, &self.events)
     }
 
-    /// Whether a node that was closed is one of the trees of the innermost open node: by the number
-    /// of the first entry that stands for it, and how many it holds. Yes once a growth was refused.
-    /// This passes over the trees after it.
+    /// Returns `true` if a completed node is one of the trees of the innermost open node: `first`
+    /// is the index of its first event, `inside` the number of leaves, messages and nodes inside
+    /// it. Returns `true` if a call that records failed to allocate. Takes one step for each tree
+    /// after the node.
     pub(crate) fn is_child(&self, first: usize, inside: usize) -> bool
         ensures tells { (kept : Kept) → self.now ≡ Some kept → (f : Marked) (below : List Marked)
             → kept.entered ≡ all_entries (f ∷ below) → innermost kept ≡ total_size below →
@@ -170,8 +171,9 @@ impl Recorder {
     }
 }
 
-// Whether a node that begins at the entry `first` and holds so many is one of the trees from an
-// entry on.
+// Returns `true` if a completed node is one of the trees whose events begin at or after index
+// `floor`. `first` is the index of its first event, `inside` the number of events between that and
+// its own.
 fn is_tree(events: &[Event], floor: usize, first: usize, inside: usize) -> bool
     ensures { (f : Marked) (below : List Marked) → map event_of events.now ≡ all_entries (f ∷ below)
         → floor ≡ total_size below →
@@ -203,8 +205,8 @@ fn start_of(event: Event, place: usize) -> usize
     if start <= place { start } else { place }
 }
 
-// Whether this entry, at a place, is that of a closed node that begins at the entry `first` and
-// holds so many.
+// Returns `true` if `event`, at index `place`, ends a node whose first event is at index `first`,
+// with `inside` events before its own.
 fn is_node(event: Event, first: usize, place: usize, inside: usize) -> bool
     ensures { (result ≡ true) ↔ (IsClosing first (event_of event) × (place - first ≡ inside)) }
 {

@@ -107,7 +107,8 @@ pub(crate) fn start_of(lexed: &LexedStr<'_>, i: usize) -> usize
     lexed.range_text(0..i).len()
 }
 
-/// The number of the leaf after so many tokens of the input, from a leaf on.
+/// Returns the index of the leaf after the next `n` tokens of the input, from leaf `start` on.
+/// Trivia counts as no token. If fewer than `n` are left, that is the end.
 pub(crate) fn token_end(lexed: &LexedStr<'_>, start: usize, n: usize) -> usize
     requires { start ≤ length lexed.now.leaves }
     ensures end { result ≡ start + reach n (drop start (leaves_of lexed.now.leaves)) }
@@ -245,7 +246,7 @@ fn put_exit<S: StrSink>(lexed: &LexedStr<'_>, start: usize, sink: &mut S) -> Res
     }
 }
 
-/// Says something of the place after the last leaf put.
+/// Passes `msg` to the sink, at the offset where leaf `start` begins.
 fn put_message<S: StrSink>(
     lexed: &LexedStr<'_>,
     msg: Message,
@@ -380,13 +381,14 @@ fn put_output<S: StrSink>(
     }
 }
 
-/// Gives a sink the steps of a parser's trees with a text: white space, comments and the places of
-/// messages are put where the trees' steps and the text's leaves say. Where the steps fit the text
-/// and are those of one node, these are the steps of the node dressed with the text.
+/// Passes the steps of a parser's trees, with a text, to the sink. Trivia, the parts of floats and
+/// the offsets of messages are added between the steps of the trees, as the leaves of the text
+/// require. If the steps fit the text and are those of one node, the sink gets the steps of that
+/// node, dressed with the text.
 ///
 /// # Errors
 ///
-/// The sink's reason to refuse a step. It took the steps before that, in order.
+/// The error of the sink, if it refuses a step. The sink took the steps before that one, in order.
 pub fn intersperse_trivia<S: StrSink>(
     lexed: &LexedStr<'_>,
     output: &Output,

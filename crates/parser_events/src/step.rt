@@ -24,7 +24,7 @@ pub enum Step {
     },
     /// The node that was entered last ends.
     Exit,
-    /// The parser says something of this place.
+    /// A syntax error at this position.
     Error {
         msg: Message,
     },

@@ -3,7 +3,7 @@
 use crate::message::Message;
 use parser_input::syntax_kind::SyntaxKind;
 
-/// One step of a walk over a tree with its text. White space and comments are leaves too.
+/// One step of a walk over a tree with its text. Trivia are leaves too.
 #[derive(Clone, Copy)]
 pub enum StrStep<'a> {
     /// A leaf.
@@ -17,10 +17,10 @@ pub enum StrStep<'a> {
     },
     /// The node that was entered last ends.
     Exit,
-    /// The parser says something of a place.
+    /// A syntax error.
     Error {
         msg: Message,
-        /// The place, in bytes from the front of the text.
+        /// Its offset in the text, in bytes.
         pos: usize,
     },
 }

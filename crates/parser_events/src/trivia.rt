@@ -1,4 +1,4 @@
-//! White space and comments before a node: which of them stand inside it.
+//! Trivia before a node: the leaves that belong to the node.
 
 ghost use Rattle.std.specs.Prelude.{◌≡◌, ◌≤◌, ◌<◌, ◌+◌, ◌-◌, ◌==◌, ◌&&◌, not, chars, get_or, length, reverse, drop, slice_range, if◌then◌else◌, [], ◌∷◌};
 ghost use Rattle.std.specs.List.{list_any};
@@ -19,14 +19,14 @@ fn begins_with(text: &str, prefix: &str) -> bool
     text.starts_with(prefix)
 }
 
-/// Whether a comment is on what it stands in.
+/// Returns `true` if the comment is an inner doc comment.
 fn is_inner(text: &str) -> bool
     ensures { result ≡ is_inner (chars text.now) }
 {
     begins_with(text, "//!") | begins_with(text, "/*!")
 }
 
-/// Whether a line comment is on what stands after it.
+/// Returns `true` if the text starts an outer line doc comment: three slashes, and not four.
 fn is_outer_line(text: &str) -> bool
     ensures { result ≡ (begins_with (47 ∷ 47 ∷ 47 ∷ []) (chars text.now)
         && not (get_or (chars text.now) 3 0 == 47)) }
@@ -34,8 +34,8 @@ fn is_outer_line(text: &str) -> bool
     begins_with(text, "///") & !begins_with(text, "////")
 }
 
-/// Whether a block comment is on what stands after it. The shortest one, of two stars and two
-/// slashes, is not.
+/// Returns `true` if the text starts an outer block doc comment: `/**`, but neither `/***` nor
+/// `/**/`.
 fn is_outer_block(text: &str) -> bool
     ensures { result ≡ (begins_with (47 ∷ 42 ∷ 42 ∷ []) (chars text.now) && not
         (get_or (chars text.now) 3 0 == 42) && not (get_or (chars text.now) 3 0 == 47)) }
@@ -43,14 +43,14 @@ fn is_outer_block(text: &str) -> bool
     begins_with(text, "/**") & !begins_with(text, "/***") & !begins_with(text, "/**/")
 }
 
-/// Whether a comment is on what stands after it.
+/// Returns `true` if the comment is an outer doc comment.
 fn is_outer(text: &str) -> bool
     ensures { result ≡ is_outer (chars text.now) }
 {
     is_outer_line(text) | is_outer_block(text)
 }
 
-/// Whether two line feeds stand one after the other.
+/// Returns `true` if the text contains two line feeds in a row.
 fn has_empty_line(text: &str) -> bool
     ensures { result ≡ has_empty_line (chars text.now) }
 {
@@ -90,7 +90,7 @@ fn takes_comments(kind: SyntaxKind) -> bool
     )
 }
 
-/// Where the white space and comments end that stand from a leaf on.
+/// Returns the index of the first leaf from `start` on that is not trivia, or of the end.
 pub(crate) fn pending_end(lexed: &LexedStr<'_>, start: usize) -> usize
     requires { start ≤ length lexed.now.leaves }
     ensures end { result ≡ start + length (pending (drop start (leaves_of lexed.now.leaves))) }
@@ -106,7 +106,8 @@ pub(crate) fn pending_end(lexed: &LexedStr<'_>, start: usize) -> usize
     end
 }
 
-/// Whether the last of the leaves from one number to another is a comment on what stands after it.
+/// Returns `true` if the last of the leaves `start..end` is an outer doc comment; `false` if there
+/// are no leaves.
 fn is_outer_before(lexed: &LexedStr<'_>, start: usize, end: usize) -> bool
     requires order { start ≤ end }
     requires within { end ≤ length lexed.now.leaves }
@@ -133,8 +134,8 @@ fn stops_at(lexed: &LexedStr<'_>, start: usize, leaf: usize) -> bool
     has_empty_line(lexed.text(leaf)) & !is_outer_before(lexed, start, leaf)
 }
 
-/// Where the leaves begin, of the white space and comments from one number to another, that stand
-/// inside a node after them which takes comments.
+/// Returns the index of the first leaf that belongs to a node at `end`, of a kind that takes
+/// comments; `end` if there is none. The leaves `start..end` are the trivia before the node.
 fn first_inside(lexed: &LexedStr<'_>, start: usize, end: usize) -> usize
     requires order { start ≤ end }
     requires within { end ≤ length lexed.now.leaves }
@@ -157,8 +158,8 @@ fn first_inside(lexed: &LexedStr<'_>, start: usize, end: usize) -> usize
     first
 }
 
-/// Where the leaves begin, of the white space and comments from one number to another, that stand
-/// inside a node of this kind after them.
+/// Returns the index of the first leaf that belongs to a node of this kind at `end`; `end` if there
+/// is none. The leaves `start..end` are the trivia before the node.
 pub(crate) fn attached_from(
     lexed: &LexedStr<'_>,
     kind: SyntaxKind,

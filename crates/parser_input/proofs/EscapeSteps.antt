@@ -61,7 +61,7 @@ pub hex_zero : hex_or_underscore 0 ≡ false
 unfolding hex_or_underscore is_hex_digit is_digit
 hex_zero = refl
 
--- what so many digits can stand for
+-- the bound on the value of `count` digits
 abbrev pub Small : ℕ → ℕ → Type 0
 Small count value =
     (count ≤ 0 → value < 1) × (count ≤ 1 → value < 16) × (count ≤ 2 → value < 256) × (count ≤ 3 → value < 4096) × (count ≤ 4 → value < 65536) × (count ≤ 5 → value < 1048576)

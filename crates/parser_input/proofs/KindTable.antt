@@ -40,7 +40,7 @@ get_or-names kind d =
 pub name-at : (kind : SyntaxKind) (n : ℕ) → n ≡ raw_of kind → get_or (map name_of all_kinds) n [] ≡ name_of kind
 name-at kind n is = rw is (get_or-names kind [])
 
--- what a look-up by index lends, copied
+-- the item that a lookup by index returns a reference to, copied
 pub copied_item : {X : Type 0} (xs : List X) (i : ℕ) (r : Option (Bor X)) → IsItemAt xs i r → option_copied r ≡ slice_get xs i
 copied_item xs i None h = sym (slice_get_past xs i h.3)
 copied_item xs i (Some x) h = ap Some h.1 ∙ sym (slice_get-get_or xs i x.now h.3.0)

@@ -1,4 +1,4 @@
--- Each token is one leaf, where none is cut anew.
+-- Each token is one leaf, if none is split.
 use Rattle.std.proofs.Common.{◌≡◌, ℕ, zero, suc, pred, false, List, [], ◌∷◌, ◌++◌, length, map, refl, ◌∙◌, ap, arith}
 use Rattle.std.specs.List.{All}
 use Rattle.rustc_lexer.specs.Lexeme.{lexeme}

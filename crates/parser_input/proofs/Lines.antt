@@ -1,4 +1,4 @@
--- Walks over lines and white space.
+-- Scans over lines and whitespace.
 use Rattle.std.proofs.Common.{◌≡◌, ℕ, zero, suc, ◌+◌, ◌<◌, Bool, true, false, not, ◌==◌, List, [], ◌∷◌, drop, get_or, length, eqb-true, refl, sym, ◌∙◌, ap, arith, inl, inr, if◌then◌else◌}
 use Rattle.std.specs.Char.{len_utf8}
 use Rattle.rustc_lexer.specs.Characters.{size, is_whitespace, line_feed}

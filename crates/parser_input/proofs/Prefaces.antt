@@ -47,7 +47,7 @@ pub some-piece : (start : ℕ) (xs : List ℕ) → (xs ≡ [] → ⊥) → Some 
 some-piece start [] some = absurd (some refl)
 some-piece start (x ∷ xs) some = refl
 
--- the lines that are no fence are passed over
+-- the rest of a line that is no fence is skipped
 passed : (count : ℕ) (cs : List ℕ) → closing_line count false cs ≡ closing_line count true (after_line cs)
 unfolding closing_line after_line
 passed count [] = refl
@@ -129,7 +129,7 @@ closing-suffix count starts (c ∷ cs) line e =
           (suc rest.0, rest.1)
     ]
 
--- a place after a text's front is told by what is left there
+-- a position in a text is determined by the length of the rest
 pub by-length : (n : ℕ) (whole rest : List ℕ) → rest ≡ drop n whole → rest ≡ drop (length whole - length rest) whole
 by-length n whole rest e =
     let long : length rest ≡ length whole - n = ap (λ (l : List ℕ). length l) e ∙ length-drop n whole in

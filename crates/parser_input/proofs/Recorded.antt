@@ -6,7 +6,7 @@ use Rattle.parser_input.specs.Packed.{seen}
 use Rattle.parser_input.specs.Recorded.{touching}
 use Rattle.parser_input.specs.declared.input.InputToken.{InputToken}
 
--- what is written over the last token stands after the same front
+-- a new item in place of the last token comes after the same front
 pub last-set :
     (items : List InputToken) (n : ℕ) (x y : InputToken) (front : List Token) (last : Token) → suc n ≡ length items → map seen items ≡ front ++ last ∷ [] → x ≡ get_or items n x → seen y ≡ touching (seen x) → map seen (set items n y) ≡ front ++ touching last ∷ []
 last-set [] n x y front last long e is same = absurd (omega arith)

@@ -20,7 +20,7 @@ use Rattle.parser_input.proofs.PrefaceSteps.{Form, Bare, Refused, Closed, Suffix
 use Rattle.parser_input.proofs.Prefaces.{after-some, after-none, piece-some, piece-none}
 use Rattle.parser_input.proofs.Readings.{front-at, range-of, offset-more, text-one}
 
--- what stands between two other parts of a text
+-- the part of a text between two other parts
 slice-at : (bytes x y z : List ℕ) (start : ℕ) → IsUtf8 bytes → chars bytes ≡ x ++ (y ++ z) → start ≡ size x → IsSlice bytes (record { start = start; text = y })
 slice-at bytes x y z start u e is =
     let whole : chars bytes ≡ (x ++ y) ++ z = e ∙ sym (append_assoc x y z) in
@@ -55,7 +55,7 @@ remainder-slice bytes rest u s =
     sym (take-append-drop s.0 text) ∙ ap (λ (t : List ℕ). take s.0 text ++ t) (sym s.1 ∙ sym (append-nil rest)) in
     slice-at bytes (take s.0 text) rest [] (place text rest) u whole (place-is s.0 text rest s.1)
 
--- the part of a line without the white space at its ends
+-- the part of a line without the whitespace at its ends
 solid-slice : (bytes after line : List ℕ) (n m k : ℕ) → IsUtf8 bytes → Suffix after (chars bytes) → line ≡ take n after → IsSlice bytes (record { start = place (chars bytes) after + place line (drop m line); text = take k (drop m line) })
 solid-slice bytes after line n m k u s is =
     let text = chars bytes in

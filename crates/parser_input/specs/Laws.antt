@@ -28,7 +28,7 @@ LeavesAreSlices =
     (edition : Edition) (text : List ℕ) (i : ℕ) → IsUtf8 text → i < length (lexed edition (chars text)) →
     IsSlice text (leaf_piece (lexed edition (chars text)) i)
 
--- so is each piece that a text is told apart into
+-- so is each piece of a parsed source
 abbrev pub PiecesAreSlices : Type 0
 PiecesAreSlices =
     (text : List ℕ) (parts : Source) → IsUtf8 text → source (chars text) ≡ Ok parts → AreSlices text parts
@@ -37,7 +37,7 @@ PiecesAreSlices =
 abbrev pub LinesJoin : Type 0
 LinesJoin = (text : List ℕ) → joined (lines text) ≡ text
 
--- a line that closes what so many dashes open
+-- a line that closes a frontmatter opened by `count` dashes
 abbrev pub IsFence : ℕ → List ℕ → Type 0
 IsFence count line = is_fence count (first_line line) ≡ true
 

@@ -9,7 +9,7 @@ use Rattle.parser_input.specs.Stored.{bytes_of}
 use Rattle.parser_input.specs.declared.edition.Edition.{Edition}
 use Rattle.parser_input.specs.declared.syntax_kind.SyntaxKind.{SyntaxKind}
 
--- the only leaf, where there is one token and one leaf
+-- the only leaf, if there is one token and one leaf
 abbrev pub alone : List lexer.Lexeme → List Lexed → Option Lexed
 alone (t ∷ []) (l ∷ []) = Some l
 alone _ _ = None

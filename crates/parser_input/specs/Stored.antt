@@ -95,6 +95,6 @@ abbrev pub frontmatter_end : Result Source FrontmatterError → Option ℕ
 frontmatter_end (Err refusal) = None
 frontmatter_end (Ok s) = elim s.closing [ None ↦ None | Some p ↦ Some s.content.start ]
 
--- the bytes of a text that is lent
+-- the bytes of a borrowed text
 abbrev pub bytes_of : Bor (List ℕ) → List ℕ
 bytes_of text = text.now

@@ -134,8 +134,8 @@ fn is_byte(rules: Rules, first: char, second: char) -> bool
     rules.fits_byte(16 * hex_digit(first) + hex_digit(second))
 }
 
-// Passes over digits among which `_` may stand, and gives what they stand for. None where they are
-// more than six.
+// Skips hexadecimal digits and `_`, and returns the value of the digits; `None` if there are more
+// than six.
 fn eat_digits(rest: &mut Cursor) -> Option<u32>
     ensures { MatchOption result (6 < length (digits_of rest.old)) (λ value.
         (length (digits_of rest.old) ≤ 6) × (value ≡ hex_value 0 (digits_of rest.old)) ×
@@ -158,8 +158,8 @@ fn eat_digits(rest: &mut Cursor) -> Option<u32>
     Some(value)
 }
 
-// Passes over the digits and the `}` of a Unicode escape, after its `{`; no where they are not
-// right.
+// Skips the digits and the `}` of a Unicode escape, after its `{`. Returns `false` if they are not
+// valid.
 fn eat_unicode(rules: Rules, rest: &mut Cursor) -> bool
     ensures told { result ≡ is_unicode rules rest.old }
     ensures after { result ≡ true → rest.new ≡ drop 1 (drop (run_len hex_or_underscore rest.old) rest.old) }
@@ -179,7 +179,7 @@ fn eat_unicode(rules: Rules, rest: &mut Cursor) -> bool
     }
 }
 
-// Passes over an escape, after its `\`; no where there is none.
+// Skips an escape, after its `\`. Returns `false` if there is none.
 fn eat_escape(rules: Rules, rest: &mut Cursor) -> bool
     ensures { Passes (escape rules rest.old) rest.old result rest.new }
 {
@@ -205,7 +205,7 @@ fn eat_escape(rules: Rules, rest: &mut Cursor) -> bool
     false
 }
 
-// Passes over a character that is allowed, or an escape; no where neither is next.
+// Skips an allowed character or an escape. Returns `false` if neither is next.
 fn eat_unit(rules: Rules, rest: &mut Cursor) -> bool
     ensures { Passes (unit rules rest.old) rest.old result rest.new }
 {

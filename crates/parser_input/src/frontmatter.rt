@@ -26,8 +26,8 @@ use rustc_lexer::{Cursor, is_horizontal_whitespace, strip_shebang};
 use std::marker::Model;
 use std::ops::Range;
 
-/// Whether a character is white space of Rust: U+0009 to U+000D, space, U+0085, U+200E, U+200F,
-/// U+2028, U+2029.
+/// Returns `true` if the character is whitespace of Rust: U+0009 to U+000D, space, U+0085, U+200E,
+/// U+200F, U+2028, U+2029.
 pub fn is_rust_whitespace(c: char) -> bool
     ensures { result ≡ is_whitespace c }
 {
@@ -37,7 +37,7 @@ pub fn is_rust_whitespace(c: char) -> bool
 // A frontmatter opens with as many dashes or more.
 const FEWEST_DASHES: usize = 3;
 
-/// A piece of a text, and where it stands.
+/// A piece of a text, and its range in the text, in bytes.
 #[derive(Drop)]
 struct Piece<'s> {
     start: usize,
@@ -57,7 +57,7 @@ impl<'s> Model for Piece<'s> {
 }
 
 impl<'s> Piece<'s> {
-    // A piece that begins so many bytes after the front of its text.
+    // Returns a piece that begins at offset `start`.
     fn new(start: usize, text: &'s str) -> Piece<'s>
         requires { start + length text.now < 2 ^ 64 }
         ensures { result ≡ record { start = start; text = chars text.now } }
@@ -69,7 +69,7 @@ impl<'s> Piece<'s> {
         }
     }
 
-    // What stands from one place of a text up to a later one.
+    // Returns the piece of `text` from one position up to a later one.
     fn between(text: &Cursor<'s>, from: &Cursor<'s>, until: &Cursor<'s>) -> Piece<'s>
         requires inside { size from.now ≤ size text.now }
         requires order { (n : ℕ) × (until.now ≡ drop n from.now) }
@@ -81,7 +81,7 @@ impl<'s> Piece<'s> {
         )
     }
 
-    // What stands from a place of a text up to its end.
+    // Returns the piece of `text` from a position up to the end.
     fn remainder(text: &Cursor<'s>, from: &Cursor<'s>) -> Piece<'s>
         requires { size from.now ≤ size text.now }
         ensures { result ≡ remainder text.now from.now }
@@ -103,7 +103,7 @@ impl<'s> Piece<'s> {
     }
 }
 
-// What is left after the shebang.
+// Returns the position after the shebang, or the start of the text.
 fn after_shebang<'s>(text: &Cursor<'s>) -> Cursor<'s>
     ensures rest { result ≡ after_shebang text.now }
     ensures inside { size result ≤ size text.now }
@@ -126,7 +126,7 @@ fn shebang_piece<'s>(text: &Cursor<'s>) -> Option<Piece<'s>>
     None
 }
 
-// The first line that is not passed over.
+// Returns the position after the shebang and the blank lines that follow it.
 fn opening_line<'s>(text: &Cursor<'s>) -> Cursor<'s>
     ensures line { result ≡ opening_line text.now }
     ensures inside { size result ≤ size text.now }
@@ -136,7 +136,7 @@ fn opening_line<'s>(text: &Cursor<'s>) -> Cursor<'s>
     rest
 }
 
-// What is left of the first line.
+// Returns the rest of the first line.
 fn first_line<'s>(rest: &Cursor<'s>) -> Cursor<'s>
     ensures { result ≡ first_line rest.now }
 {
@@ -145,7 +145,7 @@ fn first_line<'s>(rest: &Cursor<'s>) -> Cursor<'s>
     rest.until(&end)
 }
 
-// What is left of the first line, without the white space at both its ends.
+// Returns the rest of the first line, without the whitespace at both ends; `None` if that is empty.
 fn info_piece<'s>(text: &Cursor<'s>, after: &Cursor<'s>) -> Option<Piece<'s>>
     requires { size after.now ≤ size text.now }
     ensures { result ≡ info_piece text.now after.now }
@@ -163,7 +163,7 @@ fn info_piece<'s>(text: &Cursor<'s>, after: &Cursor<'s>) -> Option<Piece<'s>>
     Some(Piece::new(start, info.as_str()))
 }
 
-// Whether the first line has so many dashes and nothing else but tabs and spaces.
+// Returns `true` if the first line has `count` dashes, and after them only tabs and spaces.
 fn is_fence(rest: &Cursor, count: usize) -> bool
     ensures { result ≡ is_fence count (first_line rest.now) }
 {
@@ -174,7 +174,7 @@ fn is_fence(rest: &Cursor, count: usize) -> bool
     line.as_str().chars().all(|c| is_horizontal_whitespace(c))
 }
 
-// The first line with so many dashes and nothing else but tabs and spaces.
+// Returns the position of the first line with `count` dashes, and after them only tabs and spaces.
 fn closing_line<'s>(mut rest: Cursor<'s>, count: usize) -> Option<Cursor<'s>>
     ensures line { result ≡ closing_line count true rest.entry }
     ensures after { IfSome result (λ line. (n : ℕ) × (line ≡ drop n rest.entry)) }
@@ -270,8 +270,13 @@ impl<'s> ScriptSource<'s> {
         }
     }
 
-    /// Tells the first lines of a text apart. Refused where one or two dashes begin the first line
-    /// that is not blank, or where no later line closes the frontmatter.
+    /// Parses the shebang and the frontmatter of a text. The opening line is the first one after
+    /// the shebang that is not blank.
+    ///
+    /// # Errors
+    ///
+    /// - [`FrontmatterError::TooFewDashes`] if the opening line begins with one or two dashes.
+    /// - [`FrontmatterError::Unclosed`] if no later line closes the frontmatter.
     pub fn parse(raw: &'s str) -> Result<ScriptSource<'s>, FrontmatterError>
         ensures { result ≡ source (chars raw.now) }
     {
@@ -301,64 +306,64 @@ impl<'s> ScriptSource<'s> {
         text_of(&self.shebang)
     }
 
-    /// Where the shebang stands, in bytes.
+    /// Returns the range of the shebang, in bytes.
     pub fn shebang_span(&self) -> Option<Range<usize>>
         ensures { option_map range_of result ≡ option_map span_of self.now.shebang }
     {
         span_of(&self.shebang)
     }
 
-    /// Where the dashes stand that open the frontmatter, in bytes.
+    /// Returns the range of the opening dashes, in bytes.
     pub fn open_span(&self) -> Option<Range<usize>>
         ensures { option_map range_of result ≡ option_map span_of self.now.opening }
     {
         span_of(&self.opening)
     }
 
-    /// What follows these dashes on their line, without white space at its ends. None where that is
-    /// empty.
+    /// Returns the info string: the rest of the line after the opening dashes, without whitespace
+    /// at its ends; `None` if that is empty.
     pub fn info(&self) -> Option<&'s str>
         ensures { option_map chars_of result ≡ option_map text_of self.now.info }
     {
         text_of(&self.info)
     }
 
-    /// Where that stands, in bytes.
+    /// Returns the range of the info string, in bytes.
     pub fn info_span(&self) -> Option<Range<usize>>
         ensures { option_map range_of result ≡ option_map span_of self.now.info }
     {
         span_of(&self.info)
     }
 
-    /// The lines between the two lines of dashes, with the ends of their lines.
+    /// Returns the lines between the opening and the closing dashes, with their line ends.
     pub fn frontmatter(&self) -> Option<&'s str>
         ensures { option_map chars_of result ≡ option_map text_of self.now.frontmatter }
     {
         text_of(&self.frontmatter)
     }
 
-    /// Where these lines stand, in bytes.
+    /// Returns the range of these lines, in bytes.
     pub fn frontmatter_span(&self) -> Option<Range<usize>>
         ensures { option_map range_of result ≡ option_map span_of self.now.frontmatter }
     {
         span_of(&self.frontmatter)
     }
 
-    /// Where the dashes stand that close the frontmatter, in bytes.
+    /// Returns the range of the closing dashes, in bytes.
     pub fn close_span(&self) -> Option<Range<usize>>
         ensures { option_map range_of result ≡ option_map span_of self.now.closing }
     {
         span_of(&self.closing)
     }
 
-    /// What is left for the grammar: all after the frontmatter, or after the shebang.
+    /// Returns the text for the parser: all after the frontmatter, or after the shebang.
     pub fn content(&self) -> &'s str
         ensures { chars result.now ≡ self.now.content.text }
     {
         self.content.text()
     }
 
-    /// Where that stands, in bytes.
+    /// Returns the range of the content, in bytes.
     pub fn content_span(&self) -> Range<usize>
         ensures start { result.start ≡ self.now.content.start }
         ensures end { result.end ≡ end_of self.now.content }

@@ -1,11 +1,11 @@
-//! Why the front of a text was refused.
+//! The errors of a frontmatter.
 
 ghost use Rattle.std.specs.Prelude.{◌≡◌};
 ghost use Rattle.parser_input.specs.Spans.{refused_start, refused_end};
 
 use std::ops::Range;
 
-/// A refusal of `ScriptSource::parse`, with the dashes of the opening line, in bytes.
+/// The error type of `ScriptSource::parse`, with the range of the opening line's dashes, in bytes.
 #[derive(Clone, Copy, Debug, PartialEq, Eq)]
 pub enum FrontmatterError {
     /// The line begins with one or two dashes: a frontmatter asks for three or more.
@@ -15,7 +15,7 @@ pub enum FrontmatterError {
 }
 
 impl FrontmatterError {
-    /// Where the dashes of the opening line stand, in bytes.
+    /// Returns the range of the opening line's dashes, in bytes.
     pub fn primary_span(&self) -> Range<usize>
         ensures start { result.start ≡ refused_start self.now }
         ensures end { result.end ≡ refused_end self.now }

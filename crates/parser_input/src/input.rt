@@ -17,7 +17,8 @@ struct InputToken {
     /// The kind that the word of an identifier has as a contextual keyword, or `IDENT`. `EOF` at
     /// any other token.
     contextual_kind: SyntaxKind,
-    /// Whether nothing stands between this token and the next one.
+    /// `true` if no trivia is between the token and the next one; for a float, `true` if its text
+    /// does not end in a dot.
     joint: bool,
     /// `true` if the token is read by the grammar of the whole language.
     whole: bool,
@@ -175,8 +176,9 @@ impl Input {
         }
     }
 
-    /// Whether a token touches the next one, so that both may be read as one operator. No past the
-    /// end.
+    /// Returns `true` if the token is joint: the next token directly follows it, so that both may
+    /// be one operator. A float is joint if its text does not end in a dot. Returns `false` past
+    /// the end.
     pub fn is_joint(&self, n: usize) -> bool
         ensures { result ≡ (token_at self.now n).joint }
     {

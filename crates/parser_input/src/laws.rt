@@ -3,13 +3,13 @@
 ghost use Rattle.parser_input.specs.LineScans.{BlankLinesAreLongest, SpacesEndTexts};
 ghost use Rattle.parser_input.specs.Laws.{LeavesAreTheText, LexedIsLeaves, LeavesAreSlices, PiecesAreSlices, LinesJoin, FirstFenceCloses, NoFenceIsUnclosed};
 
-/// Where a text has no shebang and no frontmatter, and no guarded prefix that is cut anew, its
-/// leaves are its tokens.
+/// If a text has no shebang, no frontmatter, and no guarded prefix that is split, its leaves are
+/// its tokens.
 pub fn lexed_is_leaves()
     ensures { LexedIsLeaves }
 {}
 
-/// The leaves of a text, joined, are the text: preface, white space and comments too.
+/// The leaves of a text, joined, are the text: preface and trivia too.
 pub fn leaves_are_the_text()
     ensures { LeavesAreTheText }
 {}

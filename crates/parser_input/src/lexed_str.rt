@@ -36,8 +36,8 @@ pub(crate) struct StoredLeaf {
     end: usize,
 }
 
-// Whether a token is a guarded prefix that is cut anew: before 2024 its first `#` stands for
-// itself.
+// Returns `true` if the token is a guarded prefix that is split: before 2024, its first `#` is a
+// token by itself.
 #[tactic(auto, unfolding(crate::specs::Lexed::is_split))]
 fn is_split(edition: Edition, kind: TokenKind) -> bool
     ensures { result ≡ is_split edition kind }
@@ -399,7 +399,7 @@ impl<'a> LexedStr<'a> {
         range.end - range.start
     }
 
-    /// Where a leaf stands, in bytes.
+    /// Returns the range of a leaf, in bytes.
     pub fn text_range(&self, i: usize) -> Range<usize>
         requires { i < length self.now.leaves }
         ensures start { result.start ≡ offset self.now.leaves i }

@@ -121,7 +121,7 @@ fn but_last<'a>(text: &Cursor<'a>) -> Cursor<'a>
     text.until(&end)
 }
 
-// What stands between the quotes of a closed literal.
+// Returns the text between the quotes of a closed literal.
 #[tactic(auto, unfolding(crate::specs::Messages::between_quotes))]
 fn between_quotes<'a>(quoted: &Quoted, literal: &Cursor<'a>) -> Cursor<'a>
     ensures { result ≡ between_quotes quoted.now literal.now }

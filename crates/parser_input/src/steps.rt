@@ -14,7 +14,7 @@ fn move_if<'a>(rest: &mut Cursor<'a>, moves: bool, place: &Cursor<'a>)
     }
 }
 
-/// Passes over the dashes that are next, and counts them.
+/// Skips the dashes that are next, and returns their number.
 pub(crate) fn eat_dashes(rest: &mut Cursor) -> usize
     ensures count { result ≡ dashes rest.old }
     ensures rest { rest.new ≡ drop (dashes rest.old) rest.old }
@@ -26,7 +26,7 @@ pub(crate) fn eat_dashes(rest: &mut Cursor) -> usize
     start - rest.remaining()
 }
 
-/// Passes over the white space that is next, up to and with its last line feed.
+/// Skips the whitespace that is next, up to and including its last line feed.
 pub(crate) fn eat_blank_lines<'a>(rest: &mut Cursor<'a>)
     ensures { rest.new ≡ drop (blank_len rest.old) rest.old }
 {
@@ -38,7 +38,7 @@ pub(crate) fn eat_blank_lines<'a>(rest: &mut Cursor<'a>)
     }
 }
 
-/// Passes over the line and the line feed that ends it.
+/// Skips the rest of the line and the line feed that ends it.
 pub(crate) fn eat_whole_line(rest: &mut Cursor)
     ensures { rest.new ≡ after_line rest.old }
 {
@@ -51,7 +51,7 @@ pub(crate) fn eat_whole_line(rest: &mut Cursor)
     }
 }
 
-/// Passes over all but the white space at the end.
+/// Skips all but the whitespace at the end.
 pub(crate) fn eat_solid<'a>(rest: &mut Cursor<'a>)
     ensures { rest.new ≡ drop (solid_len rest.old) rest.old }
 {

@@ -354,7 +354,7 @@ impl SyntaxKind {
         kind_named(&KINDS, name)
     }
 
-    /// Whether this is a kind that the parser never sees: white space or a comment.
+    /// Returns `true` if the kind is trivia, which the parser never sees: whitespace or a comment.
     pub fn is_trivia(self) -> bool
         ensures { result ≡ is_trivia (raw_of self) }
     {

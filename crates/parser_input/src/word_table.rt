@@ -1,4 +1,4 @@
-//! The words of the language, and where each stands.
+//! The words of the language, and the index of each.
 
 use crate::edition::Edition;
 use crate::syntax_kind::SyntaxKind;
@@ -381,8 +381,8 @@ pub(crate) static WORDS: [Word; 59] = [
     },
 ];
 
-/// The place in `WORDS` of the one word that a text can be, by the text's slot. A slot that no word
-/// has holds 0: what stands there is compared anyway.
+/// The index in `WORDS` of the only word that a text can be, by the text's slot. A slot without a
+/// word has 0: the text is compared with that word anyway.
 pub(crate) static PLACES: [u8; 256] = [
     29, 0, 0, 0, 44, 0, 0, 47, 0, 0, 0, 3, 18, 0, 0, 0, 0, 0, 0, 0, 0, 0, 0, 0, 58, 0, 0, 0, 39,
     49, 0, 34, 0, 0, 0, 0, 0, 0, 0, 0, 0, 0, 0, 35, 0, 0, 0, 0, 0, 16, 0, 0, 0, 0, 0, 0, 0, 0, 0,

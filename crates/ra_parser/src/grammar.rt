@@ -15,8 +15,8 @@ pub enum Grammar {
     /// The profile, which leaves constructs out by name: they are parsed by error recovery, with
     /// messages.
     Profile,
-    /// The whole language: items, patterns, types, paths, generics and expressions. Statements, and
-    /// attributes before an expression, are still parsed as by the profile.
+    /// The whole language, but for attributes before an expression or a `let`: they are still parsed
+    /// as by the profile.
     Whole,
 }
 

@@ -43,7 +43,7 @@ first_found c s i j l n h = record {
   first = n;
 }
 
--- a character of a part of a text, after what stands before the part
+-- a character at offset `length a + n` of `a ++ v` is at offset `n` of `v`
 stands_in : (a v : List ℕ) (c n : ℕ) → StandsAt c (a ++ v) (length a + n) → StandsAt c v n
 stands_in a v c n s = record {
   before = drop (length a) s.before;

@@ -46,11 +46,11 @@ within_get [] i e h = absurd (cc)
 within_get (x ∷ es) zero e h = omega arith
 within_get (x ∷ es) (suc i) e h = let k = within_get es i e h in omega arith
 
--- the number of what stands somewhere is below the count of children
+-- the index of a child is below the number of children
 pub number_within : (p : Place) (i : ℕ) (e : Term) → term_at (below p i) ≡ Some e → i < length (terms_below p)
 number_within p i e h = within_get (terms_below p) i e h
 
--- and below the count something stands
+-- and there is a child at each index below that number
 pub stands_within : (p : Place) (i : ℕ) → i < length (terms_below p) → IsSome (term_at (below p i))
 stands_within p i h = get_within (terms_below p) i h
 

@@ -16,7 +16,7 @@ use Rattle.rowan.proofs.Lists.{number_within}
 use Rattle.rowan.proofs.Leaves.{child_tokens, tokens_child, back_to}
 use Rattle.rowan.proofs.Parts.{whole_text}
 
--- ---- the parent of what stands somewhere is a node
+-- ---- the parent of an element is a node
 
 pub record Parent (o : Option Term) : Type 0 where
   pub tree : Tree

@@ -48,7 +48,7 @@ pub last_end : (p : Place) (t : Tree) → term_at p ≡ Some (Node t) → start_
 last_end p t h =
     omega (arith, ap (λ es. length (texts_of es)) (take_all (length (terms_below p)) (terms_below p) (omega arith)), ap (λ o. length (texts_of (children_in o))) h, ap (λ o. length (text_in o)) h, ap (λ f. length (forest_text f)) (forest_of-terms t.forest))
 
--- what stands at the place of a child, below one that stands somewhere
+-- the child at index `i` is at its place, with its offset
 pub child_stands : (p : Place) (i : ℕ) (e : Term) (offset : ℕ) → end_of p < 2 ^ 32 → term_at (below p i) ≡ Some e → offset ≡ start_of (below p i) → Stands (below p i) e offset
 child_stands p i e offset f h o = record { term = h; start = o; fits = omega (arith, end_within p i, f) }
 

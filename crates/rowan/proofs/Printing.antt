@@ -12,7 +12,7 @@ last_more : (x : List ℕ) (n : ℕ) → concat (replicate n x) ++ x ≡ concat 
 last_more x zero = sym (append-nil x)
 last_more x (suc n) = append_assoc x (concat (replicate n x)) x ∙ ap (λ v. x ++ v) (last_more x n)
 
--- so many pieces of two bytes have twice as many
+-- a text that ends in `n` pieces of two bytes has at least `n + n` bytes
 pub twice_len : (a x : List ℕ) (n : ℕ) → length x ≡ 2 → n + n ≤ length (a ++ concat (replicate n x))
 twice_len a x n h = omega (arith, length-append a (concat (replicate n x)), len_by n)
   where
@@ -48,7 +48,7 @@ pub prints_last : (all : Option (List ℕ)) (a : List ℕ) → Prints all a (Som
 prints_last None a h = tt
 prints_last (Some t) a h = let e : a ++ [] ≡ t = cc in sym (append-nil a) ∙ e
 
--- what stands after a text with more after it
+-- a text to which two parts are appended, one after another
 pub after_as : (a b c x y z : List ℕ) → b ≡ a ++ x → x ++ y ≡ z → c ≡ b ++ y → c ≡ a ++ z
 after_as a b c x y z h e k = k ∙ ap (λ v. v ++ y) h ∙ append_assoc a x y ∙ ap (λ v. a ++ v) e
 

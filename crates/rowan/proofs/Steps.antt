@@ -1,4 +1,4 @@
--- What the steps from a cursor read, and where it stands.
+-- What the steps from a cursor read, and the places that they lead to.
 use Rattle.std.proofs.Common.{◌≡◌, ℕ, zero, suc, ◌+◌, ◌-◌, ◌<◌, ◌≤◌, List, [], ◌∷◌, length, refl, ap, sym, ◌∙◌, arith, Some, None, slice_get}
 use Rattle.rowan_green.specs.Forest.{Tree}
 use Rattle.rowan_green.specs.Leaf.{Leaf}
@@ -9,7 +9,7 @@ use Rattle.rowan.specs.Around.{cursor_in, cursor_at, children_from, children_bef
 use Rattle.rowan.proofs.Places.{child_of, next_start, start_within, last_end}
 use Rattle.rowan.proofs.Lists.{first_from, from_here, before_here, none_from, number_within}
 
--- a child of the green node stands below the cursor
+-- a child of the green node is below the cursor
 pub child_term : (p : Place) (g : Tree) (i : ℕ) (e : Term) → term_at p ≡ Some (Node g) → Some e ≡ slice_get (children_of g) i → term_at (below p i) ≡ Some e
 child_term p g i e h k = ap (λ o. slice_get (children_in o) i) h ∙ sym k
 

@@ -132,7 +132,7 @@ same_after : (f x y : List ℕ) → f ++ x ≡ f ++ y → x ≡ y
 same_after [] x y e = e
 same_after (z ∷ f) x y e = same_after f x y (ap (λ v. drop 1 v) e)
 
--- a text that begins with so many bytes of its own
+-- a text with more after it, cut after its first `n` bytes
 cut_text : (x v : List ℕ) (n : ℕ) → x ++ v ≡ take n x ++ (drop n x ++ v)
 cut_text x v n = ap (λ u. u ++ v) (sym (take-append-drop n x)) ∙ append_assoc (take n x) (drop n x) v
 
@@ -141,7 +141,7 @@ pub differ_after : (x y : List ℕ) (n : ℕ) → take n x ≡ take n y → Diff
 differ_after x y n same h = λ v w e.
     h v w (same_after (take n x) _ _ (sym (cut_text x v n) ∙ e ∙ cut_text y w n ∙ ap (λ u. u ++ (drop n y ++ w)) (sym same)))
 
--- the same of stretches that passed bytes together
+-- stretches that differ after both skipped equal bytes differed before
 pub both_differ : (a b c d : Stretch) → PassesBoth a b c d → Differ (bytes_left c) (bytes_left d) → Differ (bytes_left a) (bytes_left b)
 both_differ a b c d p h =
     differ_after (bytes_left a) (bytes_left b) p.count p.same (subst (λ v. Differ (drop p.count (bytes_left a)) v) p.second.bytes (subst (λ v. Differ v (bytes_left d)) p.first.bytes h))

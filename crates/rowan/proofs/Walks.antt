@@ -59,7 +59,7 @@ place_is q None c h = absurd (cc)
 place_is q (Some (Node t)) c h = let k : c ≡ Node q = cc in ap place_in k
 place_is q (Some (Token l)) c h = let k : c ≡ Token q = cc in ap place_in k
 
--- a child stands below its parent
+-- the place of a child is below its parent
 pub place_of_child : (p : Place) (i : ℕ) (c : Cursor) → Some c ≡ cursor_at (below p i) → place_in c ≡ below p i
 place_of_child p i c h = place_is (below p i) (term_at (below p i)) c h
 
@@ -114,7 +114,7 @@ start_by root (i ∷ up) = refl
 pub step_start : (c : Cursor) (d : ℕ) → d ≡ 0 → left_at true c d ≡ event_of true c ∷ []
 step_start c d e = rw e (ap (λ w. Leave c ∷ w) (start_by (place_in c).root (place_in c).up))
 
--- what is entered and left again is passed over
+-- elements that are entered and left are skipped
 skipped_walk : (p : Place) (i : ℕ) (f : Forest) (k : ℕ) (w : List Event) → skipped k (walk_forest p i f ++ w) ≡ skipped k w
 skipped_walk p i empty k w = refl
 skipped_walk p i (node l f r) k w =

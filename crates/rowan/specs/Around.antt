@@ -26,7 +26,7 @@ abbrev pub cursor_in : Place → Option Term → Option Cursor
 cursor_in p None = None
 cursor_in p (Some e) = Some (cursor_of p e)
 
--- what stands at a place, if anything does
+-- the element at a place, if any
 abbrev pub cursor_at : Place → Option Cursor
 cursor_at p = cursor_in p (term_at p)
 
@@ -104,7 +104,7 @@ abbrev pub siblings : Direction → Cursor → List Cursor
 siblings Next c = c ∷ siblings_after (place_in c)
 siblings Prev c = c ∷ siblings_before (place_in c)
 
--- the same of nodes alone
+-- a node and its sibling nodes after it, or before it, the nearest first
 abbrev pub sibling_nodes : Direction → Place → List Place
 sibling_nodes Next p = p ∷ nodes (siblings_after p)
 sibling_nodes Prev p = p ∷ nodes (siblings_before p)

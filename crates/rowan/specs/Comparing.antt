@@ -28,7 +28,7 @@ pub record IsHead (s : Stretch) (e : Term) : Type 0 where
   pub inside : s.offset < term_len e
   pub some : 0 < s.left
 
--- the second is the first with so many bytes passed
+-- the second is the first with `n` bytes skipped
 pub record Passes (n : ℕ) (s t : Stretch) : Type 0 where
   pub bytes : bytes_left t ≡ drop n (bytes_left s)
   pub left : s.left ≡ n + t.left

@@ -40,7 +40,7 @@ abbrev pub line_of : (ℕ → List ℕ) → ℕ → Cursor → Option (List ℕ)
 line_of name depth c =
     Some (line_front depth (name (kind_at (place_in c))) (start_of (place_in c)) (end_of (place_in c))) ++? line_end c
 
--- the lines of the elements that are entered, the first so many levels down
+-- the lines of the elements that are entered; the first is indented by `depth` levels
 abbrev pub lines_of : (ℕ → List ℕ) → ℕ → List Event → Option (List ℕ)
 lines_of name depth [] = Some []
 lines_of name depth (Enter c ∷ w) = line_of name depth c ++? lines_of name (suc depth) w

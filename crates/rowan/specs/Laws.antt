@@ -23,7 +23,7 @@ signs (Leave (Token p) ∷ w) = signs w
 abbrev pub TextsAreSlices : Type 0
 TextsAreSlices = (p : Place) → text_at p ≡ slice_range (tree_text p.root) (start_of p) (end_of p)
 
--- the walk through an element, without its places, is the word of what stands there
+-- the walk through an element, without its places, is the word of the element
 abbrev pub WalksAreWords : Type 0
 WalksAreWords = (p : Place) (e : Term) → term_at p ≡ Some e → signs (walk (cursor_of p e)) ≡ words (e ∷ [])
 

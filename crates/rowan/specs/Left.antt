@@ -9,7 +9,7 @@ use Rattle.rowan.specs.Walk.{Event, walk_from}
 use Rattle.rowan.specs.declared.utility_types.WalkEvent.TheVariants.{Enter, Leave}
 use Rattle.rowan.specs.declared.walk.Step.{Step}
 
--- ---- a walk at a step: an element that is entered or left next, so many levels below where the walk began
+-- ---- a walk at a step: an element that is entered or left next, and its depth below the start of the walk
 
 -- what is left once an element is left
 abbrev pub left_above : Tree → List ℕ → ℕ → List Event

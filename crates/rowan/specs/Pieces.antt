@@ -9,7 +9,7 @@ abbrev pub Folds : {F T E : Type 0} → (F → T → List ℕ → Result T E →
 Folds call f t [] r g = (r ≡ Ok t) × (g ≡ f)
 Folds {F} {T} {E} call f t (c ∷ cs) r g = (u : Result T E) × (h : F) × call f t c u h × MatchResult u (λ v. Folds call h v cs r g) (λ e. (r ≡ Err e) × (g ≡ h))
 
--- the same of some pieces that are this text, none of them empty
+-- calls of `call` at some pieces, none of them empty, that are this text together
 pub record FoldsText {F T E : Type 0} (call : F → T → List ℕ → Result T E → F → Type 0) (f : F) (t : T) (text : List ℕ) (r : Result T E) (g : F) : Type 0 where
   pub pieces : List (List ℕ)
   pub whole : concat pieces ≡ text

@@ -23,7 +23,7 @@ nodes_in p = entered_nodes (walk (Node p))
 abbrev pub first_in : (Place → Bool) → Place → Option Place
 first_in t p = first (filter t (nodes_in p))
 
--- the same in the tree of a root; none where the place has a parent
+-- the first node that passes a test in the tree of a root; `None` if the place has a parent
 abbrev pub found_in : (Place → Bool) → Place → Option Place
 found_in t p = found_by t p.root p.up
   where

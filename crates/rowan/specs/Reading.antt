@@ -131,7 +131,7 @@ module _ {F T E : Type 0} (call : F → T → List ℕ → Result T E → F → 
   pub text_err : (f g : F) (t : T) (e : E) (c : List ℕ) → 0 < length c → call f t c (Err e) g → FoldsText call f t c (Err e) g
   text_err f g t e c n h = record { pieces = c ∷ []; whole = append-nil c; full = one_full c n; calls = (Err e, g, h, (refl, refl)) }
 
-  -- the same of an answer that is known by an equation
+  -- one call reads one piece, with a result that is known by an equation
   pub text_ok_as : (f g : F) (t u : T) (r : Result T E) (c : List ℕ) → r ≡ Ok u → 0 < length c → call f t c r g → FoldsText call f t c (Ok u) g
   text_ok_as f g t u r c is n h = text_ok f g t u c n (subst (λ x. call f t c x g) is h)
 
@@ -174,7 +174,7 @@ module _ {S F T E : Type 0} (call : F → T → List ℕ → Result T E → F �
   pub fold_stopped : (r : S) (e : E) (a b : List ℕ) → ReadsFold call f t r a (Err e) → ReadsFold call f t r (a ++ b) (Err e)
   fold_stopped r e a b p = (p.0, text_stopped call (f r) p.0 (t r) e a b p.1)
 
--- the same of calls that do not refuse
+-- a text is read by calls that do not fail
 abbrev pub ReadsEach : {S F : Type 0} → (F → Unit {0} → List ℕ → Result (Unit {0}) (Unit {0}) → F → Type 0) → (S → F) → S → List ℕ → Result S (Unit {0}) → Type 0
 ReadsEach {S} {F} call f r text x = MatchResult x (λ s. FoldsText call (f r) tt text (Ok tt) (f s)) (λ _. ⊥)
 

@@ -10,7 +10,7 @@ RefusesSearch o NotFound = o ≡ None
 RefusesSearch o TooLong = ⊥
 RefusesSearch o NoMemory = Unit {0}
 
--- what stands at the place that was to be found, or a refusal
+-- the node at the place that was to be found, or an error
 abbrev pub FindsOrRefuses : {N : Type 0} → (N → Place) → Option Place → Result N CursorError → Type 0
 FindsOrRefuses place o r = MatchResult r (λ n. o ≡ Some (place n)) (RefusesSearch o)
 

@@ -21,6 +21,6 @@ place_from g (Child p i) = below p i
 abbrev pub place_of : NodeData → Place
 place_of d = place_from d.green d.spot
 
--- the green node stands at the cursor's place, at the cursor's offset
+-- the green node is at the cursor's place, at the cursor's offset
 abbrev pub IsSound : NodeData → Type 0
 IsSound d = Stands (place_of d) (Node d.green) d.offset

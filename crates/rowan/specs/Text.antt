@@ -13,7 +13,7 @@ pub record IsPart (bs : List ℕ) (from to : ℕ) : Type 0 where
   pub begins : IsCut bs from
   pub ends : IsCut bs to
 
--- this character stands after so many bytes
+-- this character starts at offset `n`
 pub record StandsAt (c : ℕ) (text : List ℕ) (n : ℕ) : Type 0 where
   pub before : List ℕ
   pub after : List ℕ
@@ -24,15 +24,15 @@ pub record StandsAt (c : ℕ) (text : List ℕ) (n : ℕ) : Type 0 where
 abbrev pub Lacks : ℕ → List ℕ → Type 0
 Lacks c text = NoCharPasses (λ d. d == c) text
 
--- this character stands after so many bytes, and not among them
+-- this character starts at offset `n`, and does not occur before it
 pub record FirstAt (c : ℕ) (text : List ℕ) (n : ℕ) : Type 0 where
   pub stands : StandsAt c text n
   pub first : Lacks c stands.before
 
--- some character begins after so many bytes
+-- a character starts at offset `n`
 abbrev pub Begins : List ℕ → ℕ → Type 0
 Begins text n = (n < length text) × IsCut text n
 
--- the character after so many bytes, if one begins there
+-- the character that starts at offset `n`, if any
 abbrev pub IsCharAt : List ℕ → ℕ → Option ℕ → Type 0
 IsCharAt text n r = MatchOption r (Begins text n → ⊥) (λ c. StandsAt c text n)

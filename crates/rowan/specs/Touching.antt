@@ -13,7 +13,7 @@ MatchTokens NoToken P Q R = P
 MatchTokens (Single x) P Q R = Q x
 MatchTokens (Between x y) P Q R = R x y
 
--- the same count of tokens, each made of the one in its place
+-- an equal number of tokens, each related to the one at the same position
 abbrev pub MapsTokens : {A B : Type 0} → (A → B → Type 0) → TokenAtOffset A → TokenAtOffset B → Type 0
 MapsTokens R NoToken r = r ≡ NoToken
 MapsTokens R (Single x) r = MatchTokens r ⊥ (R x) (λ _ _. ⊥)

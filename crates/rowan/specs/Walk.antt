@@ -12,7 +12,8 @@ use Rattle.rowan.specs.declared.utility_types.WalkEvent.TheVariants.{Enter, Leav
 abbrev pub Event : Type 0
 Event = WalkEvent Cursor
 
--- the events of a forest that stands below a place, the first term of which has this number: where the word opens a node, it is entered, and where the word closes it, left; a token is entered and left
+-- the events of a forest below a place, the first term of which has index `i`: where the word opens a node, it is
+-- entered, and where the word closes it, left; a token is entered and left
 abbrev pub walk_forest : Place → ℕ → Forest → List Event
 walk_forest p i empty = []
 walk_forest p i (node k f r) = Enter (Node (below p i)) ∷ (walk_forest (below p i) 0 f ++ Leave (Node (below p i)) ∷ walk_forest p (i + 1) r)

@@ -13,7 +13,7 @@ use rowan_green::{GreenNode, GreenToken, NodeOrToken, TextRange, TextSize};
 use std::alloc::{AllocError, Global};
 use std::marker::{Model, PhantomData};
 
-/// A node where it stands in a tree. A clone takes no memory.
+/// A node at its position in a tree. Cloning does not allocate.
 #[derive(Drop)]
 pub struct SyntaxNode<L> {
     cursor: cursor::SyntaxNode,
@@ -32,7 +32,7 @@ impl<L> Model for SyntaxNode<L> {
     ghost view = { λ n. n.cursor };
 }
 
-/// A token where it stands in a tree. A clone takes no memory.
+/// A token at its position in a tree. Cloning does not allocate.
 #[derive(Drop)]
 pub struct SyntaxToken<L> {
     cursor: cursor::SyntaxToken,
@@ -51,7 +51,7 @@ impl<L> Model for SyntaxToken<L> {
     ghost view = { λ t. t.cursor };
 }
 
-/// A node or a token where it stands in a tree.
+/// A node or a token at its position in a tree.
 pub type SyntaxElement<L> = NodeOrToken<SyntaxNode<L>, SyntaxToken<L>>;
 
 impl<L: Language> SyntaxNode<L> {
@@ -85,7 +85,7 @@ impl<L: Language> SyntaxNode<L> {
         L::kind_from_raw(raw)
     }
 
-    /// Where its text stands in the text of the tree.
+    /// Returns its range in the text of the tree.
     pub fn text_range(&self) -> TextRange
         ensures start { result.start.0 ≡ start_of self.now }
         ensures end { result.end.0 ≡ end_of self.now }
@@ -100,7 +100,7 @@ impl<L: Language> SyntaxNode<L> {
         self.cursor.index() as usize
     }
 
-    /// The green node that stands there, lent by the tree.
+    /// Returns a reference to the green node.
     pub fn green(&self) -> &GreenNode
         ensures { term_at self.now ≡ Some (Node result.now) }
     {
@@ -247,7 +247,7 @@ impl<L: Language> SyntaxNode<L> {
         Ok(element(found))
     }
 
-    /// The root of a tree of its own, with this green node.
+    /// Returns the root of a new tree with this green node.
     pub fn clone_subtree(&self, alloc: Global) -> Result<SyntaxNode<L>, AllocError>
         ensures { IfOk result
             (λ n. (g : Tree) × (term_at self.now ≡ Some (Node g)) × (n ≡ record { root = g; up = [] })) }
@@ -321,7 +321,7 @@ impl<L: Language> SyntaxToken<L> {
         L::kind_from_raw(self.cursor.kind())
     }
 
-    /// Where its text stands in the text of the tree.
+    /// Returns its range in the text of the tree.
     pub fn text_range(&self) -> TextRange
         ensures start { result.start.0 ≡ start_of self.now }
         ensures end { result.end.0 ≡ end_of self.now }
@@ -345,7 +345,7 @@ impl<L: Language> SyntaxToken<L> {
         self.cursor.text()
     }
 
-    /// The green token that stands there, lent by the tree.
+    /// Returns a reference to the green token.
     pub fn green(&self) -> &GreenToken
         ensures { term_at self.now ≡ Some (Token result.now) }
     {
@@ -387,14 +387,14 @@ impl<L: Language> SyntaxToken<L> {
         Ok(element_of(self.cursor.prev_sibling_or_token(alloc)?))
     }
 
-    /// The token after this one in the tree, wherever it stands.
+    /// Returns the next token of the tree, in this parent or another.
     pub fn next_token(&self, alloc: Global) -> Result<Option<SyntaxToken<L>>, AllocError>
         ensures { IfOk result (λ r. r ≡ first (tokens_after self.now)) }
     {
         Ok(token_of(self.cursor.next_token(alloc)?))
     }
 
-    /// The token before this one in the tree, wherever it stands.
+    /// Returns the previous token of the tree, in this parent or another.
     pub fn prev_token(&self, alloc: Global) -> Result<Option<SyntaxToken<L>>, AllocError>
         ensures { IfOk result (λ r. r ≡ first (tokens_before self.now)) }
     {
@@ -405,7 +405,11 @@ impl<L: Language> SyntaxToken<L> {
 impl<L: Language> Clone for SyntaxNode<L> {
     ghost is_clone = { λ n copy. copy ≡ n };
 
-    /// Refuses only where as many clones stand as a `usize` can count.
+    /// Returns another cursor to the node.
+    ///
+    /// # Errors
+    ///
+    /// `AllocError` if a reference count overflows.
     fn clone(&self) -> Result<SyntaxNode<L>, AllocError> {
         Ok(SyntaxNode::of(self.cursor.clone()?))
     }
@@ -414,7 +418,11 @@ impl<L: Language> Clone for SyntaxNode<L> {
 impl<L: Language> Clone for SyntaxToken<L> {
     ghost is_clone = { λ t copy. copy ≡ t };
 
-    /// Refuses only where as many clones stand as a `usize` can count.
+    /// Returns another cursor to the token.
+    ///
+    /// # Errors
+    ///
+    /// `AllocError` if a reference count overflows.
     fn clone(&self) -> Result<SyntaxToken<L>, AllocError> {
         Ok(SyntaxToken::of(self.cursor.clone()?))
     }

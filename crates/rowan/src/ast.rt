@@ -22,7 +22,7 @@ pub trait AstNode: Sized {
     /// Whether nodes of a kind can be cast.
     ghost casts: { Self.Language.Kind → Bool };
 
-    /// Where the node stands.
+    /// The place of the node.
     ghost place: { Self → Place };
 
     fn can_cast(kind: <Self::Language as Language>::Kind) -> bool
@@ -38,7 +38,7 @@ pub trait AstNode: Sized {
         ensures back { result.now ≡ place self.now }
         ensures own_kind { casts (Self.Language.from_raw (kind_at (place self.now))) ≡ true };
 
-    /// The same node as the root of a tree of its own.
+    /// Returns the root of a new tree with the node's green node, as this type.
     fn clone_subtree(&self, alloc: Global) -> Result<Self, AllocError>
         ensures { IfOk result (λ x. (g : Tree) × (term_at (place self.now) ≡ Some (Node g)) ×
             (place x ≡ record { root = g; up = [] })) }

@@ -5,8 +5,7 @@ ghost use Rattle.rowan.specs.Text.{IsPart};
 
 use rowan_green::{GreenNode, NodeOrToken};
 
-/// What reads a text in pieces, in order. A piece has text, and is told the byte at which it
-/// begins.
+/// A reader of a text in pieces, in order. A piece is not empty and comes with its offset.
 pub(crate) trait ChunkReader: Sized {
     /// What a reader has when it stops before the end.
     type Found;
@@ -43,7 +42,7 @@ pub(crate) trait ChunkReader: Sized {
         → reads r at (a ++ b) (Err e) };
 }
 
-/// Where a text stands: `len` bytes of a node's text, after the first `start`.
+/// A part of a node's text: `len` bytes from offset `start` on.
 #[derive(Clone, Copy)]
 pub(crate) struct Part<'a> {
     pub(crate) node: &'a GreenNode,
@@ -51,8 +50,8 @@ pub(crate) struct Part<'a> {
     pub(crate) len: u32,
 }
 
-/// Has a reader read `len` bytes of a node's text, those after the first `skip`, the first of which
-/// is told as `at`. Goes down only where these bytes are.
+/// Passes `len` bytes of the node's text, from offset `skip` on, to `reader`. The reader gets `at`
+/// as the offset of the first of them. Descends only into nodes that have some of these bytes.
 pub(crate) fn read_part<R: ChunkReader>(
     node: &GreenNode,
     skip: u32,

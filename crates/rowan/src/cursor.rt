@@ -1,4 +1,4 @@
-//! Cursors over nodes and tokens that know no language: a green value and where it stands.
+//! Cursors over nodes and tokens, without a language: a green value and its position in a tree.
 ghost use Rattle.std.specs.Prelude.{◌≡◌, ◌+◌, ◌<◌, ◌≤◌, ◌^◌, [], fold, length, IfOk, OnErr, IsSome, Some};
 ghost use Rattle.std.specs.Prelude.{nat_eq};
 ghost use Rattle.std.specs.Cmp.Lexicographic.{pointwise};
@@ -23,7 +23,7 @@ struct NodeData {
     spot: Spot,
 }
 
-/// Where a node stands: at the top, or below a node with this number among its children.
+/// The parent of a node and the node's index among its children; `Root` if it has none.
 #[cycle(cursor)]
 #[derive(Drop)]
 enum Spot {
@@ -31,7 +31,7 @@ enum Spot {
     Child(SyntaxNode, u32),
 }
 
-/// A node where it stands. A clone shares the way up to the root, and takes no memory.
+/// A node at its position in a tree. A clone shares the ancestors and does not allocate.
 #[cycle(cursor)]
 pub struct SyntaxNode {
     shared: Rc<NodeData>,
@@ -81,7 +81,7 @@ impl Model for SyntaxNode {
     ghost size_decreases = { λ a h. falls a.shared.value.green a.shared.value.spot };
 }
 
-/// A token where it stands.
+/// A token at its position in a tree.
 pub struct SyntaxToken {
     parent: SyntaxNode,
     index: u32,
@@ -118,7 +118,7 @@ impl Model for SyntaxToken {
     ghost invariant = { λ a. Stands (below a.parent a.index) (Token a.green) a.offset };
 }
 
-/// A node or a token where it stands.
+/// A node or a token at its position in a tree.
 pub type SyntaxElement = NodeOrToken<SyntaxNode, SyntaxToken>;
 
 impl SyntaxNode {
@@ -138,7 +138,7 @@ impl SyntaxNode {
         Ok(SyntaxNode { shared })
     }
 
-    /// The green node that stands there, lent by the tree.
+    /// Returns a reference to the green node.
     pub fn green(&self) -> &GreenNode
         ensures { term_at self.now ≡ Some (Node result.now) }
     {
@@ -258,7 +258,7 @@ impl SyntaxNode {
 }
 
 impl SyntaxToken {
-    /// The green token that stands there.
+    /// Returns a reference to the green token.
     pub fn green(&self) -> &GreenToken
         ensures { term_at self.now ≡ Some (Token result.now) }
     {
@@ -313,7 +313,11 @@ impl SyntaxToken {
 impl Clone for SyntaxNode {
     ghost is_clone = { λ n copy. copy ≡ n };
 
-    /// Refuses only where as many clones stand as a `usize` can count.
+    /// Returns another cursor to the node.
+    ///
+    /// # Errors
+    ///
+    /// `AllocError` if the reference count overflows.
     fn clone(&self) -> Result<SyntaxNode, AllocError> {
         let shared = self.shared.clone()?;
         Ok(SyntaxNode { shared })
@@ -323,7 +327,11 @@ impl Clone for SyntaxNode {
 impl Clone for SyntaxToken {
     ghost is_clone = { λ n copy. copy ≡ n };
 
-    /// Refuses only where as many clones stand as a `usize` can count.
+    /// Returns another cursor to the token.
+    ///
+    /// # Errors
+    ///
+    /// `AllocError` if a reference count overflows.
     fn clone(&self) -> Result<SyntaxToken, AllocError> {
         Ok(SyntaxToken {
             parent: self.parent.clone()?,

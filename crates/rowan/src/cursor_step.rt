@@ -17,7 +17,7 @@ impl SyntaxNode {
         self.child(alloc, 0, self.start())
     }
 
-    /// The child of this number, if there are so many.
+    /// Returns the child at index `number`, if any.
     pub fn nth_child_or_token(
         &self,
         alloc: Global,

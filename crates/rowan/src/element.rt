@@ -13,14 +13,14 @@ use std::alloc::{AllocError, Global};
 /// The calls of a `SyntaxElement`. `NodeOrToken` is a type of another crate, so they come as a
 /// trait.
 pub trait ElementExt<L: Language> {
-    /// The element where it stands.
+    /// The cursor of the element.
     ghost cursor: { Self → Cursor };
 
     /// Its kind, as the language reads it.
     fn kind(&self) -> L::Kind
         ensures { result ≡ L.from_raw (kind_at (place_in (cursor self.now))) };
 
-    /// Where its text stands in the text of the tree.
+    /// Returns its range in the text of the tree.
     fn text_range(&self) -> TextRange
         ensures start { result.start.0 ≡ start_of (place_in (cursor self.now)) }
         ensures end { result.end.0 ≡ end_of (place_in (cursor self.now)) };

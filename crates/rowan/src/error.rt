@@ -3,14 +3,14 @@ use std::alloc::AllocError;
 use std::error::Error;
 use std::fmt;
 
-/// A refusal of this crate. What was refused changed nothing.
+/// The error type of this crate. On error, nothing is changed.
 #[derive(Clone, Copy, Debug, PartialEq, Eq)]
 pub enum CursorError {
     /// No node has the kind and the range.
     NotFound = 1,
     /// A length in bytes or a count of children is past `u32`.
     TooLong = 2,
-    /// Memory was refused.
+    /// Out of memory.
     NoMemory = 3,
 }
 

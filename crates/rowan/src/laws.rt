@@ -7,8 +7,7 @@ pub fn texts_are_slices()
     ensures { TextsAreSlices }
 {}
 
-/// The walk through an element, without its places, is the word of calls that builds what stands
-/// there.
+/// The walk through an element, without its places, is the word of calls that builds the element.
 pub fn walks_are_words()
     ensures { WalksAreWords }
 {}

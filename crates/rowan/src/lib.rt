@@ -1,22 +1,24 @@
-//! Cursors over green trees: nodes and tokens that know where they stand.
+//! Cursors over green trees: nodes and tokens that know their positions.
 //!
-//! A contract sees a cursor as a place: a root term, and the way up to the root, child numbers with
-//! the innermost first. The path from the root is that way read backwards. Everything else follows
-//! from the two: the green value is the term there, an offset is the length of all text before it,
-//! a walk is a stretch of the word of the tree.
+//! The model of a cursor is a place: a root term and the up-path, child indices with the innermost
+//! first. The path from the root is the up-path reversed. Everything else follows from the two: the
+//! green value is the term there, an offset is the length of all text before it, a walk is a part
+//! of the word of the tree.
 //!
 //! A node keeps its parent and its offset, so a step to its parent takes constant time. A step to a
 //! child or to a neighbouring sibling takes time in the height of the balanced list of children.
-//! Each allocates at most one small block; a token allocates nothing, and cloning does not allocate.
-//! Steps to a sibling that is a node pass over the tokens between. Comparing two cursors reads both
+//! Each allocates at most one small block; a token allocates nothing, and cloning does not
+//! allocate. Steps to a sibling that is a node skip the tokens between, one by one. Comparing two
+//! cursors with equal up-paths reads both roots.
 //! roots.
 //!
-//! A cursor is dropped, compared and hashed by loops. Comparing a text with a string and finding the
-//! character at an offset nest calls to the binary logarithm of the text's length at most; printing a
-//! text, reading its chunks and comparing two texts go one call deeper for each level of the tree.
+//! Cursors are dropped, and their up-paths compared and hashed, by loops. Finding the character at
+//! an offset descends by a loop, too. Comparing a text with a string nests calls to the binary
+//! logarithm of the text's length at most; printing a text, reading its chunks and comparing two
+//! texts go one call deeper for each level of the tree.
 //!
-//! What makes cursors wants memory, so it answers a `Result`. An iterator gives one `Err`, and then
-//! ends.
+//! A call that creates a cursor allocates or increments a reference count, so it returns a
+//! `Result`. An iterator yields one `Err` and then ends.
 #![tactic(auto)]
 
 pub mod api;

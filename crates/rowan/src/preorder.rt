@@ -13,8 +13,8 @@ use rowan_green::NodeOrToken;
 use std::alloc::{AllocError, Global};
 use std::marker::{Model, PhantomData};
 
-/// The events of an element and of all that stands below it, nodes and tokens. A contract sees the
-/// events that are left.
+/// An iterator over the events of an element and its descendants, nodes and tokens. Model: the
+/// remaining events.
 pub struct PreorderWithTokens<L> {
     alloc: Global,
     next: Option<Step>,
@@ -62,8 +62,8 @@ impl<L: Language> PreorderWithTokens<L> {
         }
     }
 
-    /// Goes on after all that stands below the element entered last that is not left yet: that
-    /// element is left next. At the start of a walk nothing is left of it.
+    /// Skips the remaining descendants of the innermost element that was entered and not yet left;
+    /// the next event leaves that element. At the start of a walk, skips the whole walk.
     pub fn skip_subtree(&mut self) -> Result<(), AllocError>
         ensures ok { IfOk result (λ _. self.new ≡ skipped 0 self.old) }
         ensures err { OnErr result (self.new ≡ self.old) }
@@ -283,14 +283,14 @@ impl<L: Language> Iterator for DescendantsWithTokens<L> {
 }
 
 impl<L: Language> SyntaxNode<L> {
-    /// A walk through the node and all that stands below it.
+    /// Returns a walk through the node and its descendants, nodes and tokens.
     pub fn preorder_with_tokens(&self, alloc: Global) -> Result<PreorderWithTokens<L>, AllocError>
         ensures { IfOk result (λ w. w ≡ walk (Node self.now)) }
     {
         Ok(PreorderWithTokens::new(alloc, self.cursor().clone()?))
     }
 
-    /// A walk through the node and all nodes below it.
+    /// Returns a walk through the node and its descendants that are nodes.
     pub fn preorder(&self, alloc: Global) -> Result<Preorder<L>, AllocError>
         ensures { IfOk result (λ w. w ≡ walk (Node self.now)) }
     {

@@ -44,7 +44,7 @@ impl SyntaxText {
         }
     }
 
-    /// Where the text stands.
+    /// Returns the text as a part of its node's text.
     pub(crate) fn part(&self) -> Part<'_>
         ensures within { IsPart (tree_text result.node.now) result.start (result.start + result.len) }
         ensures text { take result.len (drop result.start (tree_text result.node.now)) ≡ self.now }

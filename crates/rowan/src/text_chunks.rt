@@ -136,9 +136,9 @@ fn call_with<T, E, F: FnMut(T, &str) -> Result<T, E>>(
 }
 
 impl SyntaxText {
-    /// Calls `f` on the pieces of the text in order, each time with what the call before made of
-    /// its piece, the first time with `init`. The pieces have text, and together they are the text.
-    /// The first refusal ends it, and is the answer. Copies no text.
+    /// Calls `f` on the pieces of the text in order, each time with the result of the previous
+    /// call, the first time with `init`. No piece is empty, and together they are the text. Stops
+    /// at the first error and returns it. Copies no text.
     pub fn try_fold_chunks<T: Drop, E, F: FnMut(T, &str) -> Result<T, E> + Drop>(
         &self,
         init: T,

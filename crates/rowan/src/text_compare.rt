@@ -39,8 +39,8 @@ impl<'a> Stretch<'a> {
         }
     }
 
-    /// The element that the first byte left is in, once those before it are passed over; none where
-    /// no byte is left.
+    /// Skips the elements before the first remaining byte, and returns the element with that byte;
+    /// `None` if no byte is left.
     fn head(&mut self) -> Option<&'a GreenElement>
         requires { IsStretch self.old }
         ensures passes { Passes 0 self.old self.new }
@@ -59,7 +59,7 @@ impl<'a> Stretch<'a> {
         None
     }
 
-    /// Passes so many bytes.
+    /// Skips `count` bytes.
     fn pass(&mut self, count: u32)
         requires sound { IsStretch self.old }
         requires enough { count ≤ self.old.left }
@@ -179,8 +179,7 @@ impl SyntaxText {
     }
 }
 
-/// Whether two texts of one length stand in the same place of equal trees, which the trees tell
-/// without a look at their texts.
+/// Returns `true` if two texts of one length start at the same offset of equal nodes.
 fn stands_alike(a: Part<'_>, b: Part<'_>) -> bool
     ensures { result ≡ true → take a.entry.len (drop a.entry.start (tree_text a.entry.node.now))
         ≡ take a.entry.len (drop b.entry.start (tree_text b.entry.node.now)) }
@@ -197,9 +196,10 @@ impl PartialEq for SyntaxText {
 
     ghost laws = { partial_equiv_from_equiv nat_list_eq_equiv };
 
-    /// Whether the two are the same text, however their trees cut it. Both are read side by side,
-    /// each byte once. A node that reaches past the end of one in the other tree is entered again
-    /// there, and its children before that are passed over by their lengths.
+    /// Returns `true` if the texts are equal, however their trees divide them. Unless they start at
+    /// equal offsets of equal nodes, they are compared side by side, from the first byte on. A node
+    /// that reaches past the end of one in the other tree is entered again there, and its children
+    /// before that are skipped by their lengths.
     fn eq(&self, other: &SyntaxText) -> bool {
         let part = self.part();
         let there = other.part();

@@ -8,7 +8,7 @@ use crate::chunks::{ChunkReader, read_part};
 use crate::syntax_text::SyntaxText;
 use rowan_green::{GreenNode, NodeOrToken, TextSize};
 
-/// Looks for a character, and stops at the byte where it stands.
+/// A search for a character, which stops at its offset.
 #[derive(Drop)]
 struct CharSearch {
     wanted: char,
@@ -74,8 +74,8 @@ impl SyntaxText {
     }
 }
 
-/// The character that begins at this byte of a node's text, of which only what stands before `end`
-/// counts.
+/// Returns the character that starts at offset `byte` of the first `end` bytes of the node's text;
+/// `None` if no character starts there.
 fn char_in(node: &GreenNode, byte: u32, end: u32) -> Option<char>
     requires cut { IsCut (tree_text node.now) end }
     requires before { byte < end }

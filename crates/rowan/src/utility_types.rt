@@ -14,7 +14,7 @@ pub enum WalkEvent<T> {
 }
 
 impl<T> WalkEvent<T> {
-    /// The same event of what `f` makes of its element.
+    /// Returns the event with `f` applied to its element.
     pub fn map<U, F: FnOnce(T) -> U>(self, f: F) -> WalkEvent<U>
         requires { MatchEvent self (F.pre f) (F.pre f) }
         ensures { MatchEvent self (λ x. MatchEvent result (F.post f x) (λ _. ⊥))

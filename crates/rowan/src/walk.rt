@@ -9,8 +9,7 @@ use crate::cursor_step::{next_sibling_of, parent_of};
 use rowan_green::NodeOrToken;
 use std::alloc::{AllocError, Global};
 
-/// An element that is entered or left next, and how many levels it stands below the start of the
-/// walk.
+/// An element that is entered or left next, and its depth below the start of the walk.
 #[derive(Drop)]
 pub struct Step {
     pub element: SyntaxElement,

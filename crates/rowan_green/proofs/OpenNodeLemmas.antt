@@ -138,7 +138,7 @@ complete_built b os es n t e w =
     let f = finished (reverse os) es t (ap (λ v. v.word) e ∙ w) in
     (reversed_to_none os f.0, f.1)
 
--- ---- the same where one more node was opened, or none where memory was refused
+-- ---- a builder with one more open node, or with the old ones after an allocation failure
 
 pub nested_after : {T E : Type 0} (r : Result T E) (os new : List OpenNode) (o : OpenNode) (es : List Term) → OnOk r (new ≡ os ++ o ∷ []) → OnErr r (new ≡ os) → o.first ≤ length es → base_of (reverse os) ≤ o.first → IsNested (reverse os) (length es) → IsNested (reverse new) (length es)
 nested_after (Ok x) os new o es p q h k s =

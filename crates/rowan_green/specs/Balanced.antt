@@ -28,7 +28,7 @@ half_of (One e) = 0
 half_of (Block half v) = half
 half_of (Fork half l r n h) = half
 
--- a fork of this height has at least so many terms, and so has a block that lies below one
+-- the least number of terms in a fork of this height; at height 0, in a block below a fork
 abbrev pub fewest : ℕ → ℕ
 fewest zero = 8
 fewest (suc zero) = 16
@@ -75,7 +75,7 @@ pub record IsJoined (d : List Term × ℕ) (l : List Term × ℕ) (r : List Term
 abbrev pub join : List Term × ℕ → List Term × ℕ → List Term × ℕ
 join l r = (l.0 ++ r.0, max l.1 r.1 + 1)
 
--- two lists that may be sides of a fork, where their heights may differ by so much
+-- two lists that may be the sides of a fork, if their heights may differ by `by`
 pub record CanJoin (by : ℕ) (l : List Term × ℕ) (r : List Term × ℕ) : Type 0 where
   pub left : 8 ≤ length l.0
   pub right : 8 ≤ length r.0

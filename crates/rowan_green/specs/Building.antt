@@ -34,7 +34,7 @@ abbrev pub first_or_zero : List ℕ → ℕ
 first_or_zero [] = 0
 first_or_zero (n ∷ ns) = n
 
--- a checkpoint of this number and count still holds: the same node is innermost, and has at least so many children
+-- a checkpoint of this number and count is valid: the same node is innermost, and has at least `count` children
 pub record IsCurrent (b : Building) (number count : ℕ) : Type 0 where
   pub number_is : number ≡ first_or_zero b.open_numbers
   pub within : count ≤ length (current_children b)

@@ -18,7 +18,7 @@ use std::alloc::{AllocError, Global};
 use std::fmt;
 use std::marker::Model;
 
-/// The builder's own cache, or one that is lent to it.
+/// The builder's own cache, or a borrowed one.
 #[derive(Drop)]
 enum Cache<'c> {
     Own(NodeCache),
@@ -200,7 +200,8 @@ impl<'c> GreenNodeBuilder<'c> {
         }
     }
 
-    /// Whether the node of the checkpoint is the innermost open one, and has so many children.
+    /// Returns `true` if the node of the checkpoint is the innermost open one, and has at least as
+    /// many children as at the checkpoint.
     pub fn is_checkpoint(&self, checkpoint: Checkpoint) -> bool
         ensures { IsTrue result ↔ IsCurrent self.now checkpoint.number checkpoint.count }
     {

@@ -393,7 +393,7 @@ impl Part {
         Part { text_len, list }
     }
 
-    /// The list of clones of these elements, with so many levels of forks.
+    /// Returns the list of clones of these elements, with `height` levels of forks.
     fn built(alloc: Global, elements: &[GreenElement], height: u8) -> Result<Part, AllocError>
         requires many { 8 * 2 ^ height ≤ length elements.now }
         requires few { length elements.now ≤ 16 * 2 ^ height }
@@ -431,7 +431,7 @@ impl Part {
     }
 }
 
-/// How many levels of forks lie above blocks of so many elements.
+/// Returns the number of levels of forks above the blocks of a list of `count` elements.
 fn height_for(count: usize) -> u8
     requires many { 8 ≤ count }
     requires fits { count < 2 ^ 32 }

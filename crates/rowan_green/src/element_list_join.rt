@@ -164,7 +164,7 @@ fn part_of_block(
     Ok(Rc::new(alloc, Part::few(elements))?)
 }
 
-/// The first elements of a list, so many.
+/// Returns the first `count` elements of a list.
 pub(crate) fn first(alloc: Global, list: &Rc<Part>, count: usize) -> Result<Rc<Part>, AllocError>
     requires { count ≤ length list.now.value.0 }
     ensures { IfOk result (λ l. l.value.0 ≡ take count list.now.value.0) }

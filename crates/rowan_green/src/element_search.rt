@@ -9,7 +9,7 @@ use crate::element_list::FEWEST;
 use crate::node::GreenNode;
 use crate::utility_types::NodeOrToken;
 
-/// The element at an offset: its number, where it starts, and how many lengths were looked at.
+/// The element at an offset: its index, its start, and the number of lengths read to find it.
 #[derive(Clone, Copy)]
 pub(crate) struct Place {
     pub(crate) index: usize,
@@ -18,7 +18,8 @@ pub(crate) struct Place {
 }
 
 impl Place {
-    /// The same place, where so many elements and bytes lie before, and one more look was needed.
+    /// Returns the place with `count` more elements and `bytes` more bytes before it, and one more
+    /// length read.
     pub(crate) fn further(self, count: usize, bytes: u32) -> Place
         requires index { count + self.index < 2 ^ 64 }
         requires start { bytes + self.start < 2 ^ 32 }

@@ -3,14 +3,14 @@ use std::alloc::{AllocError, AllocFailed};
 use std::error::Error;
 use std::fmt;
 
-/// A refusal of this crate. What was refused changed nothing.
+/// The error type of this crate. On error, nothing is changed.
 #[derive(Clone, Copy, Debug, PartialEq, Eq)]
 pub enum GreenError {
     /// A length in bytes or a count of children is past `u32`, or a node's number past `u64`.
     TooLong = 1,
     /// A call that does not fit the nodes that are open.
     Unbalanced = 2,
-    /// Memory was refused.
+    /// Out of memory.
     NoMemory = 3,
 }
 

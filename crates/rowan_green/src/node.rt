@@ -378,7 +378,11 @@ pub(crate) fn fitting_len(children: &[GreenElement]) -> Option<u32>
 impl Clone for GreenNode {
     ghost is_clone = { λ n copy. copy ≡ n };
 
-    /// Refuses only where as many clones stand as a `usize` can count.
+    /// Returns another reference to the node.
+    ///
+    /// # Errors
+    ///
+    /// `AllocError` if the reference count overflows.
     fn clone(&self) -> Result<GreenNode, AllocError> {
         let shared = self.shared.clone()?;
         Ok(GreenNode { shared })

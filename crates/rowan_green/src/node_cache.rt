@@ -20,7 +20,7 @@ const FEWEST_SLOTS: usize = 64;
 
 const MOST_SLOTS: usize = 1024;
 
-/// A value with its fingerprint, so that another one is passed over unread.
+/// A value with its fingerprint, so that one with another fingerprint is skipped unread.
 #[derive(Drop)]
 struct Kept<T> {
     fingerprint: u32,
@@ -78,7 +78,8 @@ impl<T: Drop> Slots<T> {
         }
     }
 
-    /// Begins anew with four times as many slots, which are empty.
+    /// Starts again with four times as many slots, at least `FEWEST_SLOTS` and at most
+    /// `MOST_SLOTS`. All are empty.
     fn restart(&mut self, alloc: Global) -> Result<(), AllocError> {
         let count = self
             .slots

@@ -116,7 +116,7 @@ impl GreenNode {
         }
     }
 
-    /// The same, where many children are left. The node shares what stays of the old list.
+    /// Variant of `splice` for a result of many children. The node shares parts of the old list.
     fn splice_many(
         &self,
         alloc: Global,

@@ -6,7 +6,7 @@ ghost use Rattle.std.specs.Prelude.{◌≡◌};
 pub struct TextSize(pub u32);
 
 impl TextSize {
-    /// So many bytes.
+    /// Returns a size of `bytes` bytes.
     pub const fn new(bytes: u32) -> TextSize
         ensures { result.0 ≡ bytes }
     {

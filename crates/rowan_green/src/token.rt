@@ -37,7 +37,12 @@ impl Model for GreenToken {
 }
 
 impl GreenToken {
-    /// A token of a kind and a text. Refuses a text of 2^32 bytes or more as `TooLong`.
+    /// Returns a token of this kind and text.
+    ///
+    /// # Errors
+    ///
+    /// - [`GreenError::TooLong`] if `text` has 2^32 bytes or more.
+    /// - [`GreenError::NoMemory`] if an allocation fails.
     pub fn new(alloc: Global, kind: SyntaxKind, text: &str) -> Result<GreenToken, GreenError>
         ensures ok { IfOk result (λ t. t ≡ record { kind = kind.0; text = text.now }) }
         ensures fits { OnOk result (FitsToken text.now) }
@@ -84,7 +89,11 @@ impl GreenToken {
 impl Clone for GreenToken {
     ghost is_clone = { λ t copy. copy ≡ t };
 
-    /// Refuses only where as many clones stand as a `usize` can count.
+    /// Returns another reference to the token.
+    ///
+    /// # Errors
+    ///
+    /// `AllocError` if the reference count overflows.
     fn clone(&self) -> Result<GreenToken, AllocError> {
         let shared = self.shared.clone()?;
         Ok(GreenToken { shared })

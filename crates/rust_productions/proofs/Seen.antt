@@ -195,3 +195,8 @@ saw-none l m {c} {fs} {v} known saw then_so = record { at = λ s e. one s (sees 
     one s true is h none =
         let so : sees c s m ≡ true = subst (λ (o : Option Bool). Right c s m o) then_so (is_told c s (Answers l true ∷ fs) (is, h) m) in
         absurd (let z : true ≡ false = sym so ∙ none in cc)
+
+-- where the whole language is read, a look of it alone sees what it asks
+pub saw-of-whole : {c b : Bool} {l : Look} {v : View} → Saw c (Whole 0) v true → Saw c (Both (Whole 0) l) v b → Saw c l v b
+unfolding sees
+saw-of-whole {c} {b} {l} whole both = record { at = λ s e. sym (ap (λ (w : Bool). if w then sees c s l else false) (whole.at s e)) ∙ both.at s e }

@@ -43,6 +43,7 @@ pub mod params;
 pub mod paths;
 pub mod pattern_ranges;
 pub mod patterns;
+pub mod statements;
 pub mod token_trees;
 pub mod types;
 pub mod use_trees;

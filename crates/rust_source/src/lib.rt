@@ -39,4 +39,6 @@ pub use typed_nodes::{
 };
 
 #[cfg(test)]
+mod trial_tests;
+#[cfg(test)]
 mod typed_tests;

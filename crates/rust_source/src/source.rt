@@ -1,5 +1,5 @@
 //! A text with all that its calls need.
-ghost use Rattle.std.specs.Prelude.{◌≡◌, ◌≤◌, ◌+◌, ℕ, true, chars, length, map, option_map, IfOk, IfErr, MatchOption, OnOk};
+ghost use Rattle.std.specs.Prelude.{◌≡◌, ◌≤◌, ◌+◌, ℕ, true, chars, length, map, option_map, string_bytes, IfOk, IfErr, MatchOption, OnOk};
 ghost use Rattle.lexed_text.specs.Kept.{IsKept};
 ghost use Rattle.parser_input.specs.Kind.{raw_of};
 ghost use Rattle.rowan_green.specs.Forest.{tree_text};
@@ -289,6 +289,21 @@ impl Source {
         ensures refused { IfErr result (RefusesDifference (verdict self.now.document editor.now)) }
     {
         self.document.difference(self.alloc, editor)
+    }
+
+    /// Returns the text that [`Source::commit`] of `editor` would make, if it would accept it. It
+    /// changes nothing.
+    ///
+    /// # Errors
+    ///
+    /// As of [`Document::try_commit`].
+    pub fn try_commit(&self, editor: &SyntaxEditor) -> Result<String, CommitError>
+        ensures accepted { OnOk result (verdict self.now.document editor.now ≡ Accepted) }
+        ensures text { IfOk result (λ text. string_bytes text ≡ tree_text (rewritten editor.now)) }
+        ensures refused { IfErr result (λ error. (number : ℕ)
+            → RefusesCommit (verdict self.now.document editor.now) number error) }
+    {
+        self.document.try_commit(self.alloc, editor)
     }
 
     /// Applies all changes of `editor` if the new text reads as the rewritten tree, whatever messages

@@ -58,7 +58,7 @@ more-left text n c cs e = let l = length-drop n text in let m = ap length e in o
 none-left : (text : List ℕ) (n k : ℕ) → drop n text ≡ [] → n ≤ k → k < length text → ⊥
 none-left text n k e low high = let l = length-drop n text in let m = ap length e in absurd (omega arith)
 
--- a place that does not end the character is passed over
+-- a position that does not end the character is skipped
 steps-on : (text : List ℕ) (n c : ℕ) (cs : List ℕ) → drop n text ≡ c ∷ cs → not (is_even (backslashes_before n text)) ≡ false → (EndsCharacterAt text n → ⊥) → ticked false (c ∷ cs) ≡ past (ticked (c == backslash) cs)
 steps-on text n c cs e run none =
     elim (bool_cases (c == tick)) [

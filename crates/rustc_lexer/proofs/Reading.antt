@@ -92,7 +92,7 @@ reads-name e = record { value_is = refl; rest_is = e }
 pub reads-two : {old mid new : List ℕ} → mid ≡ drop 1 old → new ≡ drop 1 mid → Reads (skip 2) old (length (take 2 old)) new
 reads-two {old} {mid} {new} e g = reads-skip 2 (g ∙ ap (λ z. drop 1 z) e ∙ drop-drop 1 1 old)
 
--- so many, and one more
+-- `n` characters, and one more
 pub reads-more : (n : ℕ) {old mid new : List ℕ} → mid ≡ drop n old → new ≡ drop 1 mid → Reads (skip (suc n)) old (length (take (suc n) old)) new
 reads-more n {old} {mid} {new} e g =
     let more : n + 1 ≡ suc n = omega arith in

@@ -158,7 +158,7 @@ closed-found p wides bs bytes n u same found =
     let len : run_len p bs ≡ n = sym (found ∙ ap (λ z. run_len p z) same) in
     subst (λ k. Seam bs k (run_len p (chars bs))) len (seam-closed p wides bs u)
 
--- and all of it, where an ASCII character or nothing stands after it
+-- and all of it, if an ASCII character or nothing comes after it
 pub run-front-all : (p : ℕ → Bool) (cs : List ℕ) → p 0 ≡ false → get_or (drop (run_len (λ b. ltb b 128 && p b) cs) cs) 0 0 < 128 → drop (run_len (λ b. ltb b 128 && p b) cs) cs ≡ drop (run_len p cs) cs
 run-front-all p cs none small =
     let t : ℕ → Bool = λ b. ltb b 128 && p b in

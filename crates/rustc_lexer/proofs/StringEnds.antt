@@ -56,7 +56,7 @@ wider_cases text n false taken other ih = (
 wider : (text : List ℕ) (n : ℕ) (r : Taken Bool) → (ClosesAt text n → ⊥) → Ends text (suc n) r → Ends text n (past r)
 wider text n r other ih = wider_cases text n r.value r.taken other ih
 
--- no place before one that is passed over closes
+-- a position that is skipped does not close the string
 not_here : (text : List ℕ) (n c : ℕ) (odd : Bool) → get_or text n 0 ≡ c → not (is_even (backslashes_before n text)) ≡ odd → ((c == double_quote) && not odd) ≡ false → ClosesAt text n → ⊥
 not_here text n c odd at run h closes =
     let quote : (c == double_quote) ≡ true = eq-eqb c double_quote (sym at ∙ closes.quote) in

@@ -20,7 +20,7 @@ pub record ClosesAt (text : List ℕ) (k : ℕ) : Type 0 where
   pub quote : get_or text k 0 ≡ double_quote
   pub even : is_even (backslashes_before k text) ≡ true
 
--- at place k of a raw string's inside stands a quote with so many hashes after it
+-- at index `k` inside a raw string is a quote with `hashes` hashes after it
 pub record ClosesRawAt (hashes : ℕ) (text : List ℕ) (k : ℕ) : Type 0 where
   pub inside : k < length text
   pub quote : get_or text k 0 ≡ double_quote

@@ -20,7 +20,7 @@ fn is_ascii_continue(b: u8) -> bool
     b.is_ascii_alphanumeric() || b == b'_'
 }
 
-/// The bytes at the front that are ASCII white space.
+/// Returns the number of bytes at the front that are ASCII whitespace.
 pub(crate) fn white_len(bytes: &[u8]) -> usize
     ensures { result ≡ run_len (λ b. ltb b 128 && is_whitespace b) bytes.now }
 {

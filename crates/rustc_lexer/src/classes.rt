@@ -3,8 +3,8 @@
 ghost use Rattle.std.specs.Prelude.{◌≡◌, chars};
 ghost use Rattle.rustc_lexer.specs.Characters.{is_whitespace, is_horizontal_whitespace, is_digit, is_id_start, is_id_continue, is_ident};
 
-/// Whether a character is white space between tokens: U+0009 to U+000D, space, U+0085, U+200E,
-/// U+200F, U+2028, U+2029.
+/// Returns `true` if the character is whitespace between tokens: U+0009 to U+000D, space, U+0085,
+/// U+200E, U+200F, U+2028, U+2029.
 #[tactic(auto, unfolding(crate::specs::Characters::is_whitespace))]
 pub fn is_whitespace(c: char) -> bool
     ensures { result ≡ is_whitespace c }

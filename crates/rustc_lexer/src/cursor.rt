@@ -71,14 +71,14 @@ impl<'a> Cursor<'a> {
         self.after().third()
     }
 
-    /// The same place, to be kept while this cursor moves on.
+    /// Returns a copy of the cursor, which stays here while this one moves on.
     pub fn here(&self) -> Cursor<'a>
         ensures { result ≡ self.now }
     {
         Cursor { rest: self.rest }
     }
 
-    /// The text from here up to a later place.
+    /// Returns the text from here up to a later position.
     pub fn until(&self, later: &Cursor<'a>) -> Cursor<'a>
         requires { (n : ℕ) × (later.now ≡ drop n self.now) }
         ensures { (n : ℕ) → later.now ≡ drop n self.now → result ≡ take n self.now }
@@ -101,7 +101,7 @@ impl<'a> Cursor<'a> {
         }
     }
 
-    /// Passes over a character, if one is left.
+    /// Skips one character, if any is left.
     pub fn bump(&mut self)
         ensures { self.new ≡ drop 1 self.old }
     {
@@ -111,7 +111,7 @@ impl<'a> Cursor<'a> {
         }
     }
 
-    /// Passes over a character of ASCII.
+    /// Skips one ASCII character.
     pub(crate) fn bump_ascii(&mut self)
         requires some { 0 < peek 0 self.old }
         requires ascii { peek 0 self.old < 128 }
@@ -135,7 +135,7 @@ impl<'a> Cursor<'a> {
         self.rest.is_empty()
     }
 
-    /// Passes over the white space that is next.
+    /// Skips the whitespace that is next.
     pub fn eat_whitespace(&mut self)
         ensures { self.new ≡ drop (run_len is_whitespace self.old) self.old }
     {
@@ -147,7 +147,7 @@ impl<'a> Cursor<'a> {
         }
     }
 
-    // The same, one character at a time.
+    // Skips the whitespace that is next, one character at a time.
     #[inline(never)]
     fn eat_wide_whitespace(&mut self)
         ensures { self.new ≡ drop (run_len is_whitespace self.old) self.old }
@@ -157,7 +157,7 @@ impl<'a> Cursor<'a> {
         }
     }
 
-    /// Passes over the characters that may follow in an identifier.
+    /// Skips the characters that are next and can continue an identifier.
     #[inline(always)]
     pub(crate) fn eat_id_continue(&mut self)
         ensures { self.new ≡ drop (run_len is_id_continue self.old) self.old }
@@ -170,7 +170,7 @@ impl<'a> Cursor<'a> {
         }
     }
 
-    // The same, one character at a time.
+    // Skips the characters that can continue an identifier, one at a time.
     #[inline(never)]
     fn eat_wide_id_continue(&mut self)
         ensures { self.new ≡ drop (run_len is_id_continue self.old) self.old }
@@ -180,7 +180,7 @@ impl<'a> Cursor<'a> {
         }
     }
 
-    /// Passes over an identifier, if one is next.
+    /// Skips an identifier, if one is next.
     pub(crate) fn eat_name(&mut self)
         ensures { self.new ≡ drop (name_len self.old) self.old }
     {
@@ -190,7 +190,7 @@ impl<'a> Cursor<'a> {
         }
     }
 
-    /// Passes over the hashes that are next, and counts them.
+    /// Skips the hashes that are next, and returns their number.
     pub(crate) fn eat_hashes(&mut self) -> usize
         ensures { Reads (run (λ c. c == hash)) self.old result self.new }
     {
@@ -236,7 +236,8 @@ impl<'a> Cursor<'a> {
         self.rest = &rest[n..];
     }
 
-    /// Passes over so many hashes, if they are next; whether they are.
+    /// Skips `hashes` hashes and returns `true` if at least that many are next; otherwise returns
+    /// `false`.
     pub(crate) fn eat_closing_hashes(&mut self, hashes: usize) -> bool
         ensures told { result ≡ hashes_follow hashes self.old }
         ensures rest { self.new ≡ (if result then drop hashes self.old else self.old) }

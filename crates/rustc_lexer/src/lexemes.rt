@@ -61,7 +61,7 @@ fn is_plain_sign(c: char) -> bool
         || c == '^'
 }
 
-// The kind of a character that stands for itself.
+// Returns the kind of a character that is a token by itself.
 #[inline(always)]
 #[tactic(auto, unfolding(crate::specs::Lexeme::sign, crate::specs::Rows::first_fit))]
 fn sign(c: char) -> TokenKind
@@ -100,7 +100,7 @@ fn sign(c: char) -> TokenKind
 }
 
 impl<'a> Cursor<'a> {
-    /// The token that is next; past the end an unknown one of length 0.
+    /// Reads the next token and returns its kind. Past the end, it is `Unknown` and empty.
     pub(crate) fn lexeme(&mut self) -> TokenKind
         ensures { Reads lexeme self.old result self.new }
     {
@@ -118,7 +118,7 @@ impl<'a> Cursor<'a> {
         self.rarer_lexeme(first)
     }
 
-    // The same, where the first character tells little alone.
+    // Reads any other token: no whitespace, no plain sign and no plain name.
     fn rarer_lexeme(&mut self, first: char) -> TokenKind
         requires first { first ≡ peek 0 self.old }
         requires white { is_whitespace first ≡ false }
@@ -154,7 +154,7 @@ impl<'a> Cursor<'a> {
         self.single()
     }
 
-    // White space.
+    // Reads whitespace.
     fn whitespace(&mut self) -> TokenKind
         requires { is_whitespace (peek 0 self.old) ≡ true }
         ensures { Reads (lexeme_in Blank) self.old result self.new }

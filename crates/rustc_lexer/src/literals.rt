@@ -91,7 +91,7 @@ impl<'a> Cursor<'a> {
         }
     }
 
-    /// Passes over the letter that tells the kind of a string, where it has one.
+    /// Skips the letter before the quote of a string of this kind, if there is one.
     pub(crate) fn eat_letter(&mut self, kind: StringKind)
         ensures { self.new ≡ drop (letters kind) self.old }
     {
@@ -117,7 +117,7 @@ impl<'a> Cursor<'a> {
         false
     }
 
-    /// The rest of a character or byte after its first `'`; whether it is closed.
+    /// Skips the rest of a character or byte after its first `'`. Returns `true` if it is closed.
     pub(crate) fn eat_character(&mut self) -> bool
         ensures { Reads character_end self.old result self.new }
     {
@@ -129,7 +129,8 @@ impl<'a> Cursor<'a> {
         self.eat_ticked()
     }
 
-    // The same, where the second character does not close it.
+    // Skips the rest of a character that its second character does not close. Returns `true` if it
+    // is closed.
     fn eat_ticked(&mut self) -> bool
         ensures { Reads (ticked false) self.old result self.new }
     {

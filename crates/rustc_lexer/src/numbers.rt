@@ -166,7 +166,7 @@ impl<'a> Cursor<'a> {
         has
     }
 
-    // What stands after the first digits of a number.
+    // Reads the fraction and the exponent of a number, after its first digits.
     fn fraction(&mut self, base: Base) -> Body
         ensures { Reads (fraction base) self.old result self.new }
     {

@@ -8,9 +8,9 @@ use crate::cursor::Cursor;
 use crate::token::TokenKind;
 use crate::tokens::Tokens;
 
-/// The bytes of the shebang at the front of a text, up to before the end of its line. A text that
-/// begins with `#!` has one, unless its next token, white space and comments that document nothing
-/// aside, is `[`: then it is an attribute.
+/// Returns the length of the shebang at the front of a text, in bytes, without the end of its line.
+/// A text that begins with `#!` has one, unless its next token, other than whitespace and non-doc
+/// comments, is `[`: then it is an attribute.
 pub fn strip_shebang(text: &str) -> Option<usize>
     ensures { result ≡ shebang (chars text.now) }
 {
@@ -38,7 +38,7 @@ fn ends_line(a: char, b: char) -> bool
     a == '\n' || (a == '\r' && b == '\n')
 }
 
-// White space, and a comment that documents nothing.
+// Returns `true` for whitespace and for a comment that is not a doc comment.
 fn is_passed_over(kind: TokenKind) -> bool
     ensures { result ≡ is_passed_over kind }
 {
@@ -59,7 +59,7 @@ fn is_open_bracket(kind: TokenKind) -> bool
     }
 }
 
-// Whether the first token that is not passed over is `[`.
+// Returns `true` if the first token that is not skipped is `[`.
 fn opens_attribute(mut tokens: Tokens) -> bool
     ensures { result ≡ opens_attribute tokens.entry }
 {

@@ -9,8 +9,7 @@ use crate::token::{Token, TokenKind};
 use std::marker::Model;
 
 impl<'a> Cursor<'a> {
-    /// Takes the token that is next, and passes over its characters. At the end it is of kind `Eof`
-    /// and length 0.
+    /// Reads the next token and skips its characters. At the end, it is an `Eof` of length 0.
     pub fn advance_token(&mut self) -> Token
         ensures is_next { result ≡ token (next_lexeme self.old) }
         ensures rest { self.new ≡ drop (length (next_lexeme self.old).text) self.old }
@@ -30,8 +29,8 @@ impl<'a> Cursor<'a> {
     }
 }
 
-/// The tokens of a text, from front to end, by [`tokenize`]. Contracts see it as the list of those
-/// that are left.
+/// An iterator over the tokens of a text, in source order, by [`tokenize`]. Model: the remaining
+/// tokens.
 #[derive(Drop)]
 pub struct Tokens<'a> {
     cursor: Cursor<'a>,
@@ -48,8 +47,8 @@ impl<'a> Model for Tokens<'a> {
     ghost view = { λ t. token_list t.cursor };
 }
 
-/// Cuts a text into tokens: they follow one another from front to end, with nothing between, and
-/// their lengths sum to the text's.
+/// Returns the tokens of a text, in source order. They cover the whole text, and their lengths sum
+/// to its length.
 pub fn tokenize(text: &str) -> Tokens<'_>
     ensures { result ≡ token_list (chars text.now) }
 {

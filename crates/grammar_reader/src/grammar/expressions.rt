@@ -194,6 +194,18 @@ fn range_end(p: &mut Parser<'_>, mark: RangeMark, condition: bool) -> bool
     false
 }
 
+/// Parses the operators of all layers after an operand, and what follows those.
+// * a + b
+#[cycle(grammar)]
+pub(crate) fn after_operand(p: &mut Parser<'_>, frame: Marker, condition: bool) -> Marker
+    requires innermost { IsInnermost frame p.old.nodes }
+    ensures reads { Reads condition rows.after_operand p.old p.new }
+    ensures asks { AsksIn result 11 p.old p.new }
+{
+    let frame = climb(p, frame, 10, condition);
+    operation_tail(p, frame, condition)
+}
+
 /// Parses what follows an operand and its operators: ranges, operands after `|>`, an assignment.
 // ..b = c
 #[cycle(grammar)]

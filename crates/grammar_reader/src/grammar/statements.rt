@@ -1,34 +1,39 @@
 //! Statements.
 
-ghost use Rattle.std.specs.Prelude.{◌≤◌, ◌<◌, ◌+◌, Bool, IsTrue, true, false, [], ◌∷◌};
+ghost use Rattle.std.specs.Prelude.{◌≤◌, ◌<◌, ◌+◌, Bool, IsTrue, true, false};
 ghost use Rattle.parser_events.specs.Stack.{IsInnermost};
 ghost use Rattle.rust_grammar.specs.Calls.{BlockLike};
-ghost use Rattle.rust_grammar.specs.Notation.{◌▸◌, ⁅◌⁆, ◌before◌, more, one_of};
+ghost use Rattle.rust_grammar.specs.Notation.{◌▸◌, ⁅◌⁆, ◌before◌, more, wide};
 ghost use Rattle.rust_grammar.specs.Rule as rules;
 ghost use Rattle.rust_grammar.specs.Expressions.{goes_on};
-ghost use Rattle.rust_grammar.specs.Statements.{item_begins};
-ghost use Rattle.rust_grammar.specs.Words.{'#', '!', 'fn', 'impl', 'trait'};
+ghost use Rattle.rust_grammar.specs.Words.{'#', '!'};
 ghost use Rattle.rust_grammar.specs.Statements as rows;
 ghost use Rattle.grammar_reader.specs.Told.{after_block_of, listing_of};
 ghost use Rattle.rust_productions.specs.Looks.{tokens, spent, Takes, Asks, Peeks, AsksIn};
 ghost use Rattle.rust_productions.specs.Reads.{looks, Anew, Gives, Reads, Saw};
-ghost use Rattle.rust_productions.specs.Starts.{StartsIn};
+ghost use Rattle.rust_productions.specs.Starts.{Starts, StartsIn};
 
 use crate::grammar::attributes::attribute;
+use crate::grammar::expressions::atom::after_path;
 use crate::grammar::expressions::closures::opt_type;
 use crate::grammar::expressions::control::block_like;
-use crate::grammar::expressions::expression;
 use crate::grammar::expressions::operand::{postfix, postfixes};
+use crate::grammar::expressions::{after_operand, expression};
 use crate::grammar::items::consts::opt_value;
 use crate::grammar::items::item;
 use crate::grammar::list_end::{ListEnd, at_end_of};
 use crate::grammar::parts::{Part, expect_part};
+use crate::grammar::paths::{Mode, path_with_args};
 use parser_events::message::Message;
 use parser_events::parser::{Marker, Parser};
 use parser_input::syntax_kind::SyntaxKind;
 use rust_productions::grammar::expressions::{at_block_like, at_expression};
+use rust_productions::grammar::match_arms::{at_braced_macro, at_long_path};
+use rust_productions::grammar::statements::{at_new_statement, at_profile_item, at_super_let};
+use rust_productions::grammar::token_trees::token_tree;
 use rust_productions::grammar::{
-    abandon, at, at_pair, at_second, complete, current, error, expect, nth, skip, start, take, wrap,
+    abandon, at, at_pair, at_second, at_whole, complete, current, error, expect, skip, start, take,
+    wrap,
 };
 
 /// Parses a statement of a list.
@@ -49,7 +54,11 @@ pub(crate) fn statement(p: &mut Parser<'_>, end: ListEnd)
                 attribute(p);
                 return;
             }
-            if at_item(p) {
+            if at_new_statement(p) {
+                new_statement(p, end);
+                return;
+            }
+            if at_profile_item(p) {
                 item(p, false);
                 return;
             }
@@ -70,39 +79,73 @@ pub(crate) fn at_inner_attribute(p: &mut Parser<'_>) -> bool
     at_second(p, SyntaxKind::BANG)
 }
 
-/// Returns `true` if an item starts here, among statements.
-fn at_item(p: &mut Parser<'_>) -> bool
-    ensures sees { (c : Bool) → Saw c item_begins p.old result }
-    ensures some { IsTrue result → 1 ≤ tokens p.old }
-    ensures peeks { Peeks 2 p.old p.new }
+/// Parses a statement that only the whole language has, or an item there.
+// a::b! { c } d();
+#[cycle(grammar)]
+fn new_statement(p: &mut Parser<'_>, end: ListEnd)
+    requires begins { Starts (wide rows.new_statement_begins) p.old }
+    ensures anew { Anew false (rows.new_statement (listing_of end)) p.old p.new }
+    ensures takes { Takes 2880 p.old p.new }
 {
-    match current(p) {
-        SyntaxKind::POUND
-        | SyntaxKind::PUB_KW
-        | SyntaxKind::MOD_KW
-        | SyntaxKind::USE_KW
-        | SyntaxKind::STRUCT_KW
-        | SyntaxKind::ENUM_KW
-        | SyntaxKind::FN_KW
-        | SyntaxKind::CONST_KW
-        | SyntaxKind::STATIC_KW
-        | SyntaxKind::TYPE_KW
-        | SyntaxKind::IMPL_KW
-        | SyntaxKind::TRAIT_KW => true,
-        SyntaxKind::UNSAFE_KW => at_item_after_unsafe(p),
-        _ => false,
+    if at_long_path(p) {
+        long_path_statement(p, end);
+        return;
     }
+    if at_super_let(p) {
+        super_let(p);
+        return;
+    }
+    item(p, false);
 }
 
-/// Returns `true` if the token after the next one is `fn`, `impl` or `trait`.
-fn at_item_after_unsafe(p: &mut Parser<'_>) -> bool
-    ensures sees { (c : Bool) → Saw c (one_of 1 ('fn' ∷ 'impl' ∷ 'trait' ∷ [])) p.old result }
-    ensures peeks { Peeks 1 p.old p.new }
+/// Parses a statement that starts with a path of several segments.
+// a::b! { c }
+#[cycle(grammar)]
+fn long_path_statement(p: &mut Parser<'_>, end: ListEnd)
+    requires begins { (c : Bool) → Saw c (looks rules.path) p.old true }
+    requires some { 1 ≤ tokens p.old }
+    ensures anew { Anew false (rows.long_path_statement (listing_of end)) p.old p.new }
+    ensures takes { Takes 3900 p.old p.new }
 {
-    match nth(p, 1) {
-        SyntaxKind::FN_KW | SyntaxKind::IMPL_KW | SyntaxKind::TRAIT_KW => true,
-        _ => false,
+    let frame = start(p);
+    path_with_args(p, Mode::Expr);
+    let frame = path_tail(p, frame, end);
+    abandon(p, frame);
+}
+
+/// Parses what follows the path of a statement: a macro call in braces, or operators and a `;`.
+// ! { c }
+#[cycle(grammar)]
+fn path_tail(p: &mut Parser<'_>, frame: Marker, end: ListEnd) -> Marker
+    requires innermost { IsInnermost frame p.old.nodes }
+    ensures reads { Reads false (rows.path_tail (listing_of end)) p.old p.new }
+    ensures asks { AsksIn result 24 p.old p.new }
+{
+    if at_braced_macro(p) {
+        take(p, SyntaxKind::BANG);
+        token_tree(p);
+        let frame = wrap(p, frame, SyntaxKind::MACRO_CALL);
+        let frame = wrap(p, frame, SyntaxKind::MACRO_EXPR);
+        return after_block(p, frame, end);
     }
+    let frame = after_path(p, frame, false);
+    let frame = postfixes(p, frame);
+    let frame = after_operand(p, frame, false);
+    statement_end(p, frame, end)
+}
+
+/// Parses a `let` statement after `super`.
+// super let a = 1;
+#[cycle(grammar)]
+fn super_let(p: &mut Parser<'_>)
+    requires some { 2 ≤ tokens p.old }
+    ensures reads { Reads false rows.super_let p.old p.new }
+    ensures takes { Takes 8000 p.old p.new }
+{
+    let node = start(p);
+    take(p, SyntaxKind::SUPER_KW);
+    let_rest(p);
+    complete(p, node, SyntaxKind::LET_STMT);
 }
 
 /// Parses a `defer` statement. The current token is `defer`.
@@ -128,13 +171,24 @@ fn let_stmt(p: &mut Parser<'_>)
     ensures takes { Takes 4000 p.old p.new }
 {
     let node = start(p);
+    let_rest(p);
+    complete(p, node, SyntaxKind::LET_STMT);
+}
+
+/// Parses a `let` statement, within its node. The current token is `let`.
+// let Some(a): Option<u8> = b else { return };
+#[cycle(grammar)]
+fn let_rest(p: &mut Parser<'_>)
+    requires some { 1 ≤ tokens p.old }
+    ensures reads { Reads false rows.let_rest p.old p.new }
+    ensures takes { Takes 4000 p.old p.new }
+{
     take(p, SyntaxKind::LET_KW);
     expect_part(p, Part::Pattern);
     opt_type(p, false);
     opt_value(p, false);
     opt_else(p);
     expect(p, SyntaxKind::SEMICOLON);
-    complete(p, node, SyntaxKind::LET_STMT);
 }
 
 /// Parses the optional `else` branch of a `let` statement.
@@ -190,7 +244,7 @@ fn expression_statement(p: &mut Parser<'_>, end: ListEnd)
 fn block_statement(p: &mut Parser<'_>, end: ListEnd)
     requires begins { (c : Bool) → Saw c (looks rules.block_like) p.old true }
     requires some { 1 ≤ tokens p.old }
-    ensures anew { (c : Bool) → Anew c (BlockLike ▸ after_block_of end) p.old p.new }
+    ensures anew { Anew false (BlockLike ▸ after_block_of end) p.old p.new }
     ensures takes { Takes 2880 p.old p.new }
 {
     let frame = start(p);
@@ -223,12 +277,13 @@ pub(crate) fn at_more(p: &mut Parser<'_>) -> bool
 #[cycle(grammar)]
 fn after_block(p: &mut Parser<'_>, frame: Marker, end: ListEnd) -> Marker
     requires innermost { IsInnermost frame p.old.nodes }
-    ensures reads { (c : Bool) → Reads c (after_block_of end) p.old p.new }
+    ensures reads { Reads false (after_block_of end) p.old p.new }
     ensures asks { AsksIn result 6 p.old p.new }
 {
     if at_more(p) {
         let frame = postfix(p, frame);
         let frame = postfixes(p, frame);
+        let frame = opt_operators(p, frame);
         return statement_end(p, frame, end);
     }
     if at(p, SyntaxKind::SEMICOLON) {
@@ -239,6 +294,20 @@ fn after_block(p: &mut Parser<'_>, frame: Marker, end: ListEnd) -> Marker
         return frame;
     }
     wrap(p, frame, SyntaxKind::EXPR_STMT)
+}
+
+/// Parses the operators after an expression that ends in a block and continues, in the whole language.
+// + d
+#[cycle(grammar)]
+fn opt_operators(p: &mut Parser<'_>, frame: Marker) -> Marker
+    requires innermost { IsInnermost frame p.old.nodes }
+    ensures reads { Reads false rows.further_operators p.old p.new }
+    ensures asks { AsksIn result 11 p.old p.new }
+{
+    if at_whole(p) {
+        return after_operand(p, frame, false);
+    }
+    frame
 }
 
 /// Parses an expression and the end of its statement.

@@ -14,7 +14,7 @@ use rowan_green::TextRange;
 use std::alloc::{AllocError, Global};
 use std::marker::PhantomData;
 
-/// A pointer to a node that is read as an `N`. A clone takes no memory.
+/// A pointer to a node that is read as an `N`. Cloning does not allocate.
 #[derive(Drop)]
 #[derive_where(Clone, PartialEq, Eq, Hash)]
 pub struct AstPtr<N: AstNode> {
@@ -63,7 +63,7 @@ impl<N: AstNode> AstPtr<N> {
         self.try_to_node(alloc, root)?.ok_or(CursorError::NotFound)
     }
 
-    /// The same, with `None` in place of `NotFound`.
+    /// Variant of [`AstPtr::to_node`] that returns `None` instead of `NotFound`.
     pub fn try_to_node(
         &self,
         alloc: Global,
@@ -90,7 +90,7 @@ impl<N: AstNode> AstPtr<N> {
         }
     }
 
-    /// The same pointer, read as another type, where its kind can be cast to that.
+    /// Returns the pointer as one to a `U`; `None` if its kind cannot be cast to `U`.
     pub fn cast<U: AstNode<Language = N::Language>>(self) -> Option<AstPtr<U>>
         ensures casts { IsSome result ↔ (U.casts self.raw.kind ≡ true) }
         ensures same { IfSome result (λ p. p.raw ≡ self.raw) }
@@ -107,7 +107,7 @@ impl<N: AstNode> AstPtr<N> {
 }
 
 impl<L: Language> SyntaxNodePtr<L> {
-    /// The same pointer, read as a typed one, where its kind can be cast to that type.
+    /// Returns the pointer as one to an `N`; `None` if its kind cannot be cast to `N`.
     pub fn cast<N: AstNode<Language = L>>(self) -> Option<AstPtr<N>>
         ensures casts { IsSome result ↔ (N.casts self.kind ≡ true) }
         ensures same { IfSome result (λ p. p.raw ≡ self) }

@@ -1541,24 +1541,6 @@ statements::statement-returns-in-LET_KW-clause-gives = statements.statements::st
 pub statements::statement-returns-then-at_inner_attribute-clause-gives : goal.statements::statement-returns-then-at_inner_attribute-clause-gives
 statements::statement-returns-then-at_inner_attribute-clause-gives = statements.statements::statement-returns-then-at_inner_attribute-clause-gives
 
-pub statements::statement-returns-then-at_item-clause-gives : goal.statements::statement-returns-then-at_item-clause-gives
-statements::statement-returns-then-at_item-clause-gives = statements.statements::statement-returns-then-at_item-clause-gives
-
-pub statements::statement-item-requires : goal.statements::statement-item-requires
-statements::statement-item-requires = statements.statements::statement-item-requires
-
-pub statements::statement-returns-else-at_item-clause-gives : goal.statements::statement-returns-else-at_item-clause-gives
-statements::statement-returns-else-at_item-clause-gives = statements.statements::statement-returns-else-at_item-clause-gives
-
-pub statements::statement-returns-else-at_item-clause-pays : goal.statements::statement-returns-else-at_item-clause-pays
-statements::statement-returns-else-at_item-clause-pays = statements.statements::statement-returns-else-at_item-clause-pays
-
-pub statements::let_stmt-complete-requires : goal.statements::let_stmt-complete-requires
-statements::let_stmt-complete-requires = statements.statements::let_stmt-complete-requires
-
-pub statements::let_stmt-returns-clause-reads : goal.statements::let_stmt-returns-clause-reads
-statements::let_stmt-returns-clause-reads = statements.statements::let_stmt-returns-clause-reads
-
 pub statements::opt_else-returns-then-at-clause-reads : goal.statements::opt_else-returns-then-at-clause-reads
 statements::opt_else-returns-then-at-clause-reads = statements.statements::opt_else-returns-then-at-clause-reads
 
@@ -1580,9 +1562,6 @@ statements::let_else-returns-clause-reads = statements.statements::let_else-retu
 pub statements::expression_statement-block_statement-requires : goal.statements::expression_statement-block_statement-requires
 statements::expression_statement-block_statement-requires = statements.statements::expression_statement-block_statement-requires
 
-pub statements::expression_statement-returns-then-at_block_like-clause-anew : goal.statements::expression_statement-returns-then-at_block_like-clause-anew
-statements::expression_statement-returns-then-at_block_like-clause-anew = statements.statements::expression_statement-returns-then-at_block_like-clause-anew
-
 pub statements::expression_statement-ended_expression-requires : goal.statements::expression_statement-ended_expression-requires
 statements::expression_statement-ended_expression-requires = statements.statements::expression_statement-ended_expression-requires
 
@@ -1598,35 +1577,20 @@ statements::block_statement-block_like-requires = statements.statements::block_s
 pub statements::block_statement-after_block-frame-requires : goal.statements::block_statement-after_block-frame-requires
 statements::block_statement-after_block-frame-requires = statements.statements::block_statement-after_block-frame-requires
 
-pub statements::block_statement-returns-clause-anew : goal.statements::block_statement-returns-clause-anew
-statements::block_statement-returns-clause-anew = statements.statements::block_statement-returns-clause-anew
-
 pub statements::after_block-postfix-frame-requires : goal.statements::after_block-postfix-frame-requires
 statements::after_block-postfix-frame-requires = statements.statements::after_block-postfix-frame-requires
 
 pub statements::after_block-postfixes-frame-requires : goal.statements::after_block-postfixes-frame-requires
 statements::after_block-postfixes-frame-requires = statements.statements::after_block-postfixes-frame-requires
 
-pub statements::after_block-returns-then-at_more-clause-reads : goal.statements::after_block-returns-then-at_more-clause-reads
-statements::after_block-returns-then-at_more-clause-reads = statements.statements::after_block-returns-then-at_more-clause-reads
-
 pub statements::after_block-wrap-requires : goal.statements::after_block-wrap-requires
 statements::after_block-wrap-requires = statements.statements::after_block-wrap-requires
-
-pub statements::after_block-returns-then-at-clause-reads : goal.statements::after_block-returns-then-at-clause-reads
-statements::after_block-returns-then-at-clause-reads = statements.statements::after_block-returns-then-at-clause-reads
 
 pub statements::after_block-returns-then-at_end_of-clause-asks : goal.statements::after_block-returns-then-at_end_of-clause-asks
 statements::after_block-returns-then-at_end_of-clause-asks = statements.statements::after_block-returns-then-at_end_of-clause-asks
 
-pub statements::after_block-returns-then-at_end_of-clause-reads : goal.statements::after_block-returns-then-at_end_of-clause-reads
-statements::after_block-returns-then-at_end_of-clause-reads = statements.statements::after_block-returns-then-at_end_of-clause-reads
-
 pub statements::after_block-wrap-requires-2 : goal.statements::after_block-wrap-requires-2
 statements::after_block-wrap-requires-2 = statements.statements::after_block-wrap-requires-2
-
-pub statements::after_block-returns-clause-reads : goal.statements::after_block-returns-clause-reads
-statements::after_block-returns-clause-reads = statements.statements::after_block-returns-clause-reads
 
 pub statements::ended_expression-expression-requires : goal.statements::ended_expression-expression-requires
 statements::ended_expression-expression-requires = statements.statements::ended_expression-expression-requires
@@ -3167,12 +3131,6 @@ expressions::match_arm::arm_tail-returns-clause-reads = match_arm.expressions::m
 pub expressions::match_arm::further_operators-postfixes-frame-requires : goal.expressions::match_arm::further_operators-postfixes-frame-requires
 expressions::match_arm::further_operators-postfixes-frame-requires = match_arm.expressions::match_arm::further_operators-postfixes-frame-requires
 
-pub expressions::match_arm::further_operators-climb-frame-requires : goal.expressions::match_arm::further_operators-climb-frame-requires
-expressions::match_arm::further_operators-climb-frame-requires = match_arm.expressions::match_arm::further_operators-climb-frame-requires
-
-pub expressions::match_arm::further_operators-operation_tail-frame-requires : goal.expressions::match_arm::further_operators-operation_tail-frame-requires
-expressions::match_arm::further_operators-operation_tail-frame-requires = match_arm.expressions::match_arm::further_operators-operation_tail-frame-requires
-
 pub expressions::match_arm::after_long_path-wrap-frame-requires : goal.expressions::match_arm::after_long_path-wrap-frame-requires
 expressions::match_arm::after_long_path-wrap-frame-requires = match_arm.expressions::match_arm::after_long_path-wrap-frame-requires
 
@@ -3407,9 +3365,6 @@ expressions::atom::new_atom-returns-in_default-clause-takes = atom.expressions::
 pub expressions::match_arm::arm_tail-returns-clause-asks : goal.expressions::match_arm::arm_tail-returns-clause-asks
 expressions::match_arm::arm_tail-returns-clause-asks = match_arm.expressions::match_arm::arm_tail-returns-clause-asks
 
-pub expressions::match_arm::further_operators-returns-clause-asks : goal.expressions::match_arm::further_operators-returns-clause-asks
-expressions::match_arm::further_operators-returns-clause-asks = match_arm.expressions::match_arm::further_operators-returns-clause-asks
-
 pub expressions::match_arm::inside_arm-returns-clause-asks : goal.expressions::match_arm::inside_arm-returns-clause-asks
 expressions::match_arm::inside_arm-returns-clause-asks = match_arm.expressions::match_arm::inside_arm-returns-clause-asks
 
@@ -3424,9 +3379,6 @@ expressions::closures::closure_param-returns-clause-reads = atom.expressions::cl
 
 pub expressions::match_arm::match_arm-returns-clause-gives : goal.expressions::match_arm::match_arm-returns-clause-gives
 expressions::match_arm::match_arm-returns-clause-gives = match_arm.expressions::match_arm::match_arm-returns-clause-gives
-
-pub expressions::match_arm::further_operators-returns-clause-reads : goal.expressions::match_arm::further_operators-returns-clause-reads
-expressions::match_arm::further_operators-returns-clause-reads = match_arm.expressions::match_arm::further_operators-returns-clause-reads
 
 pub expressions::operand::new_operand-returns-clause-reads : goal.expressions::operand::new_operand-returns-clause-reads
 expressions::operand::new_operand-returns-clause-reads = operand.expressions::operand::new_operand-returns-clause-reads
@@ -3469,3 +3421,141 @@ expressions::control::block_like-returns-else-at_new_block = control.expressions
 
 pub expressions::operand::prefixed-returns-else-at : goal.expressions::operand::prefixed-returns-else-at
 expressions::operand::prefixed-returns-else-at = operand.expressions::operand::prefixed-returns-else-at
+
+pub expressions::after_operand-climb-frame-requires : goal.expressions::after_operand-climb-frame-requires
+expressions::after_operand-climb-frame-requires = expressions.expressions::after_operand-climb-frame-requires
+
+pub expressions::after_operand-operation_tail-requires : goal.expressions::after_operand-operation_tail-requires
+expressions::after_operand-operation_tail-requires = expressions.expressions::after_operand-operation_tail-requires
+
+pub expressions::after_operand-returns-clause-reads : goal.expressions::after_operand-returns-clause-reads
+expressions::after_operand-returns-clause-reads = expressions.expressions::after_operand-returns-clause-reads
+
+pub expressions::match_arm::further_operators-after_operand-frame-requires : goal.expressions::match_arm::further_operators-after_operand-frame-requires
+expressions::match_arm::further_operators-after_operand-frame-requires = match_arm.expressions::match_arm::further_operators-after_operand-frame-requires
+
+pub expressions::match_arm::further_operators-returns-clause-reads : goal.expressions::match_arm::further_operators-returns-clause-reads
+expressions::match_arm::further_operators-returns-clause-reads = match_arm.expressions::match_arm::further_operators-returns-clause-reads
+
+pub expressions::match_arm::further_operators-returns-clause-asks : goal.expressions::match_arm::further_operators-returns-clause-asks
+expressions::match_arm::further_operators-returns-clause-asks = match_arm.expressions::match_arm::further_operators-returns-clause-asks
+
+pub statements::statement-returns-then-at_new_statement-clause-gives : goal.statements::statement-returns-then-at_new_statement-clause-gives
+statements::statement-returns-then-at_new_statement-clause-gives = statements.statements::statement-returns-then-at_new_statement-clause-gives
+
+pub statements::statement-new_statement-requires : goal.statements::statement-new_statement-requires
+statements::statement-new_statement-requires = statements.statements::statement-new_statement-requires
+
+pub statements::statement-returns-then-at_profile_item-clause-gives : goal.statements::statement-returns-then-at_profile_item-clause-gives
+statements::statement-returns-then-at_profile_item-clause-gives = statements.statements::statement-returns-then-at_profile_item-clause-gives
+
+pub statements::statement-item-requires : goal.statements::statement-item-requires
+statements::statement-item-requires = statements.statements::statement-item-requires
+
+pub statements::statement-returns-else-at_profile_item-clause-gives : goal.statements::statement-returns-else-at_profile_item-clause-gives
+statements::statement-returns-else-at_profile_item-clause-gives = statements.statements::statement-returns-else-at_profile_item-clause-gives
+
+pub statements::statement-returns-else-at_profile_item-clause-pays : goal.statements::statement-returns-else-at_profile_item-clause-pays
+statements::statement-returns-else-at_profile_item-clause-pays = statements.statements::statement-returns-else-at_profile_item-clause-pays
+
+pub statements::new_statement-returns-then-at_long_path-clause-anew : goal.statements::new_statement-returns-then-at_long_path-clause-anew
+statements::new_statement-returns-then-at_long_path-clause-anew = statements.statements::new_statement-returns-then-at_long_path-clause-anew
+
+pub statements::new_statement-returns-then-at_super_let-clause-anew : goal.statements::new_statement-returns-then-at_super_let-clause-anew
+statements::new_statement-returns-then-at_super_let-clause-anew = statements.statements::new_statement-returns-then-at_super_let-clause-anew
+
+pub statements::new_statement-returns-clause-anew : goal.statements::new_statement-returns-clause-anew
+statements::new_statement-returns-clause-anew = statements.statements::new_statement-returns-clause-anew
+
+pub statements::new_statement-long_path_statement-requires : goal.statements::new_statement-long_path_statement-requires
+statements::new_statement-long_path_statement-requires = statements.statements::new_statement-long_path_statement-requires
+
+pub statements::new_statement-super_let-requires : goal.statements::new_statement-super_let-requires
+statements::new_statement-super_let-requires = statements.statements::new_statement-super_let-requires
+
+pub statements::new_statement-item-requires : goal.statements::new_statement-item-requires
+statements::new_statement-item-requires = statements.statements::new_statement-item-requires
+
+pub statements::long_path_statement-path_with_args-requires : goal.statements::long_path_statement-path_with_args-requires
+statements::long_path_statement-path_with_args-requires = statements.statements::long_path_statement-path_with_args-requires
+
+pub statements::long_path_statement-path_tail-frame-requires : goal.statements::long_path_statement-path_tail-frame-requires
+statements::long_path_statement-path_tail-frame-requires = statements.statements::long_path_statement-path_tail-frame-requires
+
+pub statements::long_path_statement-returns-clause-anew : goal.statements::long_path_statement-returns-clause-anew
+statements::long_path_statement-returns-clause-anew = statements.statements::long_path_statement-returns-clause-anew
+
+pub statements::path_tail-returns-then-at_braced_macro-clause-reads : goal.statements::path_tail-returns-then-at_braced_macro-clause-reads
+statements::path_tail-returns-then-at_braced_macro-clause-reads = statements.statements::path_tail-returns-then-at_braced_macro-clause-reads
+
+pub statements::path_tail-returns-clause-reads : goal.statements::path_tail-returns-clause-reads
+statements::path_tail-returns-clause-reads = statements.statements::path_tail-returns-clause-reads
+
+pub statements::path_tail-wrap-frame-requires : goal.statements::path_tail-wrap-frame-requires
+statements::path_tail-wrap-frame-requires = statements.statements::path_tail-wrap-frame-requires
+
+pub statements::path_tail-wrap-frame-requires-then-at_braced_macro : goal.statements::path_tail-wrap-frame-requires-then-at_braced_macro
+statements::path_tail-wrap-frame-requires-then-at_braced_macro = statements.statements::path_tail-wrap-frame-requires-then-at_braced_macro
+
+pub statements::path_tail-after_block-requires : goal.statements::path_tail-after_block-requires
+statements::path_tail-after_block-requires = statements.statements::path_tail-after_block-requires
+
+pub statements::path_tail-after_path-frame-requires : goal.statements::path_tail-after_path-frame-requires
+statements::path_tail-after_path-frame-requires = statements.statements::path_tail-after_path-frame-requires
+
+pub statements::path_tail-postfixes-frame-requires : goal.statements::path_tail-postfixes-frame-requires
+statements::path_tail-postfixes-frame-requires = statements.statements::path_tail-postfixes-frame-requires
+
+pub statements::path_tail-after_operand-frame-requires : goal.statements::path_tail-after_operand-frame-requires
+statements::path_tail-after_operand-frame-requires = statements.statements::path_tail-after_operand-frame-requires
+
+pub statements::path_tail-statement_end-requires : goal.statements::path_tail-statement_end-requires
+statements::path_tail-statement_end-requires = statements.statements::path_tail-statement_end-requires
+
+pub statements::super_let-returns-clause-reads : goal.statements::super_let-returns-clause-reads
+statements::super_let-returns-clause-reads = statements.statements::super_let-returns-clause-reads
+
+pub statements::super_let-complete-requires : goal.statements::super_let-complete-requires
+statements::super_let-complete-requires = statements.statements::super_let-complete-requires
+
+pub statements::let_stmt-complete-requires : goal.statements::let_stmt-complete-requires
+statements::let_stmt-complete-requires = statements.statements::let_stmt-complete-requires
+
+pub statements::let_stmt-returns-clause-reads : goal.statements::let_stmt-returns-clause-reads
+statements::let_stmt-returns-clause-reads = statements.statements::let_stmt-returns-clause-reads
+
+pub statements::let_rest-returns-clause-reads : goal.statements::let_rest-returns-clause-reads
+statements::let_rest-returns-clause-reads = statements.statements::let_rest-returns-clause-reads
+
+pub statements::after_block-returns-then-at_more-clause-reads : goal.statements::after_block-returns-then-at_more-clause-reads
+statements::after_block-returns-then-at_more-clause-reads = statements.statements::after_block-returns-then-at_more-clause-reads
+
+pub statements::after_block-returns-then-at-clause-reads : goal.statements::after_block-returns-then-at-clause-reads
+statements::after_block-returns-then-at-clause-reads = statements.statements::after_block-returns-then-at-clause-reads
+
+pub statements::after_block-returns-then-at_end_of-clause-reads : goal.statements::after_block-returns-then-at_end_of-clause-reads
+statements::after_block-returns-then-at_end_of-clause-reads = statements.statements::after_block-returns-then-at_end_of-clause-reads
+
+pub statements::after_block-returns-clause-reads : goal.statements::after_block-returns-clause-reads
+statements::after_block-returns-clause-reads = statements.statements::after_block-returns-clause-reads
+
+pub statements::block_statement-returns-clause-anew : goal.statements::block_statement-returns-clause-anew
+statements::block_statement-returns-clause-anew = statements.statements::block_statement-returns-clause-anew
+
+pub statements::after_block-opt_operators-frame-requires : goal.statements::after_block-opt_operators-frame-requires
+statements::after_block-opt_operators-frame-requires = statements.statements::after_block-opt_operators-frame-requires
+
+pub statements::expression_statement-returns-then-at_block_like-clause-anew : goal.statements::expression_statement-returns-then-at_block_like-clause-anew
+statements::expression_statement-returns-then-at_block_like-clause-anew = statements.statements::expression_statement-returns-then-at_block_like-clause-anew
+
+pub statements::opt_operators-after_operand-requires : goal.statements::opt_operators-after_operand-requires
+statements::opt_operators-after_operand-requires = statements.statements::opt_operators-after_operand-requires
+
+pub statements::opt_operators-returns-then-at_whole-clause-reads : goal.statements::opt_operators-returns-then-at_whole-clause-reads
+statements::opt_operators-returns-then-at_whole-clause-reads = statements.statements::opt_operators-returns-then-at_whole-clause-reads
+
+pub statements::opt_operators-returns-clause-reads : goal.statements::opt_operators-returns-clause-reads
+statements::opt_operators-returns-clause-reads = statements.statements::opt_operators-returns-clause-reads
+
+pub statements::opt_operators-returns-clause-asks : goal.statements::opt_operators-returns-clause-asks
+statements::opt_operators-returns-clause-asks = statements.statements::opt_operators-returns-clause-asks

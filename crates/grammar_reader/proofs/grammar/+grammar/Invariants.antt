@@ -391,7 +391,7 @@ abbrev pub decreases-lists::read_element : goal.decreases-lists::read_element
 decreases-lists::read_element l = 512 * tokens l.p.now + 101
 
 abbrev pub decreases-statements::let_stmt : goal.decreases-statements::let_stmt
-decreases-statements::let_stmt l = 512 * tokens l.p.now
+decreases-statements::let_stmt l = 512 * tokens l.p.now + 1
 
 abbrev pub decreases-statements::defer_stmt : goal.decreases-statements::defer_stmt
 decreases-statements::defer_stmt l = 512 * tokens l.p.now
@@ -1102,13 +1102,13 @@ abbrev pub decreases-expressions::match_arm::inside_arm : goal.decreases-express
 decreases-expressions::match_arm::inside_arm l = 512 * tokens l.p.now + 41
 
 abbrev pub decreases-expressions::match_arm::after_long_path : goal.decreases-expressions::match_arm::after_long_path
-decreases-expressions::match_arm::after_long_path l = 512 * tokens l.p.now + 4
+decreases-expressions::match_arm::after_long_path l = 512 * tokens l.p.now + 5
 
 abbrev pub decreases-expressions::match_arm::arm_tail : goal.decreases-expressions::match_arm::arm_tail
 decreases-expressions::match_arm::arm_tail l = 512 * tokens l.p.now + 4
 
 abbrev pub decreases-expressions::match_arm::further_operators : goal.decreases-expressions::match_arm::further_operators
-decreases-expressions::match_arm::further_operators l = 512 * tokens l.p.now + 3
+decreases-expressions::match_arm::further_operators l = 512 * tokens l.p.now + 4
 
 abbrev pub decreases-expressions::operand::new_operand : goal.decreases-expressions::operand::new_operand
 decreases-expressions::operand::new_operand l = 512 * tokens l.p.now + 2
@@ -1127,3 +1127,24 @@ decreases-expressions::match_arm::attributed_pattern l = 512 * tokens l.p.now + 
 
 abbrev pub decreases-expressions::closures::attributed_single : goal.decreases-expressions::closures::attributed_single
 decreases-expressions::closures::attributed_single l = 512 * tokens l.p.now + 23
+
+abbrev pub decreases-expressions::after_operand : goal.decreases-expressions::after_operand
+decreases-expressions::after_operand l = 512 * tokens l.p.now + 3
+
+abbrev pub decreases-statements::new_statement : goal.decreases-statements::new_statement
+decreases-statements::new_statement l = 512 * tokens l.p.now + 102
+
+abbrev pub decreases-statements::long_path_statement : goal.decreases-statements::long_path_statement
+decreases-statements::long_path_statement l = 512 * tokens l.p.now + 41
+
+abbrev pub decreases-statements::path_tail : goal.decreases-statements::path_tail
+decreases-statements::path_tail l = 512 * tokens l.p.now + 5
+
+abbrev pub decreases-statements::super_let : goal.decreases-statements::super_let
+decreases-statements::super_let l = 512 * tokens l.p.now + 1
+
+abbrev pub decreases-statements::let_rest : goal.decreases-statements::let_rest
+decreases-statements::let_rest l = 512 * tokens l.p.now
+
+abbrev pub decreases-statements::opt_operators : goal.decreases-statements::opt_operators
+decreases-statements::opt_operators l = 512 * tokens l.p.now + 4

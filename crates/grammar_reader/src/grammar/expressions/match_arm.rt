@@ -17,9 +17,8 @@ ghost use Rattle.rust_productions.specs.Reads.{looks, Gives, Reads, Saw};
 use crate::grammar::attributes::{attribute, outer_attributes};
 use crate::grammar::expressions::atom::after_path;
 use crate::grammar::expressions::control::block_like;
-use crate::grammar::expressions::layers::climb;
 use crate::grammar::expressions::operand::{postfix, postfixes};
-use crate::grammar::expressions::{Level, expect_condition, expect_expression, operation_tail};
+use crate::grammar::expressions::{Level, after_operand, expect_condition, expect_expression};
 use crate::grammar::or_patterns::{pattern, pattern_or_missing};
 use crate::grammar::paths::{Mode, path_with_args};
 use crate::grammar::statements::at_more;
@@ -218,8 +217,7 @@ fn further_operators(p: &mut Parser<'_>, frame: Marker, condition: bool) -> Mark
     ensures asks { AsksIn result 20 p.old p.new }
 {
     let frame = postfixes(p, frame);
-    let frame = climb(p, frame, 10, condition);
-    let frame = operation_tail(p, frame, condition);
+    let frame = after_operand(p, frame, condition);
     comma(p, SyntaxKind::R_CURLY);
     frame
 }

@@ -1,4 +1,4 @@
--- Each leaf is looked at.
+-- Each iteration examines one leaf.
 use Rattle.std.proofs.Common.{◌<◌, ◌∙◌, true, false, length, refl, sym, arith}
 use Rattle.parser_input.specs.Kind.{raw_of}
 use Rattle.parser_events.proofs.Fittings.{unbroken-none, unbroken-end, unbroken-next}

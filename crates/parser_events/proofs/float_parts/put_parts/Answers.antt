@@ -1,4 +1,4 @@
--- What stands after the first dot decides what the float puts.
+-- The text from the first dot on decides the steps of the float.
 use Rattle.std.proofs.Common.{◌≡◌, Bool, ℕ, List, [], ◌∷◌, Some, None, OnOk, IfErr, chars, sym, ap, subst, ◌∙◌, arith}
 use Rattle.std.proofs.lemmas.Str.Pattern.{strip_prefix_char}
 use Rattle.parser_input.specs.Kinds.{NAME_REF, INT_NUMBER, DOT}

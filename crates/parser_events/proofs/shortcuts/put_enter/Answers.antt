@@ -1,4 +1,4 @@
--- What stands before the node, its beginning, and what stands inside it.
+-- The trivia outside the node, its beginning, and the trivia inside it.
 use Rattle.std.proofs.Common.{List, [], ◌∷◌, slice_range, subst}
 use Rattle.parser_input.specs.Kind.{raw_of}
 use Rattle.parser_input.specs.Lexed.{leaves_of}

@@ -1,4 +1,4 @@
--- The white space and comments, then what the float puts.
+-- The trivia, then the steps of the float.
 use Rattle.std.proofs.Common.{List, subst}
 use Rattle.parser_events.specs.Sinks.{TakesAll, RefusesOne}
 use Rattle.parser_events.specs.TextSteps.{TextStep}

@@ -1,4 +1,4 @@
--- The white space and comments, then the leaf.
+-- The trivia, then the token.
 use Rattle.std.proofs.Common.{List, subst}
 use Rattle.parser_input.specs.Kind.{raw_of}
 use Rattle.parser_events.specs.Sinks.{TakesAll, RefusesOne}

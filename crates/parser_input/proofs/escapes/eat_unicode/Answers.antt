@@ -7,7 +7,7 @@ use Rattle.parser_input.specs.Escapes.{hex_or_underscore, fits_unicode}
 use Rattle.parser_input.proofs.EscapeSteps.{unicode-digit, unicode-many, unicode-open, unicode-closed}
 use Rattle.parser_input.proofs.escapes.eat_unicode.Goals as goal
 
--- what stands after the digits
+-- the character after the digits
 after : (t new : List ℕ) (first : ℕ) → new ≡ drop (run_len hex_or_underscore t) t → first ≡ get_or new 0 0 → first ≡ get_or t (run_len hex_or_underscore t) 0
 after t new first is e =
     let n = run_len hex_or_underscore t in

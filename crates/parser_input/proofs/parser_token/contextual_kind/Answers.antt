@@ -1,4 +1,4 @@
--- Words are told by their bytes.
+-- Words are compared by their bytes.
 use Rattle.std.proofs.Common.{◌∙◌, ℕ, Option, ap, chars, unwrap_or}
 use Rattle.parser_input.specs.Kinds.{IDENT}
 use Rattle.parser_input.proofs.InputSteps.{named, piped, unnamed}

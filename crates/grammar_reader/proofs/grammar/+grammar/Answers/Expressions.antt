@@ -18,6 +18,7 @@ use Rattle.rust_productions.proofs.Facts.{saw-so}
 use Rattle.rust_productions.proofs.Operators.{next-after}
 use Rattle.rust_productions.proofs.Ranges.{begins-call, gives-expression, gives-look, gives-operands, mark-after, mark-inside, operand-begun, range-near, reads-assignment, reads-no-assignment, reads-no-pipe, reads-pipe, reads-range, reads-range-alone, reads-range-end, reads-range-on, reads-before-look, saw-operation, saw-outside, unranged}
 use Rattle.rust_productions.proofs.Seen.{saw-after, saw-inside}
+use Rattle.rust_productions.proofs.Layering.{reads-after-operand}
 use Rattle.grammar_reader.proofs.grammar.+grammar.Goals as goal
 
 pub expressions::expect_expression-returns-in-Comparison-clause-reads : goal.expressions::expect_expression-returns-in-Comparison-clause-reads
@@ -255,3 +256,12 @@ expressions::open_range-complete-requires t c = c.range_end.ensures.keeps.innerm
 
 pub expressions::open_range-returns-clause-reads : goal.expressions::open_range-returns-clause-reads
 expressions::open_range-returns-clause-reads t c = reads-node _ c.start-range.ensures.opens (after-look _ c.present_mark-mark.ensures.peeks.same (reads-open-end c.present_mark-mark.result (mark-after c.present_mark-mark.ensures.peeks.same c.present_mark-mark.ensures.mark) c.range_end.ensures.ends)) c.complete.ensures.closes
+
+pub expressions::after_operand-climb-frame-requires : goal.expressions::after_operand-climb-frame-requires
+expressions::after_operand-climb-frame-requires t c = (omega arith, (omega arith, c.requires.innermost))
+
+pub expressions::after_operand-operation_tail-requires : goal.expressions::after_operand-operation_tail-requires
+expressions::after_operand-operation_tail-requires t c = (omega arith, c.climb-frame.ensures.asks.marker)
+
+pub expressions::after_operand-returns-clause-reads : goal.expressions::after_operand-returns-clause-reads
+expressions::after_operand-returns-clause-reads t c = reads-after-operand c.climb-frame.ensures.reads c.operation_tail.ensures.reads

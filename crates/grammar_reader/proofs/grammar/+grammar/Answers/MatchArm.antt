@@ -83,12 +83,6 @@ expressions::match_arm::arm_tail-returns-clause-reads t c = reads-here (saw-so (
 pub expressions::match_arm::further_operators-postfixes-frame-requires : goal.expressions::match_arm::further_operators-postfixes-frame-requires
 expressions::match_arm::further_operators-postfixes-frame-requires t c = (omega arith, c.requires.innermost)
 
-pub expressions::match_arm::further_operators-climb-frame-requires : goal.expressions::match_arm::further_operators-climb-frame-requires
-expressions::match_arm::further_operators-climb-frame-requires t c = (omega arith, (omega arith, c.postfixes-frame.ensures.asks.marker))
-
-pub expressions::match_arm::further_operators-operation_tail-frame-requires : goal.expressions::match_arm::further_operators-operation_tail-frame-requires
-expressions::match_arm::further_operators-operation_tail-frame-requires t c = (omega arith, c.climb-frame.ensures.asks.marker)
-
 pub expressions::match_arm::after_long_path-wrap-frame-requires : goal.expressions::match_arm::after_long_path-wrap-frame-requires
 expressions::match_arm::after_long_path-wrap-frame-requires t c = (c.token_tree.ensures.gives true).does.innermost _ ((c.take.ensures.reads true).does.innermost _ (c.at_braced_macro.ensures.peeks.same.innermost _ (c.requires.innermost)))
 
@@ -155,13 +149,6 @@ expressions::match_arm::arm_tail-returns-clause-asks t c = record {
   marker = (c.eat.ensures.reads true).does.innermost _ (c.at_more.ensures.peeks.same.innermost _ c.requires.innermost);
 }
 
-pub expressions::match_arm::further_operators-returns-clause-asks : goal.expressions::match_arm::further_operators-returns-clause-asks
-expressions::match_arm::further_operators-returns-clause-asks t c = record {
-  left = omega (arith, c.comma.ensures.asks.left, c.operation_tail-frame.ensures.asks.left, c.climb-frame.ensures.asks.left, c.postfixes-frame.ensures.asks.left);
-  looks = omega (arith, c.comma.ensures.asks.looks, c.operation_tail-frame.ensures.asks.looks, c.climb-frame.ensures.asks.looks, c.postfixes-frame.ensures.asks.looks);
-  marker = (c.comma.ensures.reads true).does.innermost _ c.operation_tail-frame.ensures.asks.marker;
-}
-
 pub expressions::match_arm::inside_arm-returns-clause-asks : goal.expressions::match_arm::inside_arm-returns-clause-asks
 expressions::match_arm::inside_arm-returns-clause-asks t c = record {
   left = omega (arith, c.comma.ensures.asks.left, c.expect_expression.ensures.asks.left, c.at_long_path.ensures.peeks.left, c.at_block_like.ensures.peeks.left);
@@ -173,9 +160,6 @@ pub expressions::match_arm::match_arm-returns-clause-gives : goal.expressions::m
 unfolding look_of begins_below whole rule items statements expressions patterns types paths there_at shift passes is_silent begins in_mode anew row one_of any_of no_longer longest is_longer
 expressions::match_arm::match_arm-returns-clause-gives t c = gives-anew (anew-after refl (reads-node c.args.condition c.start-node.ensures.opens (reads-flat (reads-then c.args.condition (c.attributed_pattern.ensures.reads c.args.condition) (reads-then c.args.condition (c.opt_guard.ensures.reads c.args.condition) (reads-then c.args.condition (c.expect_arrow.ensures.reads c.args.condition) c.arm_value.ensures.reads)))) c.complete.ensures.closes))
 
-pub expressions::match_arm::further_operators-returns-clause-reads : goal.expressions::match_arm::further_operators-returns-clause-reads
-expressions::match_arm::further_operators-returns-clause-reads t c = reads-then c.args.condition (c.postfixes-frame.ensures.reads c.args.condition) (reads-then c.args.condition (reads-after-operand c.climb-frame.ensures.reads c.operation_tail-frame.ensures.reads) (c.comma.ensures.reads c.args.condition))
-
 pub expressions::match_arm::inside_arm-path_with_args-requires : goal.expressions::match_arm::inside_arm-path_with_args-requires
 expressions::match_arm::inside_arm-path_with_args-requires t c = (omega arith, ((λ d. saw-after c.at_long_path.ensures.peeks.same (path-there (saw-so (c.at_long_path.ensures.sees d) c.if-at_long_path.true))), omega (arith, c.at_long_path.ensures.some c.if-at_long_path.true, c.at_block_like.ensures.peeks.left, c.at_long_path.ensures.peeks.left)))
 
@@ -186,3 +170,16 @@ expressions::match_arm::arm_tail-returns-then-at_more-clause-reads t c = reads-h
 pub expressions::match_arm::after_long_path-returns-then-at_braced_macro-clause-reads : goal.expressions::match_arm::after_long_path-returns-then-at_braced_macro-clause-reads
 unfolding look_of begins_below whole rule items statements expressions patterns types paths there_at shift passes is_silent begins in_mode anew row one_of any_of no_longer longest is_longer
 expressions::match_arm::after_long_path-returns-then-at_braced_macro-clause-reads t c = reads-here (saw-so (c.at_braced_macro.ensures.sees c.args.condition) c.if-at_braced_macro.true and nothing) (after-look c.args.condition c.at_braced_macro.ensures.peeks.same (reads-then c.args.condition (reads-wrap c.args.condition (reads-then c.args.condition (c.take.ensures.reads c.args.condition) (reads-call c.args.condition (c.token_tree.ensures.gives c.args.condition))) c.wrap-frame.ensures.wraps) (reads-then c.args.condition (reads-wrap c.args.condition (reads-nothing c.args.condition (does-nothing _)) c.wrap-frame-then-at_braced_macro.ensures.wraps) c.arm_tail.ensures.reads)))
+
+pub expressions::match_arm::further_operators-after_operand-frame-requires : goal.expressions::match_arm::further_operators-after_operand-frame-requires
+expressions::match_arm::further_operators-after_operand-frame-requires t c = (omega arith, c.postfixes-frame.ensures.asks.marker)
+
+pub expressions::match_arm::further_operators-returns-clause-reads : goal.expressions::match_arm::further_operators-returns-clause-reads
+expressions::match_arm::further_operators-returns-clause-reads t c = reads-then c.args.condition (c.postfixes-frame.ensures.reads c.args.condition) (reads-then c.args.condition c.after_operand-frame.ensures.reads (c.comma.ensures.reads c.args.condition))
+
+pub expressions::match_arm::further_operators-returns-clause-asks : goal.expressions::match_arm::further_operators-returns-clause-asks
+expressions::match_arm::further_operators-returns-clause-asks t c = record {
+  left = omega (arith, c.comma.ensures.asks.left, c.after_operand-frame.ensures.asks.left, c.postfixes-frame.ensures.asks.left);
+  looks = omega (arith, c.comma.ensures.asks.looks, c.after_operand-frame.ensures.asks.looks, c.postfixes-frame.ensures.asks.looks);
+  marker = (c.comma.ensures.reads true).does.innermost _ c.after_operand-frame.ensures.asks.marker;
+}

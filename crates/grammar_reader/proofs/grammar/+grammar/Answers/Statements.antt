@@ -12,11 +12,12 @@ use Rattle.rust_grammar.specs.Statements.{statements}
 use Rattle.rust_grammar.specs.Types.{types}
 use Rattle.rust_grammar.specs.Whole.{rule, whole}
 use Rattle.grammar_reader.proofs.Ends.{gives-statement}
-use Rattle.rust_productions.proofs.ByHand.{after-look, completes-leave, reads-call, reads-else, reads-node, reads-nothing, reads-or, reads-then, reads-when, reads-wrap}
+use Rattle.rust_productions.proofs.ByHand.{after-look, completes-leave, reads-call, reads-else, reads-node, reads-nothing, reads-or, reads-then, reads-when, reads-wrap, does-nothing}
 use Rattle.rust_productions.proofs.Choices.{anew-after, anew-completes, anew-here, anew-look, reads-here}
 use Rattle.rust_productions.proofs.Facts.{begun, nothing, saw-so, ◌and◌}
 use Rattle.rust_productions.proofs.Looking.{saw-arm, saw-not}
 use Rattle.rust_productions.proofs.Seen.{saw-after, saw-before, saw-inside}
+use Rattle.grammar_reader.proofs.Arms.{path-there}
 use Rattle.grammar_reader.proofs.grammar.+grammar.Goals as goal
 
 pub statements::statement-returns-in-SEMICOLON-clause-gives : goal.statements::statement-returns-in-SEMICOLON-clause-gives
@@ -34,26 +35,6 @@ statements::statement-returns-in-LET_KW-clause-gives t c = gives-statement c.arg
 pub statements::statement-returns-then-at_inner_attribute-clause-gives : goal.statements::statement-returns-then-at_inner_attribute-clause-gives
 unfolding look_of begins_below whole rule items statements expressions patterns types paths there_at shift passes is_silent begins in_mode anew row one_of any_of no_longer longest is_longer
 statements::statement-returns-then-at_inner_attribute-clause-gives t c = gives-statement c.args.end (anew-here (saw-not c.in_default.not-SEMICOLON (c.current.ensures.sees false) and saw-not c.in_default.not-DEFER_KW (c.current.ensures.sees false) and saw-not c.in_default.not-LET_KW (c.current.ensures.sees false) and saw-before c.current.ensures.peeks.same (saw-so (c.at_inner_attribute.ensures.sees false) c.if-at_inner_attribute.true) and nothing) (anew-look c.current.ensures.peeks.same (anew-look c.at_inner_attribute.ensures.peeks.same (anew-after refl (reads-call false (c.attribute.ensures.gives false))))))
-
-pub statements::statement-returns-then-at_item-clause-gives : goal.statements::statement-returns-then-at_item-clause-gives
-unfolding look_of begins_below whole rule items statements expressions patterns types paths there_at shift passes is_silent begins in_mode anew row one_of any_of no_longer longest is_longer
-statements::statement-returns-then-at_item-clause-gives t c = gives-statement c.args.end (anew-here (saw-not c.in_default.not-SEMICOLON (c.current.ensures.sees false) and saw-not c.in_default.not-DEFER_KW (c.current.ensures.sees false) and saw-not c.in_default.not-LET_KW (c.current.ensures.sees false) and saw-before c.current.ensures.peeks.same (saw-so (c.at_inner_attribute.ensures.sees false) c.if-at_inner_attribute.false) and saw-before c.current.ensures.peeks.same (saw-before c.at_inner_attribute.ensures.peeks.same (saw-so (c.at_item.ensures.sees false) c.if-at_item.true)) and nothing) (anew-look c.current.ensures.peeks.same (anew-look c.at_inner_attribute.ensures.peeks.same (anew-look c.at_item.ensures.peeks.same (anew-after refl (reads-call false c.item.ensures.gives))))))
-
-pub statements::statement-item-requires : goal.statements::statement-item-requires
-statements::statement-item-requires t c = (omega arith, omega (arith, c.requires.some, c.current.ensures.peeks.left, c.at_inner_attribute.ensures.peeks.left, c.at_item.ensures.peeks.left))
-
-pub statements::statement-returns-else-at_item-clause-gives : goal.statements::statement-returns-else-at_item-clause-gives
-unfolding look_of begins_below whole rule items statements expressions patterns types paths there_at shift passes is_silent begins in_mode anew row one_of any_of no_longer longest is_longer
-statements::statement-returns-else-at_item-clause-gives t c = gives-statement c.args.end (anew-here (saw-not c.in_default.not-SEMICOLON (c.current.ensures.sees false) and saw-not c.in_default.not-DEFER_KW (c.current.ensures.sees false) and saw-not c.in_default.not-LET_KW (c.current.ensures.sees false) and saw-before c.current.ensures.peeks.same (saw-so (c.at_inner_attribute.ensures.sees false) c.if-at_inner_attribute.false) and saw-before c.current.ensures.peeks.same (saw-before c.at_inner_attribute.ensures.peeks.same (saw-so (c.at_item.ensures.sees false) c.if-at_item.false)) and nothing) (anew-look c.current.ensures.peeks.same (anew-look c.at_inner_attribute.ensures.peeks.same (anew-look c.at_item.ensures.peeks.same c.expression_statement.ensures.anew))))
-
-pub statements::statement-returns-else-at_item-clause-pays : goal.statements::statement-returns-else-at_item-clause-pays
-statements::statement-returns-else-at_item-clause-pays t c = λ e. omega (arith, c.current.ensures.peeks.looks, c.at_inner_attribute.ensures.peeks.looks, c.at_item.ensures.peeks.looks, c.expression_statement.ensures.pays (omega (arith, e, c.current.ensures.peeks.left, c.at_inner_attribute.ensures.peeks.left, c.at_item.ensures.peeks.left)))
-
-pub statements::let_stmt-complete-requires : goal.statements::let_stmt-complete-requires
-statements::let_stmt-complete-requires t c = (c.expect.ensures.reads true).does.innermost _ ((c.opt_else.ensures.reads true).does.innermost _ (c.opt_value.ensures.reads.does.innermost _ (c.opt_type.ensures.reads.does.innermost _ ((c.expect_part.ensures.reads true).does.innermost _ ((c.take.ensures.reads true).does.innermost _ c.start-node.ensures.marker)))))
-
-pub statements::let_stmt-returns-clause-reads : goal.statements::let_stmt-returns-clause-reads
-statements::let_stmt-returns-clause-reads t c = reads-node false c.start-node.ensures.opens (reads-then false (c.take.ensures.reads false) (reads-then false (c.expect_part.ensures.reads false) (reads-then false c.opt_type.ensures.reads (reads-then false c.opt_value.ensures.reads (reads-then false (c.opt_else.ensures.reads false) (c.expect.ensures.reads false)))))) c.complete.ensures.closes
 
 pub statements::opt_else-returns-then-at-clause-reads : goal.statements::opt_else-returns-then-at-clause-reads
 unfolding look_of begins_below whole rule items statements expressions patterns types paths there_at shift passes is_silent begins in_mode anew row one_of any_of no_longer longest is_longer
@@ -78,10 +59,6 @@ statements::let_else-returns-clause-reads t c = λ cond. reads-node cond c.start
 pub statements::expression_statement-block_statement-requires : goal.statements::expression_statement-block_statement-requires
 statements::expression_statement-block_statement-requires t c = (omega arith, ((λ d. saw-after c.at_block_like.ensures.peeks.same (saw-so (c.at_block_like.ensures.sees d) c.if-at_block_like.true)), omega (arith, c.requires.some, c.at_block_like.ensures.peeks.left)))
 
-pub statements::expression_statement-returns-then-at_block_like-clause-anew : goal.statements::expression_statement-returns-then-at_block_like-clause-anew
-unfolding look_of begins_below whole rule items statements expressions patterns types paths there_at shift passes is_silent begins in_mode anew row one_of any_of no_longer longest is_longer
-statements::expression_statement-returns-then-at_block_like-clause-anew t c = anew-here (begun rules.block_like (saw-so (c.at_block_like.ensures.sees false) c.if-at_block_like.true) nothing) (anew-look c.at_block_like.ensures.peeks.same (c.block_statement.ensures.anew false))
-
 pub statements::expression_statement-ended_expression-requires : goal.statements::expression_statement-ended_expression-requires
 statements::expression_statement-ended_expression-requires t c = (omega arith, record { sees = saw-after c.at_expression.ensures.peeks.same (saw-so c.at_expression.ensures.sees c.if-at_expression.true); some = omega (arith, c.at_expression.ensures.some c.if-at_expression.true, c.at_expression.ensures.peeks.left) })
 
@@ -99,25 +76,14 @@ statements::block_statement-block_like-requires t c = (omega arith, ((λ d. saw-
 pub statements::block_statement-after_block-frame-requires : goal.statements::block_statement-after_block-frame-requires
 statements::block_statement-after_block-frame-requires t c = (omega arith, (c.block_like.ensures.gives true).does.innermost _ c.start-frame.ensures.marker)
 
-pub statements::block_statement-returns-clause-anew : goal.statements::block_statement-returns-clause-anew
-statements::block_statement-returns-clause-anew t c = λ cond. anew-completes c.start-frame.ensures.opens (completes-leave (reads-then cond (reads-call cond (c.block_like.ensures.gives cond)) (c.after_block-frame.ensures.reads cond)) c.abandon.ensures.leaves)
-
 pub statements::after_block-postfix-frame-requires : goal.statements::after_block-postfix-frame-requires
 statements::after_block-postfix-frame-requires t c = (omega arith, (omega (arith, c.at_more.ensures.some c.if-at_more.true, c.at_more.ensures.peeks.left), c.at_more.ensures.peeks.same.innermost _ c.requires.innermost))
 
 pub statements::after_block-postfixes-frame-requires : goal.statements::after_block-postfixes-frame-requires
 statements::after_block-postfixes-frame-requires t c = (omega arith, c.postfix-frame.ensures.takes.marker)
 
-pub statements::after_block-returns-then-at_more-clause-reads : goal.statements::after_block-returns-then-at_more-clause-reads
-unfolding look_of begins_below whole rule items statements expressions patterns types paths there_at shift passes is_silent begins in_mode anew row one_of any_of no_longer longest is_longer
-statements::after_block-returns-then-at_more-clause-reads t c = λ cond. reads-here (saw-so (c.at_more.ensures.sees cond) c.if-at_more.true and nothing) (after-look cond c.at_more.ensures.peeks.same (reads-then cond (c.postfix-frame.ensures.reads cond) (reads-then cond (c.postfixes-frame.ensures.reads cond) (c.statement_end.ensures.reads cond))))
-
 pub statements::after_block-wrap-requires : goal.statements::after_block-wrap-requires
 statements::after_block-wrap-requires t c = (c.take.ensures.reads true).does.innermost _ (c.at.ensures.peeks.same.innermost _ (c.at_more.ensures.peeks.same.innermost _ c.requires.innermost))
-
-pub statements::after_block-returns-then-at-clause-reads : goal.statements::after_block-returns-then-at-clause-reads
-unfolding look_of begins_below whole rule items statements expressions patterns types paths there_at shift passes is_silent begins in_mode anew row one_of any_of no_longer longest is_longer
-statements::after_block-returns-then-at-clause-reads t c = λ cond. reads-here (saw-so (c.at_more.ensures.sees cond) c.if-at_more.false and saw-before c.at_more.ensures.peeks.same (saw-so (c.at.ensures.sees cond) c.if-at.true) and nothing) (after-look cond c.at_more.ensures.peeks.same (after-look cond c.at.ensures.peeks.same (reads-wrap cond (c.take.ensures.reads cond) c.wrap.ensures.wraps)))
 
 pub statements::after_block-returns-then-at_end_of-clause-asks : goal.statements::after_block-returns-then-at_end_of-clause-asks
 statements::after_block-returns-then-at_end_of-clause-asks t c = record {
@@ -126,16 +92,8 @@ statements::after_block-returns-then-at_end_of-clause-asks t c = record {
   marker = c.at_end_of.ensures.peeks.same.innermost _ (c.at.ensures.peeks.same.innermost _ (c.at_more.ensures.peeks.same.innermost _ c.requires.innermost));
 }
 
-pub statements::after_block-returns-then-at_end_of-clause-reads : goal.statements::after_block-returns-then-at_end_of-clause-reads
-unfolding look_of begins_below whole rule items statements expressions patterns types paths there_at shift passes is_silent begins in_mode anew row one_of any_of no_longer longest is_longer
-statements::after_block-returns-then-at_end_of-clause-reads t c = λ cond. reads-else cond (saw-so (c.at_more.ensures.sees cond) c.if-at_more.false) (after-look cond c.at_more.ensures.peeks.same (reads-else cond (saw-so (c.at.ensures.sees cond) c.if-at.false) (after-look cond c.at.ensures.peeks.same (reads-or cond (saw-so (c.at_end_of.ensures.sees cond) c.if-at_end_of.true) (reads-when cond (reads-nothing cond c.at_end_of.ensures.peeks.same))))))
-
 pub statements::after_block-wrap-requires-2 : goal.statements::after_block-wrap-requires-2
 statements::after_block-wrap-requires-2 t c = c.at_end_of.ensures.peeks.same.innermost _ (c.at.ensures.peeks.same.innermost _ (c.at_more.ensures.peeks.same.innermost _ c.requires.innermost))
-
-pub statements::after_block-returns-clause-reads : goal.statements::after_block-returns-clause-reads
-unfolding look_of begins_below whole rule items statements expressions patterns types paths there_at shift passes is_silent begins in_mode anew row one_of any_of no_longer longest is_longer
-statements::after_block-returns-clause-reads t c = λ cond. reads-else cond (saw-so (c.at_more.ensures.sees cond) c.if-at_more.false) (after-look cond c.at_more.ensures.peeks.same (reads-else cond (saw-so (c.at.ensures.sees cond) c.if-at.false) (after-look cond c.at.ensures.peeks.same (reads-else cond (saw-so (c.at_end_of.ensures.sees cond) c.if-at_end_of.false) (reads-wrap cond (reads-nothing cond c.at_end_of.ensures.peeks.same) c.wrap-2.ensures.wraps)))))
 
 pub statements::ended_expression-expression-requires : goal.statements::ended_expression-expression-requires
 statements::ended_expression-expression-requires t c = (omega arith, (saw-inside c.start-frame.ensures.opens c.requires.begins.sees, omega arith))
@@ -145,3 +103,142 @@ statements::ended_expression-statement_end-frame-requires t c = c.expression.ens
 
 pub statements::ended_expression-returns-clause-anew : goal.statements::ended_expression-returns-clause-anew
 statements::ended_expression-returns-clause-anew t c = anew-completes c.start-frame.ensures.opens (completes-leave (reads-then false (reads-call false c.expression.ensures.gives) (c.statement_end-frame.ensures.reads false)) c.abandon.ensures.leaves)
+
+pub statements::statement-returns-then-at_new_statement-clause-gives : goal.statements::statement-returns-then-at_new_statement-clause-gives
+unfolding look_of begins_below whole rule items statements expressions patterns types paths there_at shift passes is_silent begins in_mode anew row one_of any_of no_longer longest is_longer
+statements::statement-returns-then-at_new_statement-clause-gives t c = gives-statement c.args.end (anew-here (saw-not c.in_default.not-SEMICOLON (c.current.ensures.sees false) and saw-not c.in_default.not-DEFER_KW (c.current.ensures.sees false) and saw-not c.in_default.not-LET_KW (c.current.ensures.sees false) and saw-before c.current.ensures.peeks.same (saw-so (c.at_inner_attribute.ensures.sees false) c.if-at_inner_attribute.false) and saw-before c.current.ensures.peeks.same (saw-before c.at_inner_attribute.ensures.peeks.same (saw-so (c.at_new_statement.ensures.sees false) c.if-at_new_statement.true)) and nothing) (anew-look c.current.ensures.peeks.same (anew-look c.at_inner_attribute.ensures.peeks.same (anew-look c.at_new_statement.ensures.peeks.same (c.new_statement.ensures.anew)))))
+
+pub statements::statement-new_statement-requires : goal.statements::statement-new_statement-requires
+statements::statement-new_statement-requires t c = (omega arith, record { sees = λ d. saw-after c.at_new_statement.ensures.peeks.same (saw-so (c.at_new_statement.ensures.sees d) c.if-at_new_statement.true); some = omega (arith, c.at_new_statement.ensures.some c.if-at_new_statement.true, c.at_new_statement.ensures.peeks.left) })
+
+pub statements::statement-returns-then-at_profile_item-clause-gives : goal.statements::statement-returns-then-at_profile_item-clause-gives
+unfolding look_of begins_below whole rule items statements expressions patterns types paths there_at shift passes is_silent begins in_mode anew row one_of any_of no_longer longest is_longer
+statements::statement-returns-then-at_profile_item-clause-gives t c = gives-statement c.args.end (anew-here (saw-not c.in_default.not-SEMICOLON (c.current.ensures.sees false) and saw-not c.in_default.not-DEFER_KW (c.current.ensures.sees false) and saw-not c.in_default.not-LET_KW (c.current.ensures.sees false) and saw-before c.current.ensures.peeks.same (saw-so (c.at_inner_attribute.ensures.sees false) c.if-at_inner_attribute.false) and saw-before c.current.ensures.peeks.same (saw-before c.at_inner_attribute.ensures.peeks.same (saw-so (c.at_new_statement.ensures.sees false) c.if-at_new_statement.false)) and saw-before c.current.ensures.peeks.same (saw-before c.at_inner_attribute.ensures.peeks.same (saw-before c.at_new_statement.ensures.peeks.same (saw-so (c.at_profile_item.ensures.sees false) c.if-at_profile_item.true))) and nothing) (anew-look c.current.ensures.peeks.same (anew-look c.at_inner_attribute.ensures.peeks.same (anew-look c.at_new_statement.ensures.peeks.same (anew-look c.at_profile_item.ensures.peeks.same (anew-after refl (reads-call false c.item.ensures.gives)))))))
+
+pub statements::statement-item-requires : goal.statements::statement-item-requires
+statements::statement-item-requires t c = (omega arith, omega (arith, c.requires.some, c.current.ensures.peeks.left, c.at_inner_attribute.ensures.peeks.left, c.at_new_statement.ensures.peeks.left, c.at_profile_item.ensures.peeks.left))
+
+pub statements::statement-returns-else-at_profile_item-clause-gives : goal.statements::statement-returns-else-at_profile_item-clause-gives
+unfolding look_of begins_below whole rule items statements expressions patterns types paths there_at shift passes is_silent begins in_mode anew row one_of any_of no_longer longest is_longer
+statements::statement-returns-else-at_profile_item-clause-gives t c = gives-statement c.args.end (anew-here (saw-not c.in_default.not-SEMICOLON (c.current.ensures.sees false) and saw-not c.in_default.not-DEFER_KW (c.current.ensures.sees false) and saw-not c.in_default.not-LET_KW (c.current.ensures.sees false) and saw-before c.current.ensures.peeks.same (saw-so (c.at_inner_attribute.ensures.sees false) c.if-at_inner_attribute.false) and saw-before c.current.ensures.peeks.same (saw-before c.at_inner_attribute.ensures.peeks.same (saw-so (c.at_new_statement.ensures.sees false) c.if-at_new_statement.false)) and saw-before c.current.ensures.peeks.same (saw-before c.at_inner_attribute.ensures.peeks.same (saw-before c.at_new_statement.ensures.peeks.same (saw-so (c.at_profile_item.ensures.sees false) c.if-at_profile_item.false))) and nothing) (anew-look c.current.ensures.peeks.same (anew-look c.at_inner_attribute.ensures.peeks.same (anew-look c.at_new_statement.ensures.peeks.same (anew-look c.at_profile_item.ensures.peeks.same c.expression_statement.ensures.anew)))))
+
+pub statements::statement-returns-else-at_profile_item-clause-pays : goal.statements::statement-returns-else-at_profile_item-clause-pays
+statements::statement-returns-else-at_profile_item-clause-pays t c = λ e. omega (arith, c.current.ensures.peeks.looks, c.at_inner_attribute.ensures.peeks.looks, c.at_new_statement.ensures.peeks.looks, c.at_profile_item.ensures.peeks.looks, c.expression_statement.ensures.pays (omega (arith, e, c.current.ensures.peeks.left, c.at_inner_attribute.ensures.peeks.left, c.at_new_statement.ensures.peeks.left, c.at_profile_item.ensures.peeks.left)))
+
+pub statements::new_statement-returns-then-at_long_path-clause-anew : goal.statements::new_statement-returns-then-at_long_path-clause-anew
+unfolding look_of begins_below whole rule items statements expressions patterns types paths there_at shift passes is_silent begins in_mode anew row one_of any_of no_longer longest is_longer
+statements::new_statement-returns-then-at_long_path-clause-anew t c = anew-here (saw-so (c.at_long_path.ensures.sees false) c.if-at_long_path.true and nothing) (anew-look c.at_long_path.ensures.peeks.same c.long_path_statement.ensures.anew)
+
+pub statements::new_statement-returns-then-at_super_let-clause-anew : goal.statements::new_statement-returns-then-at_super_let-clause-anew
+unfolding look_of begins_below whole rule items statements expressions patterns types paths there_at shift passes is_silent begins in_mode anew row one_of any_of no_longer longest is_longer
+statements::new_statement-returns-then-at_super_let-clause-anew t c = anew-here (saw-so (c.at_long_path.ensures.sees false) c.if-at_long_path.false and saw-before c.at_long_path.ensures.peeks.same (saw-so (c.at_super_let.ensures.sees false) c.if-at_super_let.true) and nothing) (anew-look c.at_long_path.ensures.peeks.same (anew-look c.at_super_let.ensures.peeks.same (anew-after refl c.super_let.ensures.reads)))
+
+pub statements::new_statement-returns-clause-anew : goal.statements::new_statement-returns-clause-anew
+unfolding look_of begins_below whole rule items statements expressions patterns types paths there_at shift passes is_silent begins in_mode anew row one_of any_of no_longer longest is_longer
+statements::new_statement-returns-clause-anew t c = anew-here (saw-so (c.at_long_path.ensures.sees false) c.if-at_long_path.false and saw-before c.at_long_path.ensures.peeks.same (saw-so (c.at_super_let.ensures.sees false) c.if-at_super_let.false) and nothing) (anew-look c.at_long_path.ensures.peeks.same (anew-look c.at_super_let.ensures.peeks.same (anew-after refl (reads-call false c.item.ensures.gives))))
+
+pub statements::new_statement-long_path_statement-requires : goal.statements::new_statement-long_path_statement-requires
+statements::new_statement-long_path_statement-requires t c = (omega arith, ((λ d. saw-after c.at_long_path.ensures.peeks.same (path-there (saw-so (c.at_long_path.ensures.sees d) c.if-at_long_path.true))), omega (arith, c.at_long_path.ensures.some c.if-at_long_path.true, c.at_long_path.ensures.peeks.left)))
+
+pub statements::new_statement-super_let-requires : goal.statements::new_statement-super_let-requires
+statements::new_statement-super_let-requires t c = (omega arith, omega (arith, c.at_super_let.ensures.some c.if-at_super_let.true, c.at_super_let.ensures.peeks.left))
+
+pub statements::new_statement-item-requires : goal.statements::new_statement-item-requires
+statements::new_statement-item-requires t c = (omega arith, omega (arith, c.requires.begins.some, c.at_long_path.ensures.peeks.left, c.at_super_let.ensures.peeks.left))
+
+pub statements::long_path_statement-path_with_args-requires : goal.statements::long_path_statement-path_with_args-requires
+statements::long_path_statement-path_with_args-requires t c = (omega arith, ((λ d. saw-inside c.start-frame.ensures.opens (c.requires.begins d)), omega (arith, c.requires.some, c.start-frame.ensures.stays.left)))
+
+pub statements::long_path_statement-path_tail-frame-requires : goal.statements::long_path_statement-path_tail-frame-requires
+statements::long_path_statement-path_tail-frame-requires t c = (omega arith, (c.path_with_args.ensures.gives true).does.innermost _ c.start-frame.ensures.marker)
+
+pub statements::long_path_statement-returns-clause-anew : goal.statements::long_path_statement-returns-clause-anew
+statements::long_path_statement-returns-clause-anew t c = anew-completes c.start-frame.ensures.opens (completes-leave (reads-then false (reads-call false (c.path_with_args.ensures.gives false)) c.path_tail-frame.ensures.reads) c.abandon.ensures.leaves)
+
+pub statements::path_tail-returns-then-at_braced_macro-clause-reads : goal.statements::path_tail-returns-then-at_braced_macro-clause-reads
+unfolding look_of begins_below whole rule items statements expressions patterns types paths there_at shift passes is_silent begins in_mode anew row one_of any_of no_longer longest is_longer
+statements::path_tail-returns-then-at_braced_macro-clause-reads t c = reads-here (saw-so (c.at_braced_macro.ensures.sees false) c.if-at_braced_macro.true and nothing) (after-look false c.at_braced_macro.ensures.peeks.same (reads-then false (reads-wrap false (reads-then false (c.take.ensures.reads false) (reads-call false (c.token_tree.ensures.gives false))) c.wrap-frame.ensures.wraps) (reads-then false (reads-wrap false (reads-nothing false (does-nothing _)) c.wrap-frame-then-at_braced_macro.ensures.wraps) c.after_block.ensures.reads)))
+
+pub statements::path_tail-returns-clause-reads : goal.statements::path_tail-returns-clause-reads
+unfolding look_of begins_below whole rule items statements expressions patterns types paths there_at shift passes is_silent begins in_mode anew row one_of any_of no_longer longest is_longer
+statements::path_tail-returns-clause-reads t c = reads-here (saw-so (c.at_braced_macro.ensures.sees false) c.if-at_braced_macro.false and nothing) (after-look false c.at_braced_macro.ensures.peeks.same (reads-then false c.after_path-frame.ensures.reads (reads-then false (c.postfixes-frame.ensures.reads false) (reads-then false c.after_operand-frame.ensures.reads (c.statement_end.ensures.reads false)))))
+
+pub statements::path_tail-wrap-frame-requires : goal.statements::path_tail-wrap-frame-requires
+statements::path_tail-wrap-frame-requires t c = (c.token_tree.ensures.gives true).does.innermost _ ((c.take.ensures.reads true).does.innermost _ (c.at_braced_macro.ensures.peeks.same.innermost _ c.requires.innermost))
+
+pub statements::path_tail-wrap-frame-requires-then-at_braced_macro : goal.statements::path_tail-wrap-frame-requires-then-at_braced_macro
+statements::path_tail-wrap-frame-requires-then-at_braced_macro t c = c.wrap-frame.ensures.marker
+
+pub statements::path_tail-after_block-requires : goal.statements::path_tail-after_block-requires
+statements::path_tail-after_block-requires t c = (omega arith, c.wrap-frame-then-at_braced_macro.ensures.marker)
+
+pub statements::path_tail-after_path-frame-requires : goal.statements::path_tail-after_path-frame-requires
+statements::path_tail-after_path-frame-requires t c = (omega arith, c.at_braced_macro.ensures.peeks.same.innermost _ c.requires.innermost)
+
+pub statements::path_tail-postfixes-frame-requires : goal.statements::path_tail-postfixes-frame-requires
+statements::path_tail-postfixes-frame-requires t c = (omega arith, c.after_path-frame.ensures.asks.marker)
+
+pub statements::path_tail-after_operand-frame-requires : goal.statements::path_tail-after_operand-frame-requires
+statements::path_tail-after_operand-frame-requires t c = (omega arith, c.postfixes-frame.ensures.asks.marker)
+
+pub statements::path_tail-statement_end-requires : goal.statements::path_tail-statement_end-requires
+statements::path_tail-statement_end-requires t c = c.after_operand-frame.ensures.asks.marker
+
+pub statements::super_let-returns-clause-reads : goal.statements::super_let-returns-clause-reads
+statements::super_let-returns-clause-reads t c = reads-node false c.start-node.ensures.opens (reads-then false (c.take.ensures.reads false) c.let_rest.ensures.reads) c.complete.ensures.closes
+
+pub statements::super_let-complete-requires : goal.statements::super_let-complete-requires
+statements::super_let-complete-requires t c = c.let_rest.ensures.reads.does.innermost _ ((c.take.ensures.reads true).does.innermost _ c.start-node.ensures.marker)
+
+pub statements::let_stmt-complete-requires : goal.statements::let_stmt-complete-requires
+statements::let_stmt-complete-requires t c = c.let_rest.ensures.reads.does.innermost _ c.start-node.ensures.marker
+
+pub statements::let_stmt-returns-clause-reads : goal.statements::let_stmt-returns-clause-reads
+statements::let_stmt-returns-clause-reads t c = reads-node false c.start-node.ensures.opens c.let_rest.ensures.reads c.complete.ensures.closes
+
+pub statements::let_rest-returns-clause-reads : goal.statements::let_rest-returns-clause-reads
+statements::let_rest-returns-clause-reads t c = reads-then false (c.take.ensures.reads false) (reads-then false (c.expect_part.ensures.reads false) (reads-then false c.opt_type.ensures.reads (reads-then false c.opt_value.ensures.reads (reads-then false (c.opt_else.ensures.reads false) (c.expect.ensures.reads false)))))
+
+pub statements::after_block-returns-then-at_more-clause-reads : goal.statements::after_block-returns-then-at_more-clause-reads
+unfolding look_of begins_below whole rule items statements expressions patterns types paths there_at shift passes is_silent begins in_mode anew row one_of any_of no_longer longest is_longer
+statements::after_block-returns-then-at_more-clause-reads t c = reads-here (saw-so (c.at_more.ensures.sees false) c.if-at_more.true and nothing) (after-look false c.at_more.ensures.peeks.same (reads-then false (c.postfix-frame.ensures.reads false) (reads-then false (c.postfixes-frame.ensures.reads false) (reads-then false c.opt_operators-frame.ensures.reads (c.statement_end.ensures.reads false)))))
+
+pub statements::after_block-returns-then-at-clause-reads : goal.statements::after_block-returns-then-at-clause-reads
+unfolding look_of begins_below whole rule items statements expressions patterns types paths there_at shift passes is_silent begins in_mode anew row one_of any_of no_longer longest is_longer
+statements::after_block-returns-then-at-clause-reads t c = reads-here (saw-so (c.at_more.ensures.sees false) c.if-at_more.false and saw-before c.at_more.ensures.peeks.same (saw-so (c.at.ensures.sees false) c.if-at.true) and nothing) (after-look false c.at_more.ensures.peeks.same (after-look false c.at.ensures.peeks.same (reads-wrap false (c.take.ensures.reads false) c.wrap.ensures.wraps)))
+
+pub statements::after_block-returns-then-at_end_of-clause-reads : goal.statements::after_block-returns-then-at_end_of-clause-reads
+unfolding look_of begins_below whole rule items statements expressions patterns types paths there_at shift passes is_silent begins in_mode anew row one_of any_of no_longer longest is_longer
+statements::after_block-returns-then-at_end_of-clause-reads t c = reads-else false (saw-so (c.at_more.ensures.sees false) c.if-at_more.false) (after-look false c.at_more.ensures.peeks.same (reads-else false (saw-so (c.at.ensures.sees false) c.if-at.false) (after-look false c.at.ensures.peeks.same (reads-or false (saw-so (c.at_end_of.ensures.sees false) c.if-at_end_of.true) (reads-when false (reads-nothing false c.at_end_of.ensures.peeks.same))))))
+
+pub statements::after_block-returns-clause-reads : goal.statements::after_block-returns-clause-reads
+unfolding look_of begins_below whole rule items statements expressions patterns types paths there_at shift passes is_silent begins in_mode anew row one_of any_of no_longer longest is_longer
+statements::after_block-returns-clause-reads t c = reads-else false (saw-so (c.at_more.ensures.sees false) c.if-at_more.false) (after-look false c.at_more.ensures.peeks.same (reads-else false (saw-so (c.at.ensures.sees false) c.if-at.false) (after-look false c.at.ensures.peeks.same (reads-else false (saw-so (c.at_end_of.ensures.sees false) c.if-at_end_of.false) (reads-wrap false (reads-nothing false c.at_end_of.ensures.peeks.same) c.wrap-2.ensures.wraps)))))
+
+pub statements::block_statement-returns-clause-anew : goal.statements::block_statement-returns-clause-anew
+statements::block_statement-returns-clause-anew t c = anew-completes c.start-frame.ensures.opens (completes-leave (reads-then false (reads-call false (c.block_like.ensures.gives false)) c.after_block-frame.ensures.reads) c.abandon.ensures.leaves)
+
+pub statements::after_block-opt_operators-frame-requires : goal.statements::after_block-opt_operators-frame-requires
+statements::after_block-opt_operators-frame-requires t c = (omega arith, c.postfixes-frame.ensures.asks.marker)
+
+pub statements::expression_statement-returns-then-at_block_like-clause-anew : goal.statements::expression_statement-returns-then-at_block_like-clause-anew
+unfolding look_of begins_below whole rule items statements expressions patterns types paths there_at shift passes is_silent begins in_mode anew row one_of any_of no_longer longest is_longer
+statements::expression_statement-returns-then-at_block_like-clause-anew t c = anew-here (begun rules.block_like (saw-so (c.at_block_like.ensures.sees false) c.if-at_block_like.true) nothing) (anew-look c.at_block_like.ensures.peeks.same c.block_statement.ensures.anew)
+
+pub statements::opt_operators-after_operand-requires : goal.statements::opt_operators-after_operand-requires
+statements::opt_operators-after_operand-requires t c = (omega arith, c.at_whole.ensures.same.innermost _ c.requires.innermost)
+
+pub statements::opt_operators-returns-then-at_whole-clause-reads : goal.statements::opt_operators-returns-then-at_whole-clause-reads
+unfolding look_of begins_below whole rule items statements expressions patterns types paths there_at shift passes is_silent begins in_mode anew row one_of any_of no_longer longest is_longer
+statements::opt_operators-returns-then-at_whole-clause-reads t c = reads-here (saw-so (c.at_whole.ensures.sees false) c.if-at_whole.true and nothing) (after-look false c.at_whole.ensures.same c.after_operand.ensures.reads)
+
+pub statements::opt_operators-returns-clause-reads : goal.statements::opt_operators-returns-clause-reads
+unfolding look_of begins_below whole rule items statements expressions patterns types paths there_at shift passes is_silent begins in_mode anew row one_of any_of no_longer longest is_longer
+statements::opt_operators-returns-clause-reads t c = reads-here (saw-so (c.at_whole.ensures.sees false) c.if-at_whole.false and nothing) (reads-nothing false c.at_whole.ensures.same)
+
+pub statements::opt_operators-returns-clause-asks : goal.statements::opt_operators-returns-clause-asks
+statements::opt_operators-returns-clause-asks t c = record {
+  left = omega (arith, c.at_whole.ensures.stays.left);
+  looks = omega (arith, c.at_whole.ensures.stays.looks);
+  marker = c.at_whole.ensures.same.innermost _ c.requires.innermost;
+}

@@ -1,0 +1,147 @@
+//! Where statements start that are items, or that only the whole language has.
+
+ghost use Rattle.std.specs.Prelude.{◌≤◌, ◌∷◌, [], Bool, IsTrue};
+ghost use Rattle.rust_grammar.specs.Notation.{one_of, wide};
+ghost use Rattle.rust_grammar.specs.Rule.{Both, Not, Whole};
+ghost use Rattle.rust_grammar.specs.Statements as rows;
+ghost use Rattle.rust_grammar.specs.Words.{'fn', 'impl', 'trait', '|', 'move', 'async'};
+ghost use Rattle.rust_productions.specs.Looks.{tokens, Peeks};
+ghost use Rattle.rust_productions.specs.Reads.{Saw};
+
+use crate::grammar::item_words::at_new_item;
+use crate::grammar::match_arms::at_long_path;
+use crate::grammar::{at, at_second, at_whole, current, nth};
+use parser_events::parser::Parser;
+use parser_input::syntax_kind::SyntaxKind;
+
+/// Returns `true` if an item of both languages starts here, among statements.
+pub fn at_item(p: &mut Parser<'_>) -> bool
+    ensures sees { (c : Bool) → Saw c rows.item_begins p.old result }
+    ensures some { IsTrue result → 1 ≤ tokens p.old }
+    ensures peeks { Peeks 2 p.old p.new }
+{
+    match current(p) {
+        SyntaxKind::POUND
+        | SyntaxKind::PUB_KW
+        | SyntaxKind::MOD_KW
+        | SyntaxKind::USE_KW
+        | SyntaxKind::STRUCT_KW
+        | SyntaxKind::ENUM_KW
+        | SyntaxKind::FN_KW
+        | SyntaxKind::CONST_KW
+        | SyntaxKind::STATIC_KW
+        | SyntaxKind::TYPE_KW
+        | SyntaxKind::IMPL_KW
+        | SyntaxKind::TRAIT_KW => true,
+        SyntaxKind::UNSAFE_KW => {
+            if at_item_after_unsafe(p) {
+                return true;
+            }
+            false
+        }
+        _ => false,
+    }
+}
+
+/// Returns `true` if the token after the next one is `fn`, `impl` or `trait`.
+fn at_item_after_unsafe(p: &mut Parser<'_>) -> bool
+    ensures sees { (c : Bool) → Saw c (one_of 1 ('fn' ∷ 'impl' ∷ 'trait' ∷ [])) p.old result }
+    ensures peeks { Peeks 1 p.old p.new }
+{
+    match nth(p, 1) {
+        SyntaxKind::FN_KW | SyntaxKind::IMPL_KW | SyntaxKind::TRAIT_KW => true,
+        _ => false,
+    }
+}
+
+/// Returns `true` if an item of the profile starts here, among statements, and the profile is read.
+pub fn at_profile_item(p: &mut Parser<'_>) -> bool
+    ensures sees { (c : Bool) → Saw c (Both rows.item_begins (Not (Whole 0))) p.old result }
+    ensures some { IsTrue result → 1 ≤ tokens p.old }
+    ensures peeks { Peeks 2 p.old p.new }
+{
+    if at_whole(p) {
+        return false;
+    }
+    if at_item(p) {
+        return true;
+    }
+    false
+}
+
+/// Returns `true` if a `let` after `super` starts here.
+// super let
+pub fn at_super_let(p: &mut Parser<'_>) -> bool
+    ensures sees { (c : Bool) → Saw c rows.super_let_begins p.old result }
+    ensures some { IsTrue result → 2 ≤ tokens p.old }
+    ensures peeks { Peeks 2 p.old p.new }
+{
+    if !at(p, SyntaxKind::SUPER_KW) {
+        return false;
+    }
+    if at_second(p, SyntaxKind::LET_KW) {
+        return true;
+    }
+    false
+}
+
+/// Returns `true` if the token after `static` begins a closure.
+fn at_closure_after_static(p: &mut Parser<'_>) -> bool
+    ensures sees { (c : Bool) → Saw c (one_of 1 ('|' ∷ 'move' ∷ 'async' ∷ [])) p.old result }
+    ensures peeks { Peeks 1 p.old p.new }
+{
+    match nth(p, 1) {
+        SyntaxKind::PIPE | SyntaxKind::MOVE_KW | SyntaxKind::ASYNC_KW => true,
+        _ => false,
+    }
+}
+
+/// Returns `true` if a const block starts here, or a closure after `static`: neither is an item.
+// const {
+fn at_no_item(p: &mut Parser<'_>) -> bool
+    ensures sees { (c : Bool) → Saw c rows.no_item_begins p.old result }
+    ensures peeks { Peeks 2 p.old p.new }
+{
+    match current(p) {
+        SyntaxKind::CONST_KW => {
+            if at_second(p, SyntaxKind::L_CURLY) {
+                return true;
+            }
+            false
+        }
+        SyntaxKind::STATIC_KW => {
+            if at_closure_after_static(p) {
+                return true;
+            }
+            false
+        }
+        _ => false,
+    }
+}
+
+/// Returns `true` if a statement starts here that only the whole language has, or an item there.
+pub fn at_new_statement(p: &mut Parser<'_>) -> bool
+    ensures sees { (c : Bool) → Saw c (wide rows.new_statement_begins) p.old result }
+    ensures some { IsTrue result → 1 ≤ tokens p.old }
+    ensures peeks { Peeks 32 p.old p.new }
+{
+    if !at_whole(p) {
+        return false;
+    }
+    if at_long_path(p) {
+        return true;
+    }
+    if at_super_let(p) {
+        return true;
+    }
+    if at_no_item(p) {
+        return false;
+    }
+    if at_item(p) {
+        return true;
+    }
+    if at_new_item(p) {
+        return true;
+    }
+    false
+}
