@@ -2,9 +2,9 @@
 use anyhow::bail;
 use document_requests::apply::apply;
 use document_requests::run::run;
-use document_requests::serve::{Outcome, serve_bytes};
+use document_requests::serve::{Outcome, serve_as, serve_bytes};
 use document_requests::{
-    Change, Command, CommitRule, Entry, Op, Refusal, Reply, Target, Watched, answer_by,
+    Change, Command, CommitRule, Entry, Format, Op, Refusal, Reply, Target, Watched, answer_by,
     commands_of, first_difference, serve_lines,
 };
 use memory_table::row::{Ask, Row};
@@ -22,17 +22,24 @@ pub(crate) enum RequestCall {
     CommandsOf,
     FirstDifference,
     Serve,
+    ServeAs,
     ServeLines,
     Run,
 }
 
-/// The answer to the request on a line.
-const LINE: &str = "{\"status\":0,\"replies\":[{\"changed\":[[7,10]],\"ok\":\"commit\"},\
-    {\"err\":\"Unfaithful\"}],\"text\":\"struct Tee;\"}\n";
+/// The answers to two requests on a line each.
+const LINES: &str = "{\"status\":0,\"replies\":[{\"changed\":[[7,10]],\"ok\":\"commit\"},\
+    {\"err\":\"Unfaithful\"}],\"text\":\"struct Tee;\"}\n\
+    {\"status\":0,\"replies\":[{\"changed\":[[6,9]],\"ok\":\"commit\"},\
+    {\"changed\":[[19,34]],\"ok\":\"commit\"}],\"text\":\"union Tee { a: u8 }extern crate a;\"}\n";
 
 /// Renames a struct, and then has a comment swallow it.
 const REQUEST: &str =
     r#"{"edition":"2021","text":"struct S;","commands":[{"do":"commit","changes":[{"op":"replace","at":["IDENT",7,8],"with":["token","Tee"]}]},{"do":"commit","changes":[{"op":"before","at":["STRUCT",0,11],"with":["token","// c"]}]}]}"#;
+
+/// Renames a union, and then puts an item after it. Both are read by the whole language alone.
+const WHOLE: &str =
+    r#"{"edition":"2021","grammar":"whole","text":"union U { a: u8 }","commands":[{"do":"commit","changes":[{"op":"replace","at":["IDENT",6,7],"with":["token","Tee"]}]},{"do":"commit","changes":[{"op":"after","at":["UNION",0,19],"with":["item","extern crate a;"]}]}]}"#;
 
 const OUTPUT: &str =
     "0 {\"changed\":[[7,10]],\"ok\":\"commit\"}\n{\"err\":\"Unfaithful\"}\nstruct Tee;";
@@ -160,11 +167,12 @@ fn commands_read(alloc: Global) -> anyhow::Result<String> {
     }
 }
 
-/// The answer to the request on a line. The output has its room before.
+/// The answers to two requests on a line each. The output has its room before.
 fn lines_answered(alloc: Global) -> anyhow::Result<String> {
-    let mut output = Vec::with_capacity(alloc, 256)?;
+    let lines = format!(in alloc; "{REQUEST}\n{WHOLE}\n")?;
+    let mut output = Vec::with_capacity(alloc, 512)?;
     let mut writer = Watched::new(&mut output);
-    serve_lines(alloc, REQUEST.as_bytes(), &mut writer)?;
+    serve_lines(alloc, lines.as_bytes(), &mut writer)?;
     match str::from_utf8(&output) {
         Ok(text) => Ok(format!(in alloc; "{text}")?),
         Err(_) => bail!("no text"),
@@ -189,11 +197,22 @@ fn told(alloc: Global, document: &Document, replies: &[Reply]) -> anyhow::Result
     Ok(out)
 }
 
-fn served(alloc: Global) -> anyhow::Result<String> {
-    match serve_bytes(alloc, REQUEST.as_bytes())? {
-        Outcome::Run { document, replies } => told(alloc, &document, &replies),
+/// The text that a request has left, and what its commands were answered.
+fn outcome_told(alloc: Global, outcome: &Outcome) -> anyhow::Result<String> {
+    match outcome {
+        Outcome::Run { document, replies } => told(alloc, document, replies),
         Outcome::NotRun(_) => bail!("not run"),
     }
+}
+
+fn served(alloc: Global) -> anyhow::Result<String> {
+    let outcome = serve_bytes(alloc, REQUEST.as_bytes())?;
+    outcome_told(alloc, &outcome)
+}
+
+fn served_as_line(alloc: Global) -> anyhow::Result<String> {
+    let outcome = serve_as(alloc, Format::Line, WHOLE.as_bytes())?;
+    outcome_told(alloc, &outcome)
 }
 
 /// The status and the output of the request. The output has its room before.
@@ -217,6 +236,7 @@ impl Ask for RequestCall {
             RequestCall::CommandsOf => commands_read(alloc),
             RequestCall::FirstDifference => reason(alloc),
             RequestCall::Serve => served(alloc),
+            RequestCall::ServeAs => served_as_line(alloc),
             RequestCall::ServeLines => lines_answered(alloc),
             RequestCall::Run => answered(alloc),
         }
@@ -233,6 +253,11 @@ pub(crate) const ROWS: &[Row<RequestCall>] = &[
         "document_requests::serve::serve_bytes",
         RequestCall::Serve,
         "struct Tee; 7..10 Unfaithful",
+    ),
+    (
+        "document_requests::serve::serve_as",
+        RequestCall::ServeAs,
+        "union Tee { a: u8 }extern crate a; 6..9 19..34",
     ),
     (
         "document_requests::answer_by",
@@ -252,7 +277,7 @@ pub(crate) const ROWS: &[Row<RequestCall>] = &[
     (
         "document_requests::serve_lines",
         RequestCall::ServeLines,
-        LINE,
+        LINES,
     ),
     ("document_requests::run::run", RequestCall::Run, OUTPUT),
 ];

@@ -1,33 +1,64 @@
 -- The request in some bytes.
-use Rattle.std.proofs.Common.{◌≡◌, ℕ, List, Bool, true, false, refl, sym, ap, ◌∙◌, Some, Result, Ok, Err, IfOk}
-use Rattle.std.specs.Prelude.{if◌then◌else◌}
+use Rattle.std.proofs.Common.{◌≡◌, ℕ, List, Bool, true, false, refl, sym, ap, ◌∙◌, Option, Some, None, Result, Ok, Err, IfOk}
+use Rattle.std.specs.Prelude.{◌&&◌, codes, if◌then◌else◌, option_and_then}
 use Rattle.std.specs.Str.{IsUtf8, is_utf8}
 use Rattle.std.proofs.lemmas.Str.{IsUtf8-from_is_utf8, is_utf8-from_IsUtf8}
 use Rattle.serde_json.specs.Data.{Data}
+use Rattle.serde_json.specs.Find.{get}
 use Rattle.serde_json.specs.Read.{read}
+use Rattle.serde_json.specs.Written.{has_float}
+use Rattle.document_requests.specs.Floats.{writes_float}
 use Rattle.document_requests.specs.Outcome.{output, ran_of}
-use Rattle.document_requests.specs.Output.{Rejected, of_value, of_value_if_any, output_of, ran, replies}
+use Rattle.document_requests.specs.Output.{NamesNoGrammar, Rejected, of_value, of_value_if_any, output_of, ran, ran_as, replies, served_if_any}
+use Rattle.document_requests.specs.Request.{grammar_in, request_by, request_of}
 use Rattle.document_requests.specs.declared.serve.Outcome.{Outcome}
-use Rattle.document_requests.specs.declared.reply.Refusal.TheVariants.{Request}
+use Rattle.document_requests.specs.declared.reply.Refusal.TheVariants.{Request, Float}
+use Rattle.document_requests.specs.declared.request.Format.{Format}
+use Rattle.document_requests.specs.declared.request.Format.TheVariants.{Single, Line}
 
 -- where the bytes are UTF-8 or not
-told : Bool → List ℕ → Type 0
-told b bytes = Rejected Request ≡ (if b then of_value_if_any bytes (read bytes) else Rejected Request)
+told : Format → Bool → List ℕ → Type 0
+told format b bytes = Rejected Request ≡ (if b then of_value_if_any format bytes (read bytes) else Rejected Request)
 
-by_test : (bytes : List ℕ) (b : Bool) → is_utf8 bytes ≡ b → ¬ (IsUtf8 bytes) → told b bytes
+by_test : (format : Format) (bytes : List ℕ) (b : Bool) → is_utf8 bytes ≡ b → ¬ (IsUtf8 bytes) → told format b bytes
 unfolding told
-by_test bytes true is fails = absurd (fails (IsUtf8-from_is_utf8 bytes is))
-by_test bytes false is fails = refl
+by_test format bytes true is fails = absurd (fails (IsUtf8-from_is_utf8 bytes is))
+by_test format bytes false is fails = refl
 
-pub no_text : (bytes : List ℕ) → ¬ (IsUtf8 bytes) → Rejected Request ≡ ran bytes
+pub no_text : (format : Format) (bytes : List ℕ) → ¬ (IsUtf8 bytes) → Rejected Request ≡ ran_as format bytes
 unfolding told
-no_text bytes fails = by_test bytes (is_utf8 bytes) refl fails
+no_text format bytes fails = by_test format bytes (is_utf8 bytes) refl fails
 
-pub value_read : (text bytes : List ℕ) (d : Data) → text ≡ bytes → IsUtf8 bytes → read text ≡ Some d → of_value text d ≡ ran bytes
-value_read text bytes d same utf8 is =
-    ap (λ t. of_value t d) same ∙ sym
-    (ap (λ b. if b then of_value_if_any bytes (read bytes) else Rejected Request) (is_utf8-from_IsUtf8 bytes utf8)
-    ∙ ap (of_value_if_any bytes) (ap read (sym same) ∙ is))
+pub value_read :
+    (format : Format) (text bytes : List ℕ) (d : Data)
+    → text ≡ bytes → IsUtf8 bytes → read text ≡ Some d → of_value format text d ≡ ran_as format bytes
+value_read format text bytes d same utf8 is =
+    ap (λ t. of_value format t d) same ∙ sym
+    (ap (λ b. if b then of_value_if_any format bytes (read bytes) else Rejected Request) (is_utf8-from_IsUtf8 bytes utf8)
+    ∙ ap (of_value_if_any format bytes) (ap read (sym same) ∙ is))
+
+-- ---- without a member with a grammar
+
+same_request : (format : Format) (d : Data) → get (codes "grammar") d ≡ None → request_of format d ≡ request_of Single d
+same_request Single d none = refl
+same_request Line d none = ap (λ member. option_and_then (λ grammar. request_by grammar d) (grammar_in member)) none
+
+same_value :
+    (format : Format) (text : List ℕ) (found : Option Data)
+    → ((d : Data) → found ≡ Some d → get (codes "grammar") d ≡ None) → of_value_if_any format text found ≡ of_value_if_any Single text found
+same_value format text None none = refl
+same_value format text (Some d) none =
+    ap (λ r. if has_float d && writes_float text then Rejected Float else served_if_any r) (same_request format d (none d refl))
+
+-- all formats have one result
+pub same_ran : (format : Format) (bytes : List ℕ) → NamesNoGrammar bytes → ran_as format bytes ≡ ran bytes
+same_ran format bytes none = ap (λ r. if is_utf8 bytes then r else Rejected Request) (same_value format bytes (read bytes) none)
+
+pub ran_alike :
+    {E : Type 0} (r : Result Outcome E) (format : Format) (bytes : List ℕ)
+    → IfOk r (λ o. ran_of o ≡ ran_as format bytes) → IfOk r (λ o. NamesNoGrammar bytes → ran_of o ≡ ran bytes)
+ran_alike (Ok o) format bytes is = λ none. is ∙ same_ran format bytes none
+ran_alike (Err e) format bytes is = tt
 
 -- what ran tells what is written
 pub outputs : {E : Type 0} (r : Result Outcome E) (bytes : List ℕ) → IfOk r (λ o. ran_of o ≡ ran bytes) → IfOk r (λ o. output o ≡ replies bytes)

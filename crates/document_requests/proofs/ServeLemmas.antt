@@ -12,19 +12,20 @@ use Rattle.line_reader.specs.declared.reader.LineRead.TheVariants.{End, Whole, T
 use Rattle.line_reader.proofs.LineLemmas.{lines-nil}
 use Rattle.document_requests.specs.Device.{AppendsFront, NoneFailed}
 use Rattle.document_requests.specs.LineAnswers.{answer_line, answers, answers_to, max_line, ran_line}
-use Rattle.document_requests.specs.Output.{Ran, Rejected, ran}
+use Rattle.document_requests.specs.Output.{Ran, Rejected, ran_as}
 use Rattle.document_requests.specs.Serving.{ServesLine, StopsServing}
 use Rattle.document_requests.specs.declared.fault.Fault.{Fault}
 use Rattle.document_requests.specs.declared.fault.Fault.TheVariants.{Reading, Writing, Memory}
 use Rattle.document_requests.specs.declared.watched.Watched.{Watched}
 use Rattle.document_requests.specs.declared.reply.Refusal.TheVariants as refusals
+use Rattle.document_requests.specs.declared.request.Format.TheVariants as formats
 use Rattle.document_requests.proofs.KnownBytes.{both_appended, front_more, front_none, front_then}
 
 -- ---- one line
 
-pub whole-answer : (request line text : List ℕ) (r : Ran) → (length request ≤ max_line) × (line ≡ request) → r ≡ ran line → text ≡ answer_line r → text ≡ answer_line (ran_line request)
+pub whole-answer : (request line text : List ℕ) (r : Ran) → (length request ≤ max_line) × (line ≡ request) → r ≡ ran_as formats.Line line → text ≡ answer_line r → text ≡ answer_line (ran_line request)
 whole-answer request line text r handed is-run is =
-    rw (le-ltb max_line (length request) handed.0) (is ∙ ap answer_line (is-run ∙ ap ran handed.1))
+    rw (le-ltb max_line (length request) handed.0) (is ∙ ap answer_line (is-run ∙ ap (ran_as formats.Line) handed.1))
 
 pub long-answer : (request text : List ℕ) → max_line < length request → text ≡ answer_line (Rejected refusals.TooLong) → text ≡ answer_line (ran_line request)
 long-answer request text long is = rw (lt-ltb max_line (length request) long) is

@@ -18,4 +18,4 @@ command Tree = asked.Tree
 command Errors = asked.Errors
 
 abbrev pub request : Request → asked.Request
-request r = record { edition = r.edition; text = r.text.now; commands = map command r.commands.items }
+request r = record { grammar = r.grammar; edition = r.edition; text = r.text.now; commands = map command r.commands.items }

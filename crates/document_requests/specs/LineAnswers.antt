@@ -5,9 +5,10 @@ use Rattle.serde_json.specs.Data.{Data, string, array}
 use Rattle.serde_json.specs.View.{items_of}
 use Rattle.serde_json.specs.Written.{compact_text}
 use Rattle.line_reader.specs.Lines.{lines}
-use Rattle.document_requests.specs.Output.{Ran, Rejected, Completed, ran}
+use Rattle.document_requests.specs.Output.{Ran, Rejected, Completed, ran_as}
 use Rattle.document_requests.specs.Reply.{Reply, Refused, reply_data}
 use Rattle.document_requests.specs.declared.reply.Refusal.TheVariants as refusals
+use Rattle.document_requests.specs.declared.request.Format.TheVariants as formats
 
 -- the replies as a list
 abbrev pub replies_text : List Reply → List ℕ
@@ -24,9 +25,9 @@ answer_line (Completed replies text) =
 abbrev pub max_line : ℕ
 max_line = 2 ^ 26
 
--- A longer line is refused, whatever is in it.
+-- The result of a line: that of its request, read by the grammar that it names. A longer line is refused, whatever is in it.
 abbrev pub ran_line : List ℕ → Ran
-ran_line line = if nat_lt max_line (length line) then Rejected refusals.TooLong else ran line
+ran_line line = if nat_lt max_line (length line) then Rejected refusals.TooLong else ran_as formats.Line line
 
 -- the answers to the lines of an input, in order
 abbrev pub answers : List (List ℕ) → List ℕ

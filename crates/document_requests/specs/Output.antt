@@ -1,19 +1,21 @@
 -- What is written for a request, and the exit status.
-use Rattle.std.specs.Prelude.{ℕ, ◌&&◌, List, ◌++◌, length, nat_lt, Option, Some, None, if◌then◌else◌}
+use Rattle.std.specs.Prelude.{◌≡◌, ℕ, ◌&&◌, List, ◌++◌, length, nat_lt, Option, Some, None, codes, if◌then◌else◌}
 use Rattle.std.specs.Str.{is_utf8}
 use Rattle.serde_json.specs.Data.{Data}
+use Rattle.serde_json.specs.Find.{get}
 use Rattle.serde_json.specs.Read.{read}
 use Rattle.serde_json.specs.Written.{has_float}
 use Rattle.document_requests.specs.Floats.{writes_float}
 use Rattle.parser_input.specs.declared.edition.Edition.{Edition}
 use Rattle.ra_parser.specs.declared.grammar.Grammar.{Grammar}
-use Rattle.ra_parser.specs.declared.grammar.Grammar.TheVariants.{Profile}
 use Rattle.rust_document.specs.Step.{MAX_TEXT}
 use Rattle.document_requests.specs.Reply.{Reply, Refused, line, lines}
 use Rattle.document_requests.specs.Request.{Request, request_of}
 use Rattle.document_requests.specs.Session.{Session, Run, run}
 use Rattle.document_requests.specs.declared.reply.Refusal.{Refusal}
 use Rattle.document_requests.specs.declared.reply.Refusal.TheVariants as refusals
+use Rattle.document_requests.specs.declared.request.Format.{Format}
+use Rattle.document_requests.specs.declared.request.Format.TheVariants.{Single}
 
 pub record Output : Type 0 where
   pub written : List ℕ
@@ -40,7 +42,7 @@ first_session grammar edition text =
 abbrev pub served : Request → Ran
 served r =
     if nat_lt MAX_TEXT (length r.text) then Rejected refusals.TooLong
-    else ended (run r.commands (first_session Profile r.edition r.text))
+    else ended (run r.commands (first_session r.grammar r.edition r.text))
 
 -- a value that is a request
 abbrev pub served_if_any : Option Request → Ran
@@ -49,16 +51,24 @@ served_if_any (Some r) = served r
 
 -- A value that is written with a number with a point or an exponent is refused before its shape is examined. (`-0` and whole
 -- numbers past 64 bits are read as floats too; they are not whole numbers, and change nothing in a member that is not read.)
-abbrev pub of_value : List ℕ → Data → Ran
-of_value text d = if has_float d && writes_float text then Rejected refusals.Float else served_if_any (request_of d)
+abbrev pub of_value : Format → List ℕ → Data → Ran
+of_value format text d = if has_float d && writes_float text then Rejected refusals.Float else served_if_any (request_of format d)
 
-abbrev pub of_value_if_any : List ℕ → Option Data → Ran
-of_value_if_any text None = Rejected refusals.Request
-of_value_if_any text (Some d) = of_value text d
+abbrev pub of_value_if_any : Format → List ℕ → Option Data → Ran
+of_value_if_any format text None = Rejected refusals.Request
+of_value_if_any format text (Some d) = of_value format text d
 
--- the result of these bytes: they are to be UTF-8, JSON, and of a request's shape
+-- the result of these bytes: they are to be UTF-8, JSON, and of the shape of a request of this format
+abbrev pub ran_as : Format → List ℕ → Ran
+ran_as format bytes = if is_utf8 bytes then of_value_if_any format bytes (read bytes) else Rejected refusals.Request
+
+-- the result of bytes that are one request, read by the profile
 abbrev pub ran : List ℕ → Ran
-ran bytes = if is_utf8 bytes then of_value_if_any bytes (read bytes) else Rejected refusals.Request
+ran bytes = ran_as Single bytes
+
+-- These bytes are no JSON, or have no member with a grammar.
+abbrev pub NamesNoGrammar : List ℕ → Type 0
+NamesNoGrammar bytes = (d : Data) → read bytes ≡ Some d → get (codes "grammar") d ≡ None
 
 -- what is written for these bytes
 abbrev pub replies : List ℕ → Output

@@ -1,5 +1,5 @@
 -- The words of a request, and what each of them names.
-use Rattle.std.specs.Prelude.{ℕ, Bool, ◌&&◌, nat_le, List, Option, Some, None, codes, find, option_and_then, if◌then◌else◌}
+use Rattle.std.specs.Prelude.{ℕ, Bool, true, not, ◌&&◌, nat_le, List, Option, Some, None, codes, find, option_and_then, if◌then◌else◌}
 use Rattle.std.specs.Str.{bytes_eq}
 use Rattle.parser_input.specs.Kind.{name_of, raw_of}
 use Rattle.parser_input.specs.Kinds.{EXTERN_CRATE, UNDERSCORE_EXPR}
@@ -7,6 +7,8 @@ use Rattle.parser_input.specs.declared.edition.Edition.{Edition}
 use Rattle.parser_input.specs.declared.edition.Edition.TheVariants.{Edition2015, Edition2018, Edition2021, Edition2024, EditionNext}
 use Rattle.parser_input.specs.declared.syntax_kind.SyntaxKind.{SyntaxKind}
 use Rattle.parser_input.specs.KindTable.{all_kinds}
+use Rattle.ra_parser.specs.declared.grammar.Grammar.{Grammar}
+use Rattle.ra_parser.specs.declared.grammar.Grammar.TheVariants.{Profile, Whole}
 use Rattle.document_requests.specs.declared.request.Op.{Op}
 use Rattle.document_requests.specs.declared.request.Op.TheVariants.{Replace, Before, After}
 use Rattle.document_requests.specs.declared.request.Entry.{Entry}
@@ -19,6 +21,12 @@ edition_named word =
     else if bytes_eq word (codes "2021") then Some Edition2021
     else if bytes_eq word (codes "2024") then Some Edition2024
     else if bytes_eq word (codes "next") then Some EditionNext
+    else None
+
+abbrev pub grammar_named : List ℕ → Option Grammar
+grammar_named word =
+    if bytes_eq word (codes "profile") then Some Profile
+    else if bytes_eq word (codes "whole") then Some Whole
     else None
 
 abbrev pub op_named : List ℕ → Option Op
@@ -46,9 +54,14 @@ is_of_whole_language kind = nat_le EXTERN_CRATE kind && nat_le kind UNDERSCORE_E
 unfoldable pub any_kind_named : List ℕ → Option SyntaxKind
 any_kind_named word = find (λ kind. bytes_eq (name_of kind) word) all_kinds
 
-abbrev pub unless_of_whole_language : SyntaxKind → Option SyntaxKind
-unless_of_whole_language kind = if is_of_whole_language (raw_of kind) then None else Some kind
+-- a request that is read by this grammar may name this kind
+abbrev pub is_known : Grammar → ℕ → Bool
+is_known Profile kind = not (is_of_whole_language kind)
+is_known Whole kind = true
 
--- the kind of a name that a request may use: a kind of the profile
-abbrev pub kind_named : List ℕ → Option SyntaxKind
-kind_named word = option_and_then unless_of_whole_language (any_kind_named word)
+abbrev pub if_known : Grammar → SyntaxKind → Option SyntaxKind
+if_known grammar kind = if is_known grammar (raw_of kind) then Some kind else None
+
+-- the kind of a name that a request may use
+abbrev pub kind_named : Grammar → List ℕ → Option SyntaxKind
+kind_named grammar word = option_and_then (if_known grammar) (any_kind_named word)

@@ -25,7 +25,7 @@ pub mod watched;
 pub use fault::Fault;
 pub use reason::first_difference;
 pub use reply::{Refusal, Reply};
-pub use request::{Change, Command, Entry, Op, Request, Target};
+pub use request::{Change, Command, Entry, Format, Op, Request, Target};
 pub use request_lines::serve_lines;
 pub use rule::{CommitRule, answer_by};
 pub use shape::commands_of;

@@ -1,10 +1,23 @@
 //! What a request asks.
 use parser_input::edition::Edition;
 use parser_input::syntax_kind::SyntaxKind;
+use ra_parser::Grammar;
 
-/// A text in an edition, and what is done to it.
+/// The format of a request: which members it has.
+#[derive(Clone, Copy, Debug, PartialEq, Eq)]
+pub enum Format {
+    /// A request that is all of the input. It is read by the profile: a member `grammar` is ignored,
+    /// as any other that it does not have.
+    Single,
+    /// A request on a line of its own. Its member `grammar` names the grammar; without it the grammar
+    /// is the profile.
+    Line,
+}
+
+/// A text in an edition, read by a grammar, and what is done to it.
 #[derive(Drop)]
 pub struct Request<'a> {
+    pub grammar: Grammar,
     pub edition: Edition,
     pub text: &'a str,
     pub commands: Vec<Command<'a>>,

@@ -12,7 +12,8 @@ use crate::answer_line::{answer_line, rejected_line};
 use crate::device::write_all;
 use crate::fault::Fault;
 use crate::reply::Refusal;
-use crate::serve::serve_bytes;
+use crate::request::Format;
+use crate::serve::serve_as;
 use crate::watched::Watched;
 use line_reader::{LineRead, LineReader};
 use std::alloc::{AllocError, Global};
@@ -32,7 +33,7 @@ fn line_answer(alloc: Global, read: LineRead, line: &[u8]) -> Result<Option<Stri
     match read {
         LineRead::End => Ok(None),
         LineRead::Whole => {
-            let outcome = serve_bytes(alloc, line)?;
+            let outcome = serve_as(alloc, Format::Line, line)?;
             Ok(Some(answer_line(alloc, &outcome)?))
         }
         LineRead::TooLong => Ok(Some(rejected_line(alloc, Refusal::TooLong)?)),
@@ -68,7 +69,8 @@ fn serve_line<R: Read, W: Write>(
     Ok(true)
 }
 
-/// Answers the requests that stand on a line each, in order, with a line of JSON each.
+/// Answers the requests that stand on a line each, in order, with a line of JSON each. A request is read
+/// by the grammar that its member `grammar` names, `profile` or `whole`; without it by the profile.
 ///
 /// A line that is no request, and one of more than 67,108,864 bytes, is answered by its refusal, and
 /// the next one is read. A line past the limit is not kept in memory.

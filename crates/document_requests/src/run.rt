@@ -46,7 +46,8 @@ fn write_outcome<W: Write>(
 }
 
 /// Reads a request to its end, and answers it: a line for each command and then the text as it is,
-/// with status 0; or one line where the request is not run, with status 1.
+/// with status 0; or one line where the request is not run, with status 1. The request is read by the
+/// profile.
 ///
 /// Stops at the first call of a device that fails, or after 67,108,864 reads that did not reach the
 /// end. What was written then is a front of the answer; where reading failed, nothing. Nothing is

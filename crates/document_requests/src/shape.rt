@@ -3,13 +3,14 @@ ghost use Rattle.std.specs.Prelude.{◌≡◌, map, option_and_then, option_map,
 ghost use Rattle.serde_json.specs.Find.{as_array, as_str};
 ghost use Rattle.serde_json.specs.View.{view, items_view};
 ghost use Rattle.parser_input.specs.Kind.{raw_of};
-ghost use Rattle.document_requests.specs.Words.{edition_named, op_named, entry_named, is_of_whole_language, kind_named};
-ghost use Rattle.document_requests.specs.Request.{whole_number, target_in, payload_in, put_named, change_of, all_in, edit_of, commit_of, command_of, request_of};
+ghost use Rattle.document_requests.specs.Words.{edition_named, grammar_named, op_named, entry_named, is_known, is_of_whole_language, kind_named};
+ghost use Rattle.document_requests.specs.Request.{whole_number, target_in, payload_in, put_named, change_of, all_in, edit_of, commit_of, command_by, command_of, grammar_in, grammar_of, request_by, request_of};
 ghost use Rattle.document_requests.specs.Asked.{change, command, request};
 
-use crate::request::{Change, Command, Entry, Op, Request, Target};
+use crate::request::{Change, Command, Entry, Format, Op, Request, Target};
 use parser_input::edition::Edition;
 use parser_input::syntax_kind::SyntaxKind;
+use ra_parser::Grammar;
 use serde_json::Value;
 use std::alloc::{AllocError, Global};
 
@@ -27,6 +28,16 @@ fn edition_named(word: &str) -> Option<Edition>
         "2021" => Some(Edition::Edition2021),
         "2024" => Some(Edition::Edition2024),
         "next" => Some(Edition::EditionNext),
+        _ => None,
+    }
+}
+
+fn grammar_named(word: &str) -> Option<Grammar>
+    ensures { result ≡ grammar_named word.now }
+{
+    match word {
+        "profile" => Some(Grammar::Profile),
+        "whole" => Some(Grammar::Whole),
         _ => None,
     }
 }
@@ -56,8 +67,7 @@ fn entry_named(word: &str) -> Option<Entry>
     }
 }
 
-// Returns `true` for a kind that only the grammar of the whole language makes. Requests are read by
-// the profile, so they know none of these kinds.
+// Returns `true` for a kind that only the grammar of the whole language makes.
 fn is_of_whole_language(kind: SyntaxKind) -> bool
     ensures { result ≡ is_of_whole_language (raw_of kind) }
 {
@@ -65,24 +75,34 @@ fn is_of_whole_language(kind: SyntaxKind) -> bool
     FIRST_OF_WHOLE <= raw && raw <= LAST_OF_WHOLE
 }
 
-// Returns the kind of a name that a request may use.
-fn kind_named(word: &str) -> Option<SyntaxKind>
-    ensures { result ≡ kind_named word.now }
+// Returns `true` if a request that is read by `grammar` may name `kind`.
+fn is_known(grammar: Grammar, kind: SyntaxKind) -> bool
+    ensures { result ≡ is_known grammar (raw_of kind) }
 {
-    let kind = SyntaxKind::from_name(word)?;
-    if is_of_whole_language(kind) {
-        return None;
+    match grammar {
+        Grammar::Profile => !is_of_whole_language(kind),
+        Grammar::Whole => true,
     }
-    Some(kind)
 }
 
-fn target_in(values: &[Value]) -> Option<Target>
-    ensures { result ≡ target_in (items_view values.now) }
+// Returns the kind of a name that a request may use.
+fn kind_named(grammar: Grammar, word: &str) -> Option<SyntaxKind>
+    ensures { result ≡ kind_named grammar word.now }
+{
+    let kind = SyntaxKind::from_name(word)?;
+    if is_known(grammar, kind) {
+        return Some(kind);
+    }
+    None
+}
+
+fn target_in(grammar: Grammar, values: &[Value]) -> Option<Target>
+    ensures { result ≡ target_in grammar (items_view values.now) }
 {
     let [kind, start, stop] = values else {
         return None;
     };
-    let kind = kind_named(kind.as_str()?)?;
+    let kind = kind_named(grammar, kind.as_str()?)?;
     let start = start.as_u64()?;
     let stop = stop.as_u64()?;
     Some(Target { kind, start, stop })
@@ -112,24 +132,28 @@ fn put_of<'a>(word: &str, target: Target, value: &'a Value) -> Option<Change<'a>
     })
 }
 
-fn change_of(value: &Value) -> Option<Change<'_>>
-    ensures { option_map change result ≡ change_of (view value.now) }
+fn change_of(grammar: Grammar, value: &Value) -> Option<Change<'_>>
+    ensures { option_map change result ≡ change_of grammar (view value.now) }
 {
     let word = value.get("op")?.as_str()?;
-    let target = target_in(value.get("at")?.as_array()?)?;
+    let target = target_in(grammar, value.get("at")?.as_array()?)?;
     match word {
         "delete" => Some(Change::Delete { target }),
         _ => put_of(word, target, value),
     }
 }
 
-fn changes_in(alloc: Global, values: &[Value]) -> Result<Option<Vec<Change<'_>>>, AllocError>
+fn changes_in(
+    alloc: Global,
+    grammar: Grammar,
+    values: &[Value],
+) -> Result<Option<Vec<Change<'_>>>, AllocError>
     ensures { IfOk result (λ found. option_map (λ changes. map change changes.items) found
-        ≡ all_in change_of (items_view values.now)) }
+        ≡ all_in (change_of grammar) (items_view values.now)) }
 {
     let mut changes = Vec::with_capacity(alloc, values.len())?;
     for value in values {
-        let Some(change) = change_of(value) else {
+        let Some(change) = change_of(grammar, value) else {
             return Ok(None);
         };
         changes.push(change)?;
@@ -146,40 +170,52 @@ fn edit_of(value: &Value) -> Option<Command<'_>>
     Some(Command::Edit { start, stop, text })
 }
 
-fn commit_of(alloc: Global, value: &Value) -> Result<Option<Command<'_>>, AllocError>
-    ensures { IfOk result (λ found. option_map command found ≡ commit_of (view value.now)) }
+fn commit_of(
+    alloc: Global,
+    grammar: Grammar,
+    value: &Value,
+) -> Result<Option<Command<'_>>, AllocError>
+    ensures { IfOk result (λ found. option_map command found ≡ commit_of grammar (view value.now)) }
 {
     let Some(values) = value.get("changes").and_then(Value::as_array) else {
         return Ok(None);
     };
-    match changes_in(alloc, values)? {
+    match changes_in(alloc, grammar, values)? {
         Some(changes) => Ok(Some(Command::Commit { changes })),
         None => Ok(None),
     }
 }
 
-fn command_of(alloc: Global, value: &Value) -> Result<Option<Command<'_>>, AllocError>
-    ensures { IfOk result (λ found. option_map command found ≡ command_of (view value.now)) }
+fn command_by(
+    alloc: Global,
+    grammar: Grammar,
+    value: &Value,
+) -> Result<Option<Command<'_>>, AllocError>
+    ensures { IfOk result (λ found. option_map command found ≡ command_by grammar (view value.now)) }
 {
     let Some(word) = value.get("do").and_then(Value::as_str) else {
         return Ok(None);
     };
     match word {
         "edit" => Ok(edit_of(value)),
-        "commit" => commit_of(alloc, value),
+        "commit" => commit_of(alloc, grammar, value),
         "tree" => Ok(Some(Command::Tree)),
         "errors" => Ok(Some(Command::Errors)),
         _ => Ok(None),
     }
 }
 
-fn commands_in(alloc: Global, values: &[Value]) -> Result<Option<Vec<Command<'_>>>, AllocError>
+fn commands_in(
+    alloc: Global,
+    grammar: Grammar,
+    values: &[Value],
+) -> Result<Option<Vec<Command<'_>>>, AllocError>
     ensures { IfOk result (λ found. option_map (λ commands. map command commands.items) found
-        ≡ all_in command_of (items_view values.now)) }
+        ≡ all_in (command_by grammar) (items_view values.now)) }
 {
     let mut commands = Vec::with_capacity(alloc, values.len())?;
     for value in values {
-        let Some(command) = command_of(alloc, value)? else {
+        let Some(command) = command_by(alloc, grammar, value)? else {
             return Ok(None);
         };
         commands.push(command)?;
@@ -187,20 +223,45 @@ fn commands_in(alloc: Global, values: &[Value]) -> Result<Option<Vec<Command<'_>
     Ok(Some(commands))
 }
 
-/// Returns the commands that a value is a list of; `None` if it is no list of commands.
+/// Returns the commands on a document of the profile that a value is a list of; `None` if it is no list
+/// of such commands.
 pub fn commands_of(alloc: Global, value: &Value) -> Result<Option<Vec<Command<'_>>>, AllocError>
     ensures { IfOk result (λ found. option_map (λ commands. map command commands.items) found
         ≡ option_and_then (all_in command_of) (as_array (view value.now))) }
 {
     match value.as_array() {
-        Some(values) => commands_in(alloc, values),
+        Some(values) => commands_in(alloc, Grammar::Profile, values),
         None => Ok(None),
     }
 }
 
-/// Returns the request that `value` holds, if it holds one. Further members are ignored.
-pub fn request_of(alloc: Global, value: &Value) -> Result<Option<Request<'_>>, AllocError>
-    ensures { IfOk result (λ found. option_map request found ≡ request_of (view value.now)) }
+/// Returns the grammar that the value of a member names; the profile if there is no member.
+fn grammar_in(member: Option<&Value>) -> Option<Grammar>
+    ensures { result ≡ grammar_in (option_map (λ value. view value.now) member.entry) }
+{
+    match member {
+        None => Some(Grammar::Profile),
+        Some(value) => grammar_named(value.as_str()?),
+    }
+}
+
+/// Returns the grammar that a request is read by.
+fn grammar_of(format: Format, value: &Value) -> Option<Grammar>
+    ensures { result ≡ grammar_of format (view value.now) }
+{
+    match format {
+        Format::Single => Some(Grammar::Profile),
+        Format::Line => grammar_in(value.get("grammar")),
+    }
+}
+
+/// Returns the request that `value` holds, if it holds one that is read by `grammar`.
+fn request_by(
+    alloc: Global,
+    grammar: Grammar,
+    value: &Value,
+) -> Result<Option<Request<'_>>, AllocError>
+    ensures { IfOk result (λ found. option_map request found ≡ request_by grammar (view value.now)) }
 {
     let word = value.get("edition").and_then(Value::as_str);
     let Some(edition) = word.and_then(edition_named) else {
@@ -212,12 +273,27 @@ pub fn request_of(alloc: Global, value: &Value) -> Result<Option<Request<'_>>, A
     let Some(values) = value.get("commands").and_then(Value::as_array) else {
         return Ok(None);
     };
-    match commands_in(alloc, values)? {
+    match commands_in(alloc, grammar, values)? {
         Some(commands) => Ok(Some(Request {
+            grammar,
             edition,
             text,
             commands,
         })),
+        None => Ok(None),
+    }
+}
+
+/// Returns the request of a format that `value` holds, if it holds one. Further members are ignored.
+pub fn request_of(
+    alloc: Global,
+    format: Format,
+    value: &Value,
+) -> Result<Option<Request<'_>>, AllocError>
+    ensures { IfOk result (λ found. option_map request found ≡ request_of format (view value.now)) }
+{
+    match grammar_of(format, value) {
+        Some(grammar) => request_by(alloc, grammar, value),
         None => Ok(None),
     }
 }

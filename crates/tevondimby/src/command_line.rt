@@ -10,7 +10,7 @@ const AFTER: &str = "\
 A FILE is a path, `-` for standard input, or a directory for the `.rs` files in it, in order of name; \
 links in it are not followed. A file's edition is that of `--edition`, or else of the nearest \
 `Cargo.toml`, or else 2021. Its grammar is the whole language, or with `--grammar profile` the part \
-of it that requests are read by.
+of it that a request is read by if it names no grammar.
 
 The exit status is 0, or 1 if `check` prints messages, or 2 after a fault: a file that cannot be read \
 is named on standard error, and the others are still read.";
@@ -41,6 +41,9 @@ A line of at most 67,108,864 bytes, its line feed not counted, is answered as th
 answers these bytes: one that is no request with status 1, its refusal and no text. A longer line is \
 answered so too, with the refusal `TooLong`, whatever is in it. Then the next line is read. A text \
 that is longer than this in JSON, by its escapes, can be sent to the request program alone.
+
+A line with the member `\"grammar\": \"whole\"` is read by the whole language; one with `\"profile\"`, or \
+without the member, is read by the profile, as by the request program, which ignores the member.
 
 The exit status is 0 at the end of the input, or 2 if reading, writing or memory fails.";
 

@@ -7,4 +7,4 @@ use Rattle.document_requests.proofs.shape.changes_in.Given as goal
 
 -- the changes so far and those in what is left are all of them
 abbrev pub invariant-loop-value : goal.invariant-loop-value
-invariant-loop-value l = option_map (λ changes. map change l.changes.items ++ changes) (all_in change_of (items_view (drop l.value-index l.values))) ≡ all_in change_of (items_view l.values)
+invariant-loop-value l = option_map (λ changes. map change l.changes.items ++ changes) (all_in (change_of l.grammar) (items_view (drop l.value-index l.values))) ≡ all_in (change_of l.grammar) (items_view l.values)

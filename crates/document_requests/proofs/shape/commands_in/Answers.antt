@@ -1,19 +1,19 @@
 use Rattle.std.proofs.Common.{arith, sym, ap, ◌∙◌}
 use Rattle.std.specs.Prelude.{option_map}
 use Rattle.document_requests.specs.Asked.{command}
-use Rattle.document_requests.specs.Request.{command_of}
+use Rattle.document_requests.specs.Request.{command_by}
 use Rattle.document_requests.proofs.Walks.{found_next, found_none, found_all}
 use Rattle.document_requests.proofs.shape.commands_in.Goals as goal
 
 pub loop-value-preserved : goal.loop-value-preserved
 loop-value-preserved c =
     let found = sym c.in_ok-command.ensures ∙ ap (option_map command) c.in-Some.is in
-    found_next command_of command c.args.values.now c.loop-value.value-index c.value-item.result c.loop-value.commands.items c.push.new.self.items c.in-Some.command _ (omega arith) c.value-item.is found c.in_ok-push.ensures.items c.loop-value.invariant
+    found_next (command_by c.args.grammar) command c.args.values.now c.loop-value.value-index c.value-item.result c.loop-value.commands.items c.push.new.self.items c.in-Some.command _ (omega arith) c.value-item.is found c.in_ok-push.ensures.items c.loop-value.invariant
 
 pub returns-in_default : goal.returns-in_default
 returns-in_default c =
     let none = sym c.in_ok-command.ensures ∙ ap (option_map command) c.in_default.is in
-    found_none command_of command c.args.values.now c.loop-value.value-index c.value-item.result _ _ (omega arith) c.value-item.is none c.loop-value.invariant
+    found_none (command_by c.args.grammar) command c.args.values.now c.loop-value.value-index c.value-item.result _ _ (omega arith) c.value-item.is none c.loop-value.invariant
 
 pub returns : goal.returns
-returns c = found_all command_of command c.args.values.now c.loop-value.value-index _ _ (omega arith) c.loop-value.invariant
+returns c = found_all (command_by c.args.grammar) command c.args.values.now c.loop-value.value-index _ _ (omega arith) c.loop-value.invariant

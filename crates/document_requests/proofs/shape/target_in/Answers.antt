@@ -3,10 +3,10 @@ use Rattle.document_requests.proofs.Shapes.{three_items, target_short, target_lo
 use Rattle.document_requests.proofs.shape.target_in.Goals as goal
 
 pub returns-in_default : goal.returns-in_default
-returns-in_default c = target_short _ c.in_default.len_below
+returns-in_default c = target_short c.args.grammar _ c.in_default.len_below
 
 pub returns-in_default-2 : goal.returns-in_default-2
-returns-in_default-2 c = target_long _ c.in_default.len_at_least
+returns-in_default-2 c = target_long c.args.grammar _ c.in_default.len_at_least
 
 pub returns : goal.returns
 returns c =
