@@ -22,6 +22,7 @@ The children of each node, by the table of the grammar (`crates/rust_grammar/spe
 | `'let'` | a token; `IDENT`, `INT_NUMBER` and the like are tokens by their kind |
 | `NODE( a b )` | a node with these children |
 | `NODE( … a b )` | a node around all that the production has read so far, and these |
+| `lead( a )` | what `a` reads, one node, in which all that the production has read so far stands first |
 | `a \\| b` | the first of these that can begin there |
 | `a?`, `a*`, `a+` | at most once, any number of times, at least once |
 | `Name` | what the production `name` reads; its line begins with `Name` |
@@ -36,7 +37,7 @@ CLASSES = {"ident": "IDENT", "int": "INT_NUMBER", "float": "FLOAT_NUMBER", "char
 TOKEN = re.compile(r"\s*(<⟨|[⟨⟩⁅⁆▸▹()*⁺!∷]|\[\]|'[^'\s]+'|[^\s⟨⟩⁅⁆▸▹()∷!⁺*]+)")
 INFIX = {"before", "before_any", "not_before", "∷"}
 # Heads whose first argument is a look, and heads that change no child.
-LOOKS, SAME = {"When", "Unless"}, {"off", "on", "lead", "more", "op", "Call", "One", "Want"}
+LOOKS, SAME = {"When", "Unless"}, {"off", "on", "more", "op", "Call", "One", "Want"}
 # The names by which rules call the productions.
 CALLS = {}
 
@@ -140,6 +141,8 @@ def call_shown(name, arguments):
         return shown(arguments[1])
     if name in SAME:
         return shown(arguments[0])
+    if name == "lead":
+        return f"lead( {shown(arguments[0])} )"
     if name in ("Skip", "Say"):
         return "ERROR" if name == "Skip" else ""
     if name == "separator":

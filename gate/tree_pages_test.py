@@ -19,6 +19,7 @@ class Pages(unittest.TestCase):
             ("A ⟨ (One ',' ▸ B) ⁺ ⟩ or When ('#' before '!') C", "A( (',' B)+ ) | C"),
             ("LITERAL ⟨ One 'int' or One 'true' ⟩", "LITERAL( INT_NUMBER | 'true' )"),
             ("(One 'a' or One 'b') ▸ more postfix", "('a' | 'b') Postfix"),
+            ("lead Prefixed or ERROR <⟨ Say ExpectedExpression ⟩", "lead( Prefixed ) | ERROR( … )"),
             ("listed PARAM_LIST 'l_paren' Param 'r_paren'", "'(' list( Param ) ')'"),
         ]:
             self.assertEqual(shown(rule), text)

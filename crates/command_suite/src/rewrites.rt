@@ -5,6 +5,7 @@ use anyhow::bail;
 use document_requests::CommitRule;
 use file_target::{Memory, Target};
 use memory_table::row::{Ask, Row};
+use rust_document::Grammar;
 use serde_json::Value;
 use source_rewrites::{
     FileCommands, Rewrite, RewriteFault, commands_of_files, plan_rewrites, rewrite_files,
@@ -43,7 +44,7 @@ fn rewrites(alloc: Global, files: Vec<FileCommands<'_>>) -> anyhow::Result<Vec<R
 /// Rewrites the files.
 pub(crate) fn rewrite<T: Target>(alloc: Global, target: &mut T) -> anyhow::Result<Outcome> {
     let value = Value::from_str(alloc, COMMANDS)?;
-    let Some(files) = commands_of_files(alloc, &value)? else {
+    let Some(files) = commands_of_files(alloc, Grammar::Whole, &value)? else {
         bail!("no commands");
     };
     let rewrites = rewrites(alloc, files)?;
@@ -57,7 +58,7 @@ fn reason(alloc: Global) -> anyhow::Result<String> {
     let mut memory = Memory::new(alloc);
     memory.add(alloc, "a.rs", b"fn f() { a * 2 }")?;
     let value = Value::from_str(alloc, UNFAITHFUL)?;
-    let Some(files) = commands_of_files(alloc, &value)? else {
+    let Some(files) = commands_of_files(alloc, Grammar::Whole, &value)? else {
         bail!("no commands");
     };
     let rewrites = rewrites(alloc, files)?;

@@ -10,51 +10,51 @@ use Rattle.core_language.proofs.Postfix.{ArgumentsRead, ReadsExpression, ReadsHi
 use Rattle.core_language.proofs.Tails.{ReadsPiped, ReadsWhole, expression-reads, piped-operand, piped-turn, whole-assign, whole-piped}
 
 -- all that is known of one expression
-pub record Known (e : Expression) : Type 0 where
-  pub high : 15 ≤ level e → ReadsHigh e
-  pub prefixed : 14 ≤ level e → ReadsPrefixed e
-  pub loop : (d : ℕ) → d ≤ 8 → 12 ≤ level e + d → LoopAt d e
-  pub layer : (d : ℕ) → d ≤ 9 → 13 ≤ level e + d → ReadsAt d e
-  pub piped : 2 ≤ level e → ReadsPiped e
-  pub whole : ReadsWhole e
+pub record Known (flag : Bool) (e : Expression) : Type 0 where
+  pub high : 15 ≤ level e → ReadsHigh flag e
+  pub prefixed : 14 ≤ level e → ReadsPrefixed flag e
+  pub loop : (d : ℕ) → d ≤ 8 → 12 ≤ level e + d → LoopAt flag d e
+  pub layer : (d : ℕ) → d ≤ 9 → 13 ≤ level e + d → ReadsAt flag d e
+  pub piped : 2 ≤ level e → ReadsPiped flag e
+  pub whole : ReadsWhole flag e
 
 -- an expression of a higher binding power than every binary operator
-from-prefixed : (e : Expression) → 14 ≤ level e → (15 ≤ level e → ReadsHigh e) → ReadsPrefixed e → Known e
-from-prefixed e h high p =
-    let at_any : (d : ℕ) → d ≤ 9 → ReadsAt d e = λ d k. climb e 0 d (omega arith) k (reads-cast e p) in
+from-prefixed : (flag : Bool) (e : Expression) → 14 ≤ level e → (15 ≤ level e → ReadsHigh flag e) → ReadsPrefixed flag e → Known flag e
+from-prefixed flag e h high p =
+    let at_any : (d : ℕ) → d ≤ 9 → ReadsAt flag d e = λ d k. climb flag e 0 d (omega arith) k (reads-cast flag e p) in
     record {
       high = high;
       prefixed = λ i. p;
-      loop = λ d i k. loop-of d i e (at_any d (omega arith));
+      loop = λ d i k. loop-of flag d i e (at_any d (omega arith));
       layer = λ d i k. at_any d i;
-      piped = λ i. piped-operand e (at_any 9 (omega arith));
-      whole = whole-piped e (piped-operand e (at_any 9 (omega arith)));
+      piped = λ i. piped-operand flag e (at_any 9 (omega arith));
+      whole = whole-piped flag e (piped-operand flag e (at_any 9 (omega arith)));
     }
 
-from-high : (e : Expression) → IsWellFormed e → 15 ≤ level e → ReadsHigh e → Known e
-from-high e i h r = from-prefixed e (omega arith) (λ k. r) (prefixed-high e i h r)
+from-high : (flag : Bool) (e : Expression) → IsWellFormed e → 15 ≤ level e → ReadsHigh flag e → Known flag e
+from-high flag e i h r = from-prefixed flag e (omega arith) (λ k. r) (prefixed-high flag e i h r)
 
 -- a binary expression, whose own layer is suc u
-from-binary : (e : Expression) (u : ℕ) → u ≤ 8 → u + level e ≡ 12 → LoopAt u e → Known e
-from-binary e u h same own =
-    let at_any : (d : ℕ) → suc u ≤ d → d ≤ 9 → ReadsAt d e = λ d i k. climb e (suc u) d i k (loop-ends u e own) in
+from-binary : (flag : Bool) (e : Expression) (u : ℕ) → u ≤ 8 → u + level e ≡ 12 → LoopAt flag u e → Known flag e
+from-binary flag e u h same own =
+    let at_any : (d : ℕ) → suc u ≤ d → d ≤ 9 → ReadsAt flag d e = λ d i k. climb flag e (suc u) d i k (loop-ends flag u e own) in
     record {
       high = λ i. absurd (omega arith);
       prefixed = λ i. absurd (omega arith);
       loop = λ d i k. elim (eq-or-lt_of_le (own_first d k)) [
-        | inl s ↦ subst (λ (n : ℕ). LoopAt n e) s own
-        | inr s ↦ loop-of d i e (at_any d s (omega arith))
+        | inl s ↦ subst (λ (n : ℕ). LoopAt flag n e) s own
+        | inr s ↦ loop-of flag d i e (at_any d s (omega arith))
       ];
       layer = λ d i k. at_any d (omega arith) i;
-      piped = λ i. piped-operand e (at_any 9 (omega arith) (omega arith));
-      whole = whole-piped e (piped-operand e (at_any 9 (omega arith) (omega arith)));
+      piped = λ i. piped-operand flag e (at_any 9 (omega arith) (omega arith));
+      whole = whole-piped flag e (piped-operand flag e (at_any 9 (omega arith) (omega arith)));
     }
   where
     own_first : (d : ℕ) → 12 ≤ level e + d → u ≤ d
     own_first d k = omega arith
 
-from-assign : (e : Expression) → level e ≡ 1 → ReadsWhole e → Known e
-from-assign e one w = record {
+from-assign : (flag : Bool) (e : Expression) → level e ≡ 1 → ReadsWhole flag e → Known flag e
+from-assign flag e one w = record {
   high = λ i. absurd (omega arith);
   prefixed = λ i. absurd (omega arith);
   loop = λ d i k. absurd (omega arith);
@@ -63,18 +63,18 @@ from-assign e one w = record {
   whole = w;
 }
 
-from-pipe : (e : Expression) → level e ≡ 2 → ReadsPiped e → Known e
-from-pipe e two p = record {
+from-pipe : (flag : Bool) (e : Expression) → level e ≡ 2 → ReadsPiped flag e → Known flag e
+from-pipe flag e two p = record {
   high = λ i. absurd (omega arith);
   prefixed = λ i. absurd (omega arith);
   loop = λ d i k. absurd (omega arith);
   layer = λ d i k. absurd (omega arith);
   piped = λ i. p;
-  whole = whole-piped e p;
+  whole = whole-piped flag e p;
 }
 
-expression-of : (e : Expression) → Known e → ReadsExpression e
-expression-of e k more c = expression-reads e more (k.whole more c)
+expression-of : (flag : Bool) (e : Expression) → Known flag e → ReadsExpression flag e
+expression-of flag e k more c = expression-reads flag e more (k.whole more c)
 
 -- no operator has the power 3, that of ranges, so an expression that binds tighter than `|>` is an operand of the highest layer
 above-power : (o : Operator) → 2 < power o → 4 ≤ power o
@@ -120,36 +120,36 @@ reach-low : (o : Operator) → under o ≤ 8 → under o ≤ 9
 reach-low o h = omega arith
 
 -- a binary expression, from its operands
-binary-known : (l : Expression) (o : Operator) (j : Bool) (r : Expression) → IsWellFormed (Binary l o j r) → Known l → Known r → Known (Binary l o j r)
-binary-known l o j r i left right = elim (place o) [
-  | inl e ↦ subst (λ (p : Operator). IsWellFormed (Binary l p j r) → Known (Binary l p j r)) (sym e)
-      (λ k. from-pipe (Binary l Pipe j r) refl (piped-turn l j r (left.piped k.2) (right.layer 9 (omega arith) (above-pipe r k.3)))) i
+binary-known : (flag : Bool) (l : Expression) (o : Operator) (j : Bool) (r : Expression) → IsWellFormed (Binary l o j r) → Known flag l → Known flag r → Known flag (Binary l o j r)
+binary-known flag l o j r i left right = elim (place o) [
+  | inl e ↦ subst (λ (p : Operator). IsWellFormed (Binary l p j r) → Known flag (Binary l p j r)) (sym e)
+      (λ k. from-pipe flag (Binary l Pipe j r) refl (piped-turn flag l j r (left.piped k.2) (right.layer 9 (omega arith) (above-pipe r k.3)))) i
   | inr e ↦
-      from-binary (Binary l o j r) (under o) e.1 e.0
-      (binary-loop l o j r e.1 i.4 (left.loop (under o) e.1 (reach-left l o e.0 i.2)) (right.layer (under o) (reach-low o e.1) (reach-right r o e.0 i.3)))
+      from-binary flag (Binary l o j r) (under o) e.1 e.0
+      (binary-loop flag l o j r e.1 i.4 (left.loop (under o) e.1 (reach-left l o e.0 i.2)) (right.layer (under o) (reach-low o e.1) (reach-right r o e.0 i.3)))
 ]
 
 mutual
-  pub known : (e : Expression) → IsWellFormed e → Known e
-  known (Literal l j) i = from-high (Literal l j) i (omega arith) (high-atom (Literal l j) (λ more c. literal-atom l j more))
-  known (Named p) i = from-high (Named p) i (omega arith) (high-atom (Named p) (λ more c. path-atom p more c))
-  known (Parenthesized j e k) i =
-      let w = known e i in
-      from-high (Parenthesized j e k) i (omega arith) (high-atom (Parenthesized j e k) (λ more c. paren-atom j e k more (expression-of e w _ (closed-paren k more))))
-  known (FunctionCall e j es k) i = from-high (FunctionCall e j es k) i (omega arith) (high-call e j es k ((known e i.0).high i.1) i.2 (all-known es i.3))
-  known (MethodCall e d n j es k) i = from-high (MethodCall e d n j es k) i (omega arith) (high-method e d n j es k ((known e i.0).high i.1) (all-known es i.2))
-  known (FieldAccess e d n) i = from-high (FieldAccess e d n) i (omega arith) (high-field e d n ((known e i.0).high i.1))
-  known (Prefixed s j e) i = from-prefixed (Prefixed s j e) (omega arith) (λ h. absurd (omega arith)) (prefixed-sign s j e ((known e i.0).prefixed i.1))
-  known (Borrow j m e) i = from-prefixed (Borrow j m e) (omega arith) (λ h. absurd (omega arith)) (prefixed-borrow j m e ((known e i.0).prefixed i.1))
-  known (Binary l o j r) i = binary-known l o j r i (known l i.0) (known r i.1)
-  known (Assignment l o j r) i =
-      from-assign (Assignment l o j r) refl (whole-assign l o j r ((known l i.0).piped i.2) ((known r i.1).whole))
+  pub known : (flag : Bool) (e : Expression) → IsWellFormed e → Known flag e
+  known flag (Literal l j) i = from-high flag (Literal l j) i (omega arith) (high-atom flag (Literal l j) (λ more c. literal-atom flag l j more))
+  known flag (Named p) i = from-high flag (Named p) i (omega arith) (high-atom flag (Named p) (λ more c. path-atom flag p more c))
+  known flag (Parenthesized j e k) i =
+      let w = known flag e i in
+      from-high flag (Parenthesized j e k) i (omega arith) (high-atom flag (Parenthesized j e k) (λ more c. paren-atom flag j e k more (expression-of flag e w _ (closed-paren flag k more))))
+  known flag (FunctionCall e j es k) i = from-high flag (FunctionCall e j es k) i (omega arith) (high-call flag e j es k ((known flag e i.0).high i.1) i.2 (all-known flag es i.3))
+  known flag (MethodCall e d n j es k) i = from-high flag (MethodCall e d n j es k) i (omega arith) (high-method flag e d n j es k ((known flag e i.0).high i.1) (all-known flag es i.2))
+  known flag (FieldAccess e d n) i = from-high flag (FieldAccess e d n) i (omega arith) (high-field flag e d n ((known flag e i.0).high i.1))
+  known flag (Prefixed s j e) i = from-prefixed flag (Prefixed s j e) (omega arith) (λ h. absurd (omega arith)) (prefixed-sign flag s j e ((known flag e i.0).prefixed i.1))
+  known flag (Borrow j m e) i = from-prefixed flag (Borrow j m e) (omega arith) (λ h. absurd (omega arith)) (prefixed-borrow flag j m e ((known flag e i.0).prefixed i.1))
+  known flag (Binary l o j r) i = binary-known flag l o j r i (known flag l i.0) (known flag r i.1)
+  known flag (Assignment l o j r) i =
+      from-assign flag (Assignment l o j r) refl (whole-assign flag l o j r ((known flag l i.0).piped i.2) ((known flag r i.1).whole))
 
-  pub all-known : (es : Arguments) → AreWellFormed es → ArgumentsRead es
-  all-known NoArgument i = no-argument-read
-  all-known (LastArgument e) i = last-argument-read e (expression-of e (known e i))
-  all-known (ArgumentComma e j es) i = argument-comma-read e j es (expression-of e (known e i.0)) (all-known es i.1)
+  pub all-known : (flag : Bool) (es : Arguments) → AreWellFormed es → ArgumentsRead flag es
+  all-known flag NoArgument i = no-argument-read flag
+  all-known flag (LastArgument e) i = last-argument-read flag e (expression-of flag e (known flag e i))
+  all-known flag (ArgumentComma e j es) i = argument-comma-read flag e j es (expression-of flag e (known flag e i.0)) (all-known flag es i.1)
 
 -- A core expression is read, as an expression, where nothing goes on with it.
-pub core-expression-reads : (e : Expression) → IsWellFormed e → ReadsExpression e
-core-expression-reads e i = expression-of e (known e i)
+pub core-expression-reads : (flag : Bool) (e : Expression) → IsWellFormed e → ReadsExpression flag e
+core-expression-reads flag e i = expression-of flag e (known flag e i)

@@ -1,3 +1,5 @@
+pub mod Flagged
+pub mod Plain
 pub mod Rules
 pub mod Paths
 pub mod Types
@@ -9,6 +11,8 @@ pub mod Tails
 pub mod Atoms
 pub mod Postfix
 pub mod Expressions
+pub mod LongPaths
+pub mod NotBlocks
 pub mod Patterns
 pub mod Statements
 pub mod Lists

@@ -10,8 +10,8 @@ use Rattle.rust_grammar.specs.Notation.{op, next}
 use Rattle.rust_grammar.specs.Words.{'==', '!=', '<=', '>=', '&&', '||', '|>', '<<', '>>', '<', '>', '-', '&', '|', '+', '*', '/', '^', '%'}
 use Rattle.core_language.specs.Operators.{BitAnd, BitOr, BitXor, Divide, Equal, Greater, GreaterOrEqual, Less, LessOrEqual, LogicalAnd, LogicalOr, Minus, NotEqual, Operator, Pipe, Plus, Remainder, ShiftLeft, ShiftRight, Times, power}
 use Rattle.core_language.specs.Expressions.{Expression, expression_tree}
-use Rattle.core_language.specs.Tokens.{name_token}
 use Rattle.core_language.proofs.Rules.{at, begins_at}
+use Rattle.core_language.proofs.Flagged.{name_token}
 
 -- the production of a layer
 abbrev pub layer_of : ℕ → Production
@@ -92,10 +92,10 @@ abbrev pub IsNotNext : ℕ → List Token → Type 0
 IsNotNext k more = ((ahead 0 more).kind == k) ≡ false
 
 -- Nothing here goes on with a path: no `::`, no `{`, no `!` but that of `!=`.
-pub record Calm (more : List Token) : Type 0 where
+pub record Calm (flag : Bool) (more : List Token) : Type 0 where
   pub colon : IsNotNext COLON more
   pub curly : IsNotNext L_CURLY more
-  pub block : (j : Bool) (g : Forest) → begins_at (Call block_like) (at g (name_token j ∷ more)) ≡ false
+  pub block : (j : Bool) (g : Forest) → begins_at (Call block_like) (at g (name_token flag j ∷ more)) ≡ false
   pub bang : (g : Forest) → sees false (at g more) (Both (Not (next '!=')) (Kind 0 BANG)) ≡ false
 
 -- Nothing here goes on with an atom or a cast.
@@ -112,10 +112,10 @@ Stops zero more = Base more
 Stops (suc d) more = ((g : Forest) → begins_at (turn d) (at g more) ≡ false) × Stops d more
 
 -- `Calm`, `Base` and `Stops` as tests, which compute if the next tokens are known.
-abbrev pub is_calm : Bool → Forest → List Token → Bool
-is_calm j g more =
+abbrev pub is_calm : (flag : Bool) → Bool → Forest → List Token → Bool
+is_calm flag j g more =
     let kind = (ahead 0 more).kind in
-    let block = begins_at (Call block_like) (at g (name_token j ∷ more)) in
+    let block = begins_at (Call block_like) (at g (name_token flag j ∷ more)) in
     let bang = sees false (at g more) (Both (Not (next '!=')) (Kind 0 BANG)) in
     not (kind == COLON) && not (kind == L_CURLY) && not block && not bang
 
@@ -137,9 +137,9 @@ none-of-four false true c d e = absurd cc
 none-of-four false false true d e = absurd cc
 none-of-four false false false true e = absurd cc
 
-pub calm-of : (more : List Token) → ((j : Bool) (g : Forest) → is_calm j g more ≡ true) → Calm more
-calm-of more e =
-    let block : Bool → Forest → Bool = λ j g. begins_at (Call block_like) (at g (name_token j ∷ more)) in
+pub calm-of : (flag : Bool) (more : List Token) → ((j : Bool) (g : Forest) → is_calm flag j g more ≡ true) → Calm flag more
+calm-of flag more e =
+    let block : Bool → Forest → Bool = λ j g. begins_at (Call block_like) (at g (name_token flag j ∷ more)) in
     let bang : Forest → Bool = λ g. sees false (at g more) (Both (Not (next '!=')) (Kind 0 BANG)) in
     let kind = (ahead 0 more).kind in
     let none : (j : Bool) (g : Forest) → (kind == COLON ≡ false) × (kind == L_CURLY ≡ false) × (block j g ≡ false) × (bang g ≡ false) =

@@ -1,5 +1,5 @@
 -- The reading of rules, step by step, over the whole grammar.
-use Rattle.std.proofs.Common.{◌≡◌, ℕ, zero, suc, ◌<◌, ◌≤◌, Bool, true, false, List, length, refl, sym, ◌∙◌, arith}
+use Rattle.std.proofs.Common.{◌≡◌, ℕ, zero, suc, ◌<◌, ◌≤◌, Bool, true, false, List, length, refl, sym, ◌∙◌, arith, if◌then◌else◌}
 use Rattle.std.proofs.lemmas.Bool.{lt-ltb}
 use Rattle.parser_input.specs.Input.{Token}
 use Rattle.parser_events.specs.Forest.{Message, Forest, End}
@@ -87,6 +87,15 @@ pub call-reads : (x : Production) (ts : List Token) (g : Forest) (more : List To
     → reads (Call x) (at End ts) ≡ at g more
 unfolding read after fresh
 call-reads x ts g more e = rw e refl
+
+-- a look of the whole language that fails, whatever the flag is; a choice of looks of which the second holds
+pub idle : (flag : Bool) → (if flag then false else false) ≡ false
+idle true = refl
+idle false = refl
+
+pub either : (b : Bool) → (if b then true else true) ≡ true
+either true = refl
+either false = refl
 
 -- everything that a rule, a look or the table is computed with
 unfoldable pub table : Unit {0}

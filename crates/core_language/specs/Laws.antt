@@ -7,6 +7,7 @@ use Rattle.rust_grammar.specs.Entry.{entry}
 use Rattle.rust_grammar.specs.Whole.{whole}
 use Rattle.core_language.specs.Language.{IsCoreFile, IsCoreType, IsCoreExpression}
 use Rattle.core_language.specs.Spaced.{spaced}
+use Rattle.core_language.specs.Tokens.{of_whole}
 
 -- no message, no error and no mark of a float
 unfoldable pub is_clean : Forest → Bool
@@ -28,6 +29,18 @@ CoreTypesAreRead = (tokens : List Token) (tree : Forest) → IsCoreType tokens t
 -- Where the input is a core expression, the grammar's entry for expressions gives its tree.
 abbrev pub CoreExpressionsAreRead : Type 0
 CoreExpressionsAreRead = (tokens : List Token) (tree : Forest) → IsCoreExpression tokens tree → entry whole expression tokens ≡ tree
+
+-- So does the whole language: where the input is a core file but for its tokens' flag, the grammar gives its tree.
+abbrev pub WholeReadsCoreFiles : Type 0
+WholeReadsCoreFiles = (tokens : List Token) (tree : Forest) → IsCoreFile tokens tree → entry whole source_file (of_whole tokens) ≡ tree
+
+-- So it does where the input is a core type.
+abbrev pub WholeReadsCoreTypes : Type 0
+WholeReadsCoreTypes = (tokens : List Token) (tree : Forest) → IsCoreType tokens tree → entry whole any_type (of_whole tokens) ≡ tree
+
+-- So it does where the input is a core expression.
+abbrev pub WholeReadsCoreExpressions : Type 0
+WholeReadsCoreExpressions = (tokens : List Token) (tree : Forest) → IsCoreExpression tokens tree → entry whole expression (of_whole tokens) ≡ tree
 
 -- An input is a core file with one tree at most.
 abbrev pub CoreFilesHaveOneTree : Type 0

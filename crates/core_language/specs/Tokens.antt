@@ -21,3 +21,8 @@ joint_tokens (kind ∷ next ∷ kinds) joint more = of_kind kind true ∷ joint_
 -- The operator `|>`, and the tokens after it: a `|` that is marked as its first character, and a `>`.
 abbrev pub pipe_tokens : Bool → List Token → List Token
 pipe_tokens joint more = record { kind = PIPE; contextual = PIPE_GT; joint = true; whole = false } ∷ of_kind R_ANGLE joint ∷ more
+
+-- These tokens in an input that is read by the whole language.
+unfoldable pub of_whole : List Token → List Token
+of_whole [] = []
+of_whole (t ∷ ts) = record { kind = t.kind; contextual = t.contextual; joint = t.joint; whole = true } ∷ of_whole ts

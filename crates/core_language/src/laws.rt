@@ -1,13 +1,21 @@
 //! Laws of the core language. Each is the contract of a function that makes no call.
 
 ghost use Rattle.core_language.specs.Examples.{ExamplesAreCore};
-ghost use Rattle.core_language.specs.Laws.{CoreExpressionsAreClean, CoreExpressionsAreRead, CoreExpressionsHaveOneDerivation, CoreExpressionsHaveOneTree, CoreFilesAreClean, CoreFilesAreRead, CoreFilesHaveOneDerivation, CoreFilesHaveOneTree, CoreTypesAreClean, CoreTypesAreRead, CoreTypesHaveOneDerivation, CoreTypesHaveOneTree, SpacedCoreExpressionsAreCore, SpacedCoreFilesAreCore, SpacedCoreTypesAreCore};
+ghost use Rattle.core_language.specs.Laws.{CoreExpressionsAreClean, CoreExpressionsAreRead, CoreExpressionsHaveOneDerivation, CoreExpressionsHaveOneTree, CoreFilesAreClean, CoreFilesAreRead, CoreFilesHaveOneDerivation, CoreFilesHaveOneTree, CoreTypesAreClean, CoreTypesAreRead, CoreTypesHaveOneDerivation, CoreTypesHaveOneTree, SpacedCoreExpressionsAreCore, SpacedCoreFilesAreCore, SpacedCoreTypesAreCore, WholeReadsCoreExpressions, WholeReadsCoreFiles, WholeReadsCoreTypes};
 
 /// Where the input is a core file, type or expression, the grammar gives its tree.
 pub fn core_lists_are_read()
     ensures files { CoreFilesAreRead }
     ensures types { CoreTypesAreRead }
     ensures expressions { CoreExpressionsAreRead }
+{}
+
+/// Where each token of a core file, type or expression says that the whole language is read, the
+/// grammar gives the same tree.
+pub fn whole_language_reads_core_lists()
+    ensures files { WholeReadsCoreFiles }
+    ensures types { WholeReadsCoreTypes }
+    ensures expressions { WholeReadsCoreExpressions }
 {}
 
 /// An input is a core file, type or expression with one tree at most.

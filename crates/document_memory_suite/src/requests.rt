@@ -9,7 +9,7 @@ use document_requests::{
 };
 use memory_table::row::{Ask, Row};
 use parser_input::{Edition, SyntaxKind};
-use rust_document::Document;
+use rust_document::{Document, Grammar};
 use serde_json::Value;
 use std::alloc::{AllocError, Global};
 use syntax_tree::TreeIds;
@@ -161,7 +161,7 @@ fn reason(alloc: Global) -> anyhow::Result<String> {
 /// How many commands a list in JSON has.
 fn commands_read(alloc: Global) -> anyhow::Result<String> {
     let value = Value::from_str(alloc, "[{\"do\":\"tree\"},{\"do\":\"errors\"}]")?;
-    match commands_of(alloc, &value)? {
+    match commands_of(alloc, Grammar::Profile, &value)? {
         Some(commands) => Ok(format!(in alloc; "{}", commands.len())?),
         None => bail!("no commands"),
     }

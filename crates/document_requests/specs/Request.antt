@@ -97,10 +97,6 @@ command_named grammar word d =
 abbrev pub command_by : Grammar → Data → Option Command
 command_by grammar d = option_and_then (λ word. command_named grammar word d) (text_in (codes "do") d)
 
--- a command on a document of the profile
-abbrev pub command_of : Data → Option Command
-command_of d = command_by Profile d
-
 -- the grammar that the value of a member names; without the member it is the profile
 abbrev pub grammar_in : Option Data → Option Grammar
 grammar_in None = Some Profile

@@ -4,7 +4,7 @@ ghost use Rattle.serde_json.specs.Find.{as_array, as_str};
 ghost use Rattle.serde_json.specs.View.{view, items_view};
 ghost use Rattle.parser_input.specs.Kind.{raw_of};
 ghost use Rattle.document_requests.specs.Words.{edition_named, grammar_named, op_named, entry_named, is_known, is_of_whole_language, kind_named};
-ghost use Rattle.document_requests.specs.Request.{whole_number, target_in, payload_in, put_named, change_of, all_in, edit_of, commit_of, command_by, command_of, grammar_in, grammar_of, request_by, request_of};
+ghost use Rattle.document_requests.specs.Request.{whole_number, target_in, payload_in, put_named, change_of, all_in, edit_of, commit_of, command_by, grammar_in, grammar_of, request_by, request_of};
 ghost use Rattle.document_requests.specs.Asked.{change, command, request};
 
 use crate::request::{Change, Command, Entry, Format, Op, Request, Target};
@@ -223,14 +223,22 @@ fn commands_in(
     Ok(Some(commands))
 }
 
-/// Returns the commands on a document of the profile that a value is a list of; `None` if it is no list
-/// of such commands.
-pub fn commands_of(alloc: Global, value: &Value) -> Result<Option<Vec<Command<'_>>>, AllocError>
+/// Returns the commands that a value lists, on a document that is read by `grammar`; `None` if it is no
+/// list of such commands.
+///
+/// # Errors
+///
+/// Out of memory.
+pub fn commands_of(
+    alloc: Global,
+    grammar: Grammar,
+    value: &Value,
+) -> Result<Option<Vec<Command<'_>>>, AllocError>
     ensures { IfOk result (λ found. option_map (λ commands. map command commands.items) found
-        ≡ option_and_then (all_in command_of) (as_array (view value.now))) }
+        ≡ option_and_then (all_in (command_by grammar)) (as_array (view value.now))) }
 {
     match value.as_array() {
-        Some(values) => commands_in(alloc, Grammar::Profile, values),
+        Some(values) => commands_in(alloc, grammar, values),
         None => Ok(None),
     }
 }

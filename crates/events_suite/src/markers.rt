@@ -31,6 +31,17 @@ fn word_and_float(alloc: Global) -> Result<Input, AllocError>
     Ok(input)
 }
 
+fn pound_word_and_float(alloc: Global) -> Result<Input, AllocError>
+    ensures { IfOk result (λ input. input
+        ≡ plain kinds.POUND ∷ identifier kinds.IDENT ∷ plain kinds.FLOAT_NUMBER ∷ []) }
+{
+    let mut input = Input::with_capacity(alloc, 3)?;
+    input.push(SyntaxKind::POUND)?;
+    input.push_ident(SyntaxKind::IDENT)?;
+    input.push(SyntaxKind::FLOAT_NUMBER)?;
+    Ok(input)
+}
+
 fn has_steps(output: &Output, want: &[Step]) -> bool {
     let mut steps = output.iter();
     for step in want {
@@ -239,5 +250,162 @@ fn nodes_that_may_be_preceded(rt: HostRuntime) -> Result<(), AllocError> {
     let pair = pair.complete(&mut parser, SyntaxKind::TUPLE_EXPR);
     assert!(rt; !parser.can_precede(&second));
     assert!(rt; parser.can_precede(&pair));
+    Ok(())
+}
+
+#[test]
+fn extend_left_moves_trees_into_a_node(rt: HostRuntime) -> Result<(), AllocError> {
+    let input = three_words(rt.alloc())?;
+    let mut parser = Parser::new(rt.alloc(), &input);
+    let statement = parser.start();
+    parser.token(SyntaxKind::POUND, 1);
+    let operand = parser.start();
+    let path = parser.start();
+    parser.token(SyntaxKind::IDENT, 1);
+    let _path = path.complete(&mut parser, SyntaxKind::PATH_EXPR);
+    operand.extend_left(&mut parser);
+    parser.token(SyntaxKind::SEMICOLON, 1);
+    let _statement = statement.complete(&mut parser, SyntaxKind::EXPR_STMT);
+    let output = parser.finish()?;
+    assert!(rt;
+        has_steps(
+            &output,
+            &[
+                Step::Enter {
+                    kind: SyntaxKind::EXPR_STMT
+                },
+                Step::Enter {
+                    kind: SyntaxKind::PATH_EXPR
+                },
+                Step::Token {
+                    kind: SyntaxKind::POUND,
+                    n_input_tokens: 1
+                },
+                Step::Token {
+                    kind: SyntaxKind::IDENT,
+                    n_input_tokens: 1
+                },
+                Step::Exit,
+                Step::Token {
+                    kind: SyntaxKind::SEMICOLON,
+                    n_input_tokens: 1
+                },
+                Step::Exit,
+            ]
+        )
+    );
+    Ok(())
+}
+
+#[test]
+fn extend_left_extends_the_outermost_node(rt: HostRuntime) -> Result<(), AllocError> {
+    let input = three_words(rt.alloc())?;
+    let mut parser = Parser::new(rt.alloc(), &input);
+    parser.token(SyntaxKind::POUND, 1);
+    let operand = parser.start();
+    let call = parser.start();
+    let path = parser.start();
+    parser.token(SyntaxKind::IDENT, 1);
+    let _path = path.complete(&mut parser, SyntaxKind::PATH_EXPR);
+    let _call = call.complete(&mut parser, SyntaxKind::CALL_EXPR);
+    operand.extend_left(&mut parser);
+    let output = parser.finish()?;
+    assert!(rt;
+        has_steps(
+            &output,
+            &[
+                Step::Enter {
+                    kind: SyntaxKind::CALL_EXPR
+                },
+                Step::Token {
+                    kind: SyntaxKind::POUND,
+                    n_input_tokens: 1
+                },
+                Step::Enter {
+                    kind: SyntaxKind::PATH_EXPR
+                },
+                Step::Token {
+                    kind: SyntaxKind::IDENT,
+                    n_input_tokens: 1
+                },
+                Step::Exit,
+                Step::Exit,
+            ]
+        )
+    );
+    Ok(())
+}
+
+#[test]
+fn extend_left_extends_the_receiver_of_a_float(rt: HostRuntime) -> Result<(), AllocError> {
+    let input = pound_word_and_float(rt.alloc())?;
+    let mut parser = Parser::new(rt.alloc(), &input);
+    parser.token(SyntaxKind::POUND, 1);
+    let operand = parser.start();
+    let access = parser.start();
+    parser.token(SyntaxKind::IDENT, 1);
+    let around = parser.split_float(access, false);
+    let _around = around.complete(&mut parser, SyntaxKind::FIELD_EXPR);
+    operand.extend_left(&mut parser);
+    let output = parser.finish()?;
+    assert!(rt;
+        has_steps(
+            &output,
+            &[
+                Step::Enter {
+                    kind: SyntaxKind::FIELD_EXPR
+                },
+                Step::Enter {
+                    kind: SyntaxKind::FIELD_EXPR
+                },
+                Step::Token {
+                    kind: SyntaxKind::POUND,
+                    n_input_tokens: 1
+                },
+                Step::Token {
+                    kind: SyntaxKind::IDENT,
+                    n_input_tokens: 1
+                },
+                Step::FloatSplit { ends_in_dot: false },
+                Step::Exit,
+            ]
+        )
+    );
+    Ok(())
+}
+
+#[test]
+fn extend_left_closes_two_trees_as_an_error(rt: HostRuntime) -> Result<(), AllocError> {
+    let input = three_words(rt.alloc())?;
+    let mut parser = Parser::new(rt.alloc(), &input);
+    parser.token(SyntaxKind::POUND, 1);
+    let operand = parser.start();
+    parser.token(SyntaxKind::IDENT, 1);
+    parser.token(SyntaxKind::PLUS, 1);
+    operand.extend_left(&mut parser);
+    let output = parser.finish()?;
+    assert!(rt;
+        has_steps(
+            &output,
+            &[
+                Step::Enter {
+                    kind: SyntaxKind::ERROR
+                },
+                Step::Token {
+                    kind: SyntaxKind::POUND,
+                    n_input_tokens: 1
+                },
+                Step::Token {
+                    kind: SyntaxKind::IDENT,
+                    n_input_tokens: 1
+                },
+                Step::Token {
+                    kind: SyntaxKind::PLUS,
+                    n_input_tokens: 1
+                },
+                Step::Exit,
+            ]
+        )
+    );
     Ok(())
 }

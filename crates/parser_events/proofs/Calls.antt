@@ -1,11 +1,12 @@
 -- What a call makes of the record, and of the open nodes that are read from it.
 use Rattle.std.proofs.Common.{◌≡◌, ℕ, suc, ◌-◌, Bool, List, [], ◌∷◌, Option, Some, None, IfSome, length, reverse, refl, ap, sym, subst, ◌∙◌, arith, ◌↔◌, true}
-use Rattle.parser_events.specs.Marked.{Marked, End, Node, Split, ◌beside◌, size, front, after, walk}
-use Rattle.parser_events.specs.Nodes.{Entry, Kept, entries, all_entries, starts, record_of, read_from, read_back, nodes_of, IsRecord, with_entry, opened_at, opened_here, innermost, left_out, closed_as, split_as}
+use Rattle.parser_events.specs.Marked.{Marked, End, Node, Split, ◌beside◌, size, front, after, into, walk}
+use Rattle.parser_events.specs.Nodes.{Entry, Kept, entries, all_entries, starts, record_of, read_from, read_back, nodes_of, IsRecord, with_entry, opened_at, opened_here, innermost, left_out, closed_as, split_as, extended}
 use Rattle.parser_events.specs.Stack as stack
 use Rattle.parser_events.specs.Stack.{level, total_size, Becomes, with_tree, with_node, closed, split, wrapped, place_of, Place, IsAmong, IsInnermost, IsClosed, IsChild, AreStepsOf}
 use Rattle.parser_events.specs.Steps.{Step}
 use Rattle.parser_events.proofs.Trees.{total-length, starts-length, last-of, records-tree, records-start, records-close, records-leave, records-split, records-wrap}
+use Rattle.parser_events.proofs.Extending.{records-extend}
 use Rattle.parser_events.proofs.Stacks.{reads, front-beside, after-beside}
 
 -- There are always the trees outside of all nodes.
@@ -76,6 +77,14 @@ leaves around old new h is inner =
     leave : (f : Marked) (below : List Marked) → length below ≡ suc around → Made left_out stack.left_out (f ∷ below)
     leave f [] e = absurd (omega (arith, e))
     leave f (g ∷ below) e = record { first = g beside f; below = below; are = refl; same = records-leave f g below }
+
+pub extends : (around : ℕ) (old new : Option Kept) → Becomes extended old new → IsRecord old → IsInnermost around (nodes_of old) → Call stack.extended old new
+extends around old new h is inner =
+    step extended stack.extended old new h is (λ kept at f below eq. extend f below (around-is around old inner kept at f below eq))
+  where
+    extend : (f : Marked) (below : List Marked) → length below ≡ suc around → Made extended stack.extended (f ∷ below)
+    extend f [] e = absurd (omega (arith, e))
+    extend f (g ∷ below) e = record { first = into g f; below = below; are = refl; same = records-extend f g below }
 
 pub splits : (e : Bool) (around : ℕ) (old new : Option Kept) → Becomes (split_as e) old new → IsRecord old → IsInnermost around (nodes_of old) → Call (split e) old new
 splits e around old new h is inner =

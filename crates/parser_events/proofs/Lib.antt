@@ -18,3 +18,4 @@ pub mod Dots
 pub mod Insides
 pub mod Roots
 pub mod Packings
+pub mod Extending

@@ -29,7 +29,7 @@ entries-beside b (Split e c f) g =
     ∙ sym (append_assoc (entries b c) (nodes.Ended e b ∷ entries next f) (entries (suc (size c + size f) + b) g))
 
 -- where nodes begin does not depend on what the innermost one has
-starts-same : (f g : Marked) (below : List Marked) → starts (f ∷ below) ≡ starts (g ∷ below)
+pub starts-same : (f g : Marked) (below : List Marked) → starts (f ∷ below) ≡ starts (g ∷ below)
 starts-same f g [] = refl
 starts-same f g (h ∷ below) = refl
 
@@ -58,10 +58,10 @@ all-beside f g below =
 pub last-of : (xs : List ℕ) (x : ℕ) → get_or (xs ++ x ∷ []) (length (xs ++ x ∷ []) - 1) 0 ≡ x
 last-of xs x = get_or_at xs x [] 0 (length (xs ++ x ∷ []) - 1) (omega (arith, length-append xs (x ∷ [])))
 
-front-of : (xs : List ℕ) (x : ℕ) → take (length (xs ++ x ∷ []) - 1) (xs ++ x ∷ []) ≡ xs
+pub front-of : (xs : List ℕ) (x : ℕ) → take (length (xs ++ x ∷ []) - 1) (xs ++ x ∷ []) ≡ xs
 front-of xs x = take_at xs (x ∷ []) (length (xs ++ x ∷ []) - 1) (omega (arith, length-append xs (x ∷ [])))
 
-same-kept : (e d : List Entry) (o p : List ℕ) → e ≡ d → o ≡ p → ◌≡◌ {A = Kept} (record { entered = e; opened = o }) (record { entered = d; opened = p })
+pub same-kept : (e d : List Entry) (o p : List ℕ) → e ≡ d → o ≡ p → ◌≡◌ {A = Kept} (record { entered = e; opened = o }) (record { entered = d; opened = p })
 same-kept e d o p h k =
     rw (h, k) refl
 

@@ -1,5 +1,5 @@
 -- What a parser's calls make: trees over the tokens of its input, as they are while nodes are still open.
-use Rattle.std.specs.Prelude.{ℕ, zero, suc, ◌+◌, ◌-◌, Bool, List, [], ◌∷◌, ◌++◌, if◌then◌else◌}
+use Rattle.std.specs.Prelude.{ℕ, zero, suc, ◌+◌, ◌-◌, Bool, false, List, [], ◌∷◌, ◌++◌, if◌then◌else◌}
 use Rattle.parser_input.specs.Kinds.{ERROR, FIELD_EXPR}
 use Rattle.parser_events.specs.Forest as forest
 use Rattle.parser_events.specs.Forest.{Forest, Message}
@@ -48,6 +48,19 @@ after (suc n) (Leaf k c f) = after n f
 after (suc n) (Said m f) = after n f
 after (suc n) (Node k c f) = after (n - size c) f
 after (suc n) (Split e c f) = after (n - size c) f
+
+-- The children of a node, with trees put first. Of a field access that a float without a last dot ends, they go into the
+-- receiver.
+abbrev pub into_children : Marked → Marked → Marked
+into_children g (Split false r End) = Split false (g beside r) End
+into_children g c = g beside c
+
+-- Trees put first into the one tree after them, a node or a field access. What is not one such tree goes with them into
+-- an error.
+abbrev pub into : Marked → Marked → Marked
+into g (Node k c End) = Node k (into_children g c) End
+into g (Split e r End) = Split e (g beside r) End
+into g f = Node ERROR (g beside f) End
 
 -- the steps of marked trees
 unfoldable pub walk : Marked → List Step

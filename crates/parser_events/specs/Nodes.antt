@@ -1,5 +1,6 @@
 -- The record from which a parser's open nodes are read.
-use Rattle.std.specs.Prelude.{ℕ, suc, ◌+◌, ◌-◌, ◌≡◌, Bool, List, [], ◌∷◌, ◌++◌, Option, Some, None, length, reverse, take, drop, slice_index_or as get_or}
+use Rattle.std.specs.Prelude.{ℕ, suc, ◌+◌, ◌-◌, ◌≡◌, ◌==◌, Bool, true, false, List, [], ◌∷◌, ◌++◌, Option, Some, None, length, reverse, take, drop, slice_index_or as get_or, slice_set as set, if◌then◌else◌}
+use Rattle.parser_input.specs.Kinds.{ERROR}
 use Rattle.parser_events.specs.Forest.{Message}
 use Rattle.parser_events.specs.Marked as marked
 use Rattle.parser_events.specs.Marked.{Marked, End, ◌beside◌, size, front, after}
@@ -104,3 +105,39 @@ closed_as kind kept = with_entry (Closed kind (innermost kept)) (left_out kept)
 
 abbrev pub split_as : Bool → Kept → Kept
 split_as ends_in_dot kept = with_entry (Ended ends_in_dot (innermost kept)) kept
+
+-- the last entry; of no entries, that of a leaf
+abbrev pub last_entry : List Entry → Entry
+last_entry es = get_or es (length es - 1) (Token 0 0)
+
+-- An entry of a field access that a float without a last dot ends begins at `outer` if it began at `inner`. Other entries
+-- are unchanged.
+abbrev pub access_from : (inner outer : ℕ) → Entry → Entry
+access_from inner outer (Token kind count) = Token kind count
+access_from inner outer (Said message) = Said message
+access_from inner outer (Closed kind start) = Closed kind start
+access_from inner outer (Ended true start) = Ended true start
+access_from inner outer (Ended false start) = Ended false (if start == inner then outer else start)
+
+-- The last tree, whose entry is given, begins at `outer` if it is a node or a field access that began at `inner`; so does
+-- the field access before a node's entry, if a float without a last dot ends it. Any other last tree is unchanged, and an
+-- error that begins at `outer` is closed.
+abbrev pub extended_by : (inner outer : ℕ) → Entry → List Entry → List Entry
+extended_by inner outer (Token kind count) es = es ++ Closed ERROR outer ∷ []
+extended_by inner outer (Said message) es = es ++ Closed ERROR outer ∷ []
+extended_by inner outer (Closed kind start) es =
+    let one = set es (length es - 1) (Closed kind outer) in
+    let before = length es - 2 in
+    let both = set one before (access_from inner outer (get_or one before (Token 0 0))) in
+    if start == inner then both else es ++ Closed ERROR outer ∷ []
+extended_by inner outer (Ended ends_in_dot start) es =
+    if start == inner then set es (length es - 1) (Ended ends_in_dot outer) else es ++ Closed ERROR outer ∷ []
+
+abbrev pub extended_entries : (inner outer : ℕ) → List Entry → List Entry
+extended_entries inner outer es = extended_by inner outer (last_entry es) es
+
+-- the innermost open node is left out, and its one tree begins where the node around it does
+abbrev pub extended : Kept → Kept
+extended kept =
+    let around = left_out kept in
+    record { entered = extended_entries (innermost kept) (innermost around) kept.entered; opened = around.opened }

@@ -1,7 +1,7 @@
 -- The open nodes of a parser with the trees that each has so far: the innermost node's trees first; the last ones stand
 -- outside of all nodes. What each call makes of them.
 use Rattle.std.specs.Prelude.{ℕ, suc, ◌+◌, ◌-◌, ◌≡◌, Bool, List, [], ◌∷◌, Option, Some, None, IfSome, length}
-use Rattle.parser_events.specs.Marked.{Marked, End, Node, Split, ◌beside◌, size, front, after, walk}
+use Rattle.parser_events.specs.Marked.{Marked, End, Node, Split, ◌beside◌, size, front, after, into, walk}
 use Rattle.parser_events.specs.Steps.{Step}
 
 -- how many nodes are open
@@ -41,6 +41,13 @@ abbrev pub left_out : List Marked → List Marked
 left_out [] = []
 left_out (f ∷ []) = f ∷ []
 left_out (f ∷ around ∷ below) = (around beside f) ∷ below
+
+-- `Marker::extend_left`: the innermost node is abandoned, and the trees of the node around it go first into its one
+-- tree, which is then the only one of that node
+abbrev pub extended : List Marked → List Marked
+extended [] = []
+extended (f ∷ []) = f ∷ []
+extended (f ∷ around ∷ below) = into around f ∷ below
 
 -- the innermost node is closed as a field access by a float, and one is opened around that
 abbrev pub split : Bool → List Marked → List Marked

@@ -11,7 +11,7 @@ ghost use Rattle.parser_input.specs.Kinds as kinds;
 ghost use Rattle.parser_input.specs.Recorded.{token_at};
 ghost use Rattle.parser_events.specs.Marked.{End, Leaf, Said};
 ghost use Rattle.parser_events.specs.Seen.{message_of};
-ghost use Rattle.parser_events.specs.Stack.{Becomes, with_tree, with_node, closed, left_out, split, wrapped, place_of, IsInnermost, IsClosed, IsChild, AreStepsOf};
+ghost use Rattle.parser_events.specs.Stack.{Becomes, with_tree, with_node, closed, left_out, extended, split, wrapped, place_of, IsInnermost, IsClosed, IsChild, AreStepsOf};
 
 use crate::event::Event;
 use crate::message::Message;
@@ -263,6 +263,21 @@ impl Marker {
     {
         let Marker { around: _ } = self;
         p.recorder.abandon();
+    }
+
+    /// Leaves the node out, which must be the innermost open one, and extends its one tree to the
+    /// left: the trees that the node around it has so far become the first in that tree. The node
+    /// around stays open, and that tree is all that it has.
+    ///
+    /// In a field access that a float without a last dot ends, they go into the receiver. If the
+    /// node does not have just one node or one field access, all go into an `ERROR`.
+    pub fn extend_left(self, p: &mut Parser<'_>)
+        requires { IsInnermost self p.old.nodes }
+        ensures nodes { Becomes extended p.old.nodes p.new.nodes }
+        ensures same { p.new ≡ record p.old { nodes = p.new.nodes } }
+    {
+        let Marker { around: _ } = self;
+        p.recorder.extend();
     }
 }
 

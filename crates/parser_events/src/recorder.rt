@@ -1,8 +1,9 @@
 //! The record of a parser: flat lists, in which nothing is written twice.
 
-ghost use Rattle.std.specs.Prelude.{◌≡◌, ◌-◌, ◌≤◌, ◌↔◌, List, ◌∷◌, [], true, length, map, Some, None, IfOk, IsErr};
+ghost use Rattle.std.specs.Prelude.{◌≡◌, ◌-◌, ◌≤◌, ◌↔◌, List, ◌∷◌, ◌++◌, [], true, length, map, Some, None, IfOk, IsErr, MatchBool};
+ghost use Rattle.parser_input.specs.Kinds.{ERROR};
 ghost use Rattle.parser_events.specs.Marked.{Marked, walk};
-ghost use Rattle.parser_events.specs.Nodes.{Kept, record_of, all_entries, begins, IsClosing, with_entry, opened_at, opened_here, innermost, left_out, closed_as, split_as};
+ghost use Rattle.parser_events.specs.Nodes.{Kept, Closed, record_of, all_entries, begins, IsClosing, with_entry, opened_at, opened_here, innermost, left_out, closed_as, split_as, access_from, extended_entries, extended};
 ghost use Rattle.parser_events.specs.Stack.{Becomes, IsAmong, total_size};
 ghost use Rattle.parser_events.specs.Seen.{event_of, step_of};
 ghost use Rattle.parser_input.specs.Kind.{raw_of};
@@ -97,6 +98,23 @@ impl Recorder {
         ensures left { Becomes left_out self.old self.new }
     {
         self.open_nodes.pop().unwrap_or(0)
+    }
+
+    /// Leaves out the innermost open node, and moves the start of its one tree to that of the node
+    /// around it. If it does not have just one node or one field access, closes an error that
+    /// starts there instead.
+    pub(crate) fn extend(&mut self)
+        ensures { Becomes extended self.old self.new }
+    {
+        if self.refused {
+            return;
+        }
+        let inner = self.abandon();
+        let outer = self.innermost_start();
+        if !extend_last(&mut self.events, inner, outer) {
+            let kind = SyntaxKind::ERROR;
+            self.record(Event::Close { kind, start: outer });
+        }
     }
 
     /// How many entries there are.
@@ -221,5 +239,61 @@ fn is_node(event: Event, first: usize, place: usize, inside: usize) -> bool
             }
         }
         Event::Split { .. } => false,
+    }
+}
+
+// Moves the start of the last tree from index `inner` to index `outer`; if that tree is a field
+// access that a float without a last dot ends, its receiver's too. Returns `false`, and changes
+// nothing, if the tree is no node and no field access, or does not start at `inner`.
+fn extend_last(events: &mut [Event], inner: usize, outer: usize) -> bool
+    ensures { MatchBool result
+        (map event_of events.new ≡ extended_entries inner outer (map event_of events.old))
+        (map event_of events.new ++ Closed ERROR outer ∷ []
+        ≡ extended_entries inner outer (map event_of events.old)) }
+{
+    let len = events.len();
+    if len == 0 {
+        return false;
+    }
+    match events[len - 1] {
+        Event::Token { .. } => false,
+        Event::Error { .. } => false,
+        Event::Close { kind, start } => {
+            if start != inner {
+                return false;
+            }
+            events[len - 1] = Event::Close { kind, start: outer };
+            // With one event, this is its own index, and a `Close` is left unchanged.
+            let before = len.saturating_sub(2);
+            events[before] = extend_access(events[before], inner, outer);
+            true
+        }
+        Event::Split { ends_in_dot, start } => {
+            if start != inner {
+                return false;
+            }
+            let start = outer;
+            events[len - 1] = Event::Split { ends_in_dot, start };
+            true
+        }
+    }
+}
+
+// Returns the event with its start moved from `inner` to `outer`, if it ends a field access inside
+// a float without a last dot. Returns other events unchanged.
+fn extend_access(event: Event, inner: usize, outer: usize) -> Event
+    ensures { event_of result ≡ access_from inner outer (event_of event) }
+{
+    match event {
+        Event::Token { .. } => event,
+        Event::Error { .. } => event,
+        Event::Close { .. } => event,
+        Event::Split { ends_in_dot, start } => {
+            if ends_in_dot || start != inner {
+                return event;
+            }
+            let start = outer;
+            Event::Split { ends_in_dot, start }
+        }
     }
 }

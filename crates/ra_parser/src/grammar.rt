@@ -15,8 +15,8 @@ pub enum Grammar {
     /// The profile, which leaves constructs out by name: they are parsed by error recovery, with
     /// messages.
     Profile,
-    /// The whole language, but for attributes before an expression or a `let`: they are still parsed
-    /// as by the profile.
+    /// The whole language: a text that rust-analyzer parses without an error is parsed without a
+    /// message, a few unstable constructs aside.
     Whole,
 }
 

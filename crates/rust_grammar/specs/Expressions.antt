@@ -1,11 +1,11 @@
 -- The rows of expressions: ranges and assignments, the layers of operators, postfix operators, and the rest.
 use Rattle.std.specs.Prelude.{[], ◌∷◌}
-use Rattle.parser_input.specs.Kinds.{RAW_KW, PARAM_LIST, PARAM, MACRO_CALL, NAME_REF, BLOCK_EXPR, RANGE_EXPR, BIN_EXPR, CAST_EXPR, PREFIX_EXPR, REF_EXPR, CALL_EXPR, ARG_LIST, INDEX_EXPR, TRY_EXPR, METHOD_CALL_EXPR, FIELD_EXPR, MACRO_EXPR, RECORD_EXPR, RECORD_EXPR_FIELD_LIST, RECORD_EXPR_FIELD, PATH_EXPR, TUPLE_EXPR, PAREN_EXPR, ARRAY_EXPR, RETURN_EXPR, BREAK_EXPR, CONTINUE_EXPR, CLOSURE_EXPR, LET_EXPR, IF_EXPR, WHILE_EXPR, LOOP_EXPR, FOR_EXPR, MATCH_EXPR, MATCH_ARM_LIST, MATCH_ARM, MATCH_GUARD, LABEL, AWAIT_EXPR, UNDERSCORE_EXPR}
+use Rattle.parser_input.specs.Kinds.{ERROR, RAW_KW, PARAM_LIST, PARAM, MACRO_CALL, NAME_REF, BLOCK_EXPR, RANGE_EXPR, BIN_EXPR, CAST_EXPR, PREFIX_EXPR, REF_EXPR, CALL_EXPR, ARG_LIST, INDEX_EXPR, TRY_EXPR, METHOD_CALL_EXPR, FIELD_EXPR, MACRO_EXPR, RECORD_EXPR, RECORD_EXPR_FIELD_LIST, RECORD_EXPR_FIELD, PATH_EXPR, TUPLE_EXPR, PAREN_EXPR, ARRAY_EXPR, RETURN_EXPR, BREAK_EXPR, CONTINUE_EXPR, CLOSURE_EXPR, LET_EXPR, IF_EXPR, WHILE_EXPR, LOOP_EXPR, FOR_EXPR, MATCH_EXPR, MATCH_ARM_LIST, MATCH_ARM, MATCH_GUARD, LABEL, AWAIT_EXPR, UNDERSCORE_EXPR}
 use Rattle.parser_events.specs.Forest.{ExpectedExpression, ExpectedMatchArm, ExpectedField}
 use Rattle.rust_grammar.specs.Rule.{expression, operation, operation_tail, pipe_tail, disjunction, conjunction, comparison, bit_or, bit_xor, bit_and, bit_shift, sum, product, cast, prefixed, postfix, after_dot, arguments, atom, field_values, field_value, block_like, if_expr, match_arms, match_arm, arm_body, Production, Look, Contextual, Joint, Whole, InCondition, Both, Either, Not, Spelling, Rule, Nothing, One, Want, Say, Skip, Split, When, Unless, Call}
 use Rattle.rust_grammar.specs.Words.{'dots', 'dots_eq', '::', '==', '=>', '!=', '<=', '>=', '&&', '||', '|>', '<<', '>>', '+=', '-=', '*=', '/=', '%=', '&=', '|=', '^=', '<<=', '>>=', 'semi', 'comma', 'dot', 'l_paren', 'r_paren', 'l_curly', 'r_curly', '[', ']', '#', '?', ':', '=', '!', '<', '>', '-', '&', '|', '+', '*', '/', '^', '%', 'break', 'const', 'continue', 'crate', 'else', 'for', 'if', 'in', 'let', 'loop', 'match', 'move', 'mut', 'return', 'self', 'Self', 'static', 'super', 'unsafe', 'while', 'as', '_', 'ident', 'lifetime', 'float', 'async', 'await', 'gen', 'try', 'contextual_raw'}
 use Rattle.rust_grammar.specs.Calls.{Attribute, TokenTree, Lifetime, ExprPath, GenericArgs, RetType, TypeNoBounds, Pattern, SinglePattern, Literal, StatementList, Block, Expression, Operation, Disjunction, Comparison, Prefixed, Arguments, Atom, FieldValues, FieldValue, BlockLike, IfExpr, MatchArms, MatchArm, ArmBody}
-use Rattle.rust_grammar.specs.Notation.{◌or◌, ◌▸◌, ◌▹◌, ⁅◌⁆, ◌*, ◌⁺, ◌!, ◌⟨◌⟩, ◌<⟨◌⟩, more, off, on, wide, next, row, ◌before◌, ◌before_any◌, ◌not_before◌, any_of, one_of, until, separator, rest_listed, listed, in_parentheses, op}
+use Rattle.rust_grammar.specs.Notation.{◌or◌, ◌▸◌, ◌▹◌, ⁅◌⁆, ◌*, ◌⁺, ◌!, ◌⟨◌⟩, ◌<⟨◌⟩, lead, more, off, on, wide, next, row, ◌before◌, ◌before_any◌, ◌not_before◌, any_of, one_of, until, separator, rest_listed, listed, in_parentheses, op}
 use Rattle.rust_grammar.specs.Shared.{field_name, outer_attributes, attributed, binder_begins, for_binder, type_annotation}
 use Rattle.rust_grammar.specs.Paths.{expr_qualified}
 use Rattle.rust_grammar.specs.Patterns.{named_field_begins}
@@ -74,7 +74,7 @@ postfixed = Atom ▸ (more postfix) *
 abbrev pub ref_expr : Rule
 ref_expr = REF_EXPR ⟨ One '&' ▸ ⁅ One 'mut' ⁆ ▸ Prefixed ! ⟩
 
--- An operand that only the whole language has: a raw reference, or a range without a start. The word `raw` is one before `mut`,
+-- An operand that only the whole language has: a raw reference, one after attributes, or a range without a start. The word `raw` is one before `mut`,
 -- `const` and a name alone.
 abbrev pub raw_begins : Look
 raw_begins = Both (next '&') (Both (Contextual 1 RAW_KW) (one_of 2 ('mut' ∷ 'const' ∷ 'ident' ∷ [])))
@@ -88,11 +88,15 @@ raw_ref_expr = REF_EXPR ⟨ One '&' ▸ One 'contextual_raw' ▸ ⁅ mut_or_cons
 abbrev pub open_range : Rule
 open_range = range_to 'dots_eq' or range_to 'dots' or range_mark
 
+-- an operand after attributes: they stand first in its outermost node
+abbrev pub operand_after_attributes : Rule
+operand_after_attributes = lead Prefixed or ERROR <⟨ Say ExpectedExpression ⟩
+
 abbrev pub new_operand_begins : Look
-new_operand_begins = any_of (raw_begins ∷ mark_begins ∷ [])
+new_operand_begins = any_of (raw_begins ∷ next '#' ∷ mark_begins ∷ [])
 
 abbrev pub new_operand : Rule
-new_operand = When raw_begins raw_ref_expr or RANGE_EXPR ⟨ open_range ⟩
+new_operand = When raw_begins raw_ref_expr or attributed operand_after_attributes or RANGE_EXPR ⟨ open_range ⟩
 
 abbrev pub index : Rule
 index = One '[' ▸ off (Expression !) ▸ One ']' !

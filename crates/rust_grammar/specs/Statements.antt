@@ -2,11 +2,11 @@
 use Rattle.std.specs.Prelude.{[], ◌∷◌}
 use Rattle.parser_input.specs.Kinds.{MACRO_STMTS, STMT_LIST, LET_STMT, LET_ELSE, EXPR_STMT, BLOCK_EXPR, DEFER_STMT}
 use Rattle.parser_events.specs.Forest.{ExpectedStatement}
-use Rattle.rust_grammar.specs.Rule.{macro_statements, statement_list, block, statement, macro_statement, statement_end, macro_statement_end, postfix, Production, Look, Both, Either, Not, Whole, Rule, Nothing, One, Skip, When, Unless, Call}
+use Rattle.rust_grammar.specs.Rule.{body, macro_statements, statement_list, block, statement, macro_statement, statement_end, macro_statement_end, postfix, Production, Look, Both, Either, Not, Whole, Rule, Nothing, One, Skip, When, Unless, Call}
 use Rattle.rust_grammar.specs.Words.{'semi', 'l_curly', 'r_curly', '#', '!', 'const', 'defer', 'else', 'enum', 'fn', 'impl', 'let', 'mod', 'pub', 'static', 'struct', 'super', 'trait', 'type', 'unsafe', 'use', '|', 'move', 'async'}
-use Rattle.rust_grammar.specs.Calls.{Item, Attribute, Pattern, StatementList, Block, Expression, BlockLike, ExprPath}
-use Rattle.rust_grammar.specs.Notation.{◌or◌, ◌▸◌, ⁅◌⁆, ◌*, ◌⁺, ◌!, ◌⟨◌⟩, ◌<⟨◌⟩, more, off, at_end, ◌before◌, ◌before_any◌, any_of, one_of, until, wide}
-use Rattle.rust_grammar.specs.Shared.{type_annotation, initializer}
+use Rattle.rust_grammar.specs.Calls.{Item, Visibility, Attribute, Prefixed, Pattern, StatementList, Block, Expression, BlockLike, ExprPath}
+use Rattle.rust_grammar.specs.Notation.{◌or◌, ◌▸◌, ⁅◌⁆, ◌*, ◌⁺, ◌!, ◌⟨◌⟩, ◌<⟨◌⟩, lead, more, off, next, at_end, ◌before◌, ◌before_any◌, any_of, one_of, until, wide}
+use Rattle.rust_grammar.specs.Shared.{attributed, type_annotation, initializer}
 use Rattle.rust_grammar.specs.Expressions.{after_operand, after_path, braced_macro, braced_macro_begins, goes_on, long_path_begins}
 use Rattle.rust_grammar.specs.Items.{new_item_begins}
 
@@ -78,19 +78,41 @@ no_item_begins = Either ('const' before 'l_curly') ('static' before_any ('|' ∷
 abbrev pub any_item_begins : Look
 any_item_begins = Both (Either item_begins new_item_begins) (Not no_item_begins)
 
+-- what follows the first operand of a statement
+abbrev pub operators_and_end : Listing → Rule
+operators_and_end list = after_operand ▸ more list.end
+
 -- a statement that begins with a path of several segments: a macro call in braces needs no `;`
 abbrev pub path_tail : Listing → Rule
-path_tail list = When braced_macro_begins (braced_macro ▸ after_block list) or after_path ▸ (more postfix) * ▸ after_operand ▸ more list.end
+path_tail list = When braced_macro_begins (braced_macro ▸ after_block list) or after_path ▸ (more postfix) * ▸ operators_and_end list
 
 abbrev pub long_path_statement : Listing → Rule
 long_path_statement list = ExprPath ▸ path_tail list
+
+-- A statement after attributes: a `let`, an item, or an expression, in whose outermost operand the attributes stand first.
+abbrev pub attributed_let : Rule
+attributed_let = LET_STMT <⟨ let_rest ⟩
+
+abbrev pub item_after_attributes_begins : Look
+item_after_attributes_begins = Both any_item_begins (Not (next '#'))
+
+abbrev pub item_after_attributes : Rule
+item_after_attributes = ⁅ Visibility ⁆ ▸ more body
+
+abbrev pub after_attributes : Listing → Rule
+after_attributes list =
+    attributed_let
+    or When (wide item_after_attributes_begins) item_after_attributes
+    or lead BlockLike ▸ after_block list
+    or lead Prefixed ▸ operators_and_end list
+    or more body
 
 -- a statement that only the whole language has, and where one begins
 abbrev pub new_statement_begins : Look
 new_statement_begins = any_of (long_path_begins ∷ super_let_begins ∷ any_item_begins ∷ [])
 
 abbrev pub new_statement : Listing → Rule
-new_statement list = When long_path_begins (long_path_statement list) or When super_let_begins super_let or Item
+new_statement list = attributed (after_attributes list) or When long_path_begins (long_path_statement list) or When super_let_begins super_let or Item
 
 -- A statement, with the end of an expression: an expression that ends in a block needs no `;`, and the last expression
 -- of a list is no statement.

@@ -51,6 +51,19 @@ pub where-more : {g c : Bool} {x : Production} {old new : View} → CompletesWhe
 unfolding read
 where-more {g} {c} {x} p = where-as (λ s g e. sym (whole-means x c s)) p
 
+-- after what keeps what was given
+pub where-then :
+    {c : Bool} {a b : Rule} {old mid new : View} → Reads c a old mid
+    → ((s : Reading) → is_end s.given ≡ false → is_end (read looks (meaning whole) c a s).given ≡ false)
+    → CompletesWhere true c b mid new → CompletesWhere true c (Then a b) old new
+unfolding read
+where-then {c} {a} p keeps q = record {
+  input = q.input ∙ p.does.input;
+  rest = λ s g e. q.rest (read looks (meaning whole) c a s) (keeps s g) (p.does.rest s e);
+  nodes = λ s around below g e h. q.nodes (read looks (meaning whole) c a s) around below (keeps s g) (p.does.rest s e) (p.does.nodes s (around ∷ below) e h);
+  innermost = λ level i. q.innermost level (p.does.innermost (suc level) i);
+}
+
 -- what is read where something was given, and what is where nothing was
 pub where-given : {c : Bool} {a b : Rule} {old new : View} → Completes c a old new → CompletesWhere true c (Or (When Given a) b) old new
 unfolding read begins sees
@@ -152,6 +165,11 @@ module _ (x : Production) (c : Bool) {k : ℕ} {a : Rule} (is_node : rule x ≡ 
       first : (n : ℕ) → length s.rest ≡ n → is_end (turns n test turn s).given ≡ false
       first zero none = absurd (omega (arith, some, none))
       first (suc n) is = rw begun (either (nat_lt (length (turn s).rest) (length s.rest)) (turns n test turn (turn s)) (turn s) (turns-keep n test (turn s) (call-gives s)) (call-gives s))
+
+  -- turns keep what was given
+  pub stars-keep : (s : Reading) → is_end s.given ≡ false → is_end (read looks (meaning whole) c (Star (Call x)) s).given ≡ false
+  unfolding read
+  stars-keep s e = turns-keep (length s.rest) (λ t. sees c t (begins looks (Call x))) s e
 
   -- an option keeps what was given
   pub option-keeps : (s : Reading) → is_end s.given ≡ false → is_end (read looks (meaning whole) c (Opt (Call x)) s).given ≡ false

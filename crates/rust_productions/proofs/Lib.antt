@@ -17,3 +17,4 @@ pub mod Operators
 pub mod Layering
 pub mod Ranges
 pub mod NoPath
+pub mod Leading

@@ -6,13 +6,13 @@ use Rattle.parser_events.specs.Forest.{Message, ◌then◌}
 use Rattle.parser_events.specs.Marked as marks
 use Rattle.parser_events.specs.Marked.{Marked, ◌beside◌, marked, size, front, after}
 use Rattle.parser_events.specs.Stack as stack
-use Rattle.parser_events.specs.Stack.{Becomes, with_tree, with_node, closed, left_out, level, IsInnermost, IsChild, IsAmong, Place, place_of, total_size}
+use Rattle.parser_events.specs.Stack.{Becomes, with_tree, with_node, closed, extended, left_out, level, IsInnermost, IsChild, IsAmong, Place, place_of, total_size}
 use Rattle.parser_events.specs.View.{View}
 use Rattle.parser_events.proofs.Forests.{marked-then}
 use Rattle.parser_events.proofs.Stacks.{front-beside, after-beside}
 use Rattle.rust_productions.specs.Stands.{left, Holds}
 use Rattle.rust_grammar.specs.Meaning.{leaf, say, wrapped}
-use Rattle.rust_productions.specs.Moves.{Opens, Closes, Leaves, Does}
+use Rattle.rust_productions.specs.Moves.{Opens, Closes, Leaves, Extends, Does}
 
 -- how a call changes the open nodes, unless an allocation fails
 pub becomes : (f : List Marked → List Marked) (old new : Option (List Marked)) (nodes : List Marked) → Becomes f old new → Holds old nodes → Holds new (f nodes)
@@ -109,6 +109,25 @@ leaves old new b same = record {
 }
   where
     higher : (around : ℕ) (o n : Option (List Marked)) → Becomes left_out o n → IsInnermost (suc around) o → IsInnermost around n
+    higher around None None b i = tt
+    higher around None (Some n) b i = absurd b
+    higher around (Some o) None b i = tt
+    higher around (Some []) (Some n) b i = absurd (let z : 0 ≡ suc (suc around) = i in cc)
+    higher around (Some (f ∷ [])) (Some n) b i = absurd (let z : 0 ≡ suc (suc around) = i in cc)
+    higher around (Some (f ∷ g ∷ below)) (Some n) b i = ap level b ∙ one-less i
+      where
+        one-less : suc (length below) ≡ suc (suc around) → length below ≡ suc around
+        one-less e = omega (arith, e)
+
+pub extends : (old new : View) → Becomes extended old.nodes new.nodes → new ≡ record old { nodes = new.nodes } → Extends old new
+extends old new b same = record {
+  input = ap (λ (v : View). v.input) same;
+  rest = ap left same;
+  nodes = λ inside given below h. becomes extended old.nodes new.nodes (inside ∷ given ∷ below) b h;
+  innermost = λ around i. higher around old.nodes new.nodes b i;
+}
+  where
+    higher : (around : ℕ) (o n : Option (List Marked)) → Becomes extended o n → IsInnermost (suc around) o → IsInnermost around n
     higher around None None b i = tt
     higher around None (Some n) b i = absurd b
     higher around (Some o) None b i = tt

@@ -1,6 +1,6 @@
 -- What the calls of a parser make of it. The input stays as it is.
 use Rattle.std.specs.Prelude.{◌≡◌, ℕ, suc, List, ◌∷◌}
-use Rattle.parser_events.specs.Marked.{Marked, End, Node, ◌beside◌, marked}
+use Rattle.parser_events.specs.Marked.{Marked, End, Node, ◌beside◌, into, marked}
 use Rattle.parser_events.specs.Stack.{IsInnermost}
 use Rattle.parser_events.specs.View.{View}
 use Rattle.rust_grammar.specs.Meaning.{Reading}
@@ -38,4 +38,11 @@ pub record Leaves (old new : View) : Type 0 where
   pub input : new.input ≡ old.input
   pub rest : left new ≡ left old
   pub nodes : (inside given : Marked) (below : List Marked) → Holds old.nodes (inside ∷ given ∷ below) → Holds new.nodes ((given beside inside) ∷ below)
+  pub innermost : (around : ℕ) → IsInnermost (suc around) old.nodes → IsInnermost around new.nodes
+
+-- the innermost node is left out; what the node around it had stands first in the one tree that it had
+pub record Extends (old new : View) : Type 0 where
+  pub input : new.input ≡ old.input
+  pub rest : left new ≡ left old
+  pub nodes : (inside given : Marked) (below : List Marked) → Holds old.nodes (inside ∷ given ∷ below) → Holds new.nodes (into given inside ∷ below)
   pub innermost : (around : ℕ) → IsInnermost (suc around) old.nodes → IsInnermost around new.nodes

@@ -7,7 +7,7 @@ use Rattle.rust_productions.specs.Stands.{left, Holds}
 use Rattle.rust_grammar.specs.Rule.{Production, Look, Rule}
 use Rattle.rust_grammar.specs.Meaning.{Reading, sees, fresh, after, is_end, read, look_of, meaning}
 use Rattle.rust_grammar.specs.Whole.{whole}
-pub use Rattle.rust_productions.specs.Moves.{Does, Opens, Closes, Leaves}
+pub use Rattle.rust_productions.specs.Moves.{Does, Opens, Closes, Leaves, Extends}
 
 -- where the productions begin
 abbrev pub looks : Production → Look

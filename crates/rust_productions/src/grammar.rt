@@ -18,7 +18,7 @@ ghost use Rattle.rust_grammar.specs.Shared.{dots_dot};
 ghost use Rattle.rust_grammar.specs.Rule.{Kind, Contextual, Whole, Left, Say, Skip, Any, Want, Opt, there_at, One};
 ghost use Rattle.rust_grammar.specs.Meaning.{wrapped};
 ghost use Rattle.rust_grammar.specs.Words.{one, joined};
-ghost use Rattle.rust_productions.specs.Reads.{Opens, Closes, Leaves, Does, Reads, Saw};
+ghost use Rattle.rust_productions.specs.Reads.{Opens, Closes, Leaves, Extends, Does, Reads, Saw};
 
 use parser_events::message::Message;
 use parser_events::parser::{Marker, Parser};
@@ -268,6 +268,17 @@ pub fn abandon(p: &mut Parser<'_>, marker: Marker)
     ensures stays { Stays p.old p.new }
 {
     marker.abandon(p);
+}
+
+/// Abandons the marker's node, and makes what the node around it has so far the first children of
+/// the one tree that it has.
+#[inline(never)]
+pub fn extend_left(p: &mut Parser<'_>, marker: Marker)
+    requires { IsInnermost marker p.old.nodes }
+    ensures extends { Extends p.old p.new }
+    ensures stays { Stays p.old p.new }
+{
+    marker.extend_left(p);
 }
 
 /// Emits an error.

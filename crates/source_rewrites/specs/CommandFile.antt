@@ -3,7 +3,8 @@ use Rattle.std.specs.Prelude.{ℕ, List, [], ◌∷◌, Option, Some, option_map
 use Rattle.serde_json.specs.Data.{Data, Members, no_members, member}
 use Rattle.serde_json.specs.Find.{as_array, as_object}
 use Rattle.document_requests.specs.Asked.{command}
-use Rattle.document_requests.specs.Request.{Command, all_in, command_of}
+use Rattle.document_requests.specs.Request.{Command, all_in, command_by}
+use Rattle.ra_parser.specs.declared.grammar.Grammar.{Grammar}
 use Rattle.source_rewrites.specs.declared.command_file.FileCommands.{FileCommands}
 
 -- a path and its commands
@@ -11,16 +12,17 @@ pub record Asked : Type 0 where
   pub path : List ℕ
   pub commands : List Command
 
--- The commands of each path, in order, where all are lists of commands. An object has its members in order of name.
-abbrev pub asked_in : Members → Option (List Asked)
-asked_in no_members = Some []
-asked_in (member path value rest) =
+-- The commands of each path, in order, where all are lists of commands on documents that are read by this grammar. An object has
+-- its members in order of name.
+abbrev pub asked_in : Grammar → Members → Option (List Asked)
+asked_in grammar no_members = Some []
+asked_in grammar (member path value rest) =
     option_and_then
-    (λ commands. option_map (λ others. record { path = path; commands = commands } ∷ others) (asked_in rest))
-    (option_and_then (all_in command_of) (as_array value))
+    (λ commands. option_map (λ others. record { path = path; commands = commands } ∷ others) (asked_in grammar rest))
+    (option_and_then (all_in (command_by grammar)) (as_array value))
 
-abbrev pub asked_of : Data → Option (List Asked)
-asked_of d = option_and_then asked_in (as_object d)
+abbrev pub asked_of : Grammar → Data → Option (List Asked)
+asked_of grammar d = option_and_then (asked_in grammar) (as_object d)
 
 -- a path and its commands, in code
 abbrev pub asked : FileCommands → Asked

@@ -19,7 +19,7 @@ fn rewrite(
     commands: &str,
 ) -> Result<Option<RewriteStop>, Fail> {
     let value = Value::from_str(alloc, commands)?;
-    let Some(files) = commands_of_files(alloc, &value)? else {
+    let Some(files) = commands_of_files(alloc, Grammar::Whole, &value)? else {
         return Err(Fail::new("no file of commands"));
     };
     let mut rewrites = Vec::new(alloc);
@@ -121,5 +121,22 @@ fn a_reason_is_the_first_difference(rt: HostRuntime) -> Result<(), Fail> {
     let expected = "1:10: command 0 is refused: Unfaithful: bytes 9..14 of the new text are \
         BIN_EXPR, but read as LITERAL";
     assert!(rt; text.as_str() == expected);
+    Ok(())
+}
+
+/// A commit of `a.rs` that names a node which only the whole language has.
+const OF_WHOLE: &str = "{\"a.rs\":[{\"do\":\"commit\",\"changes\":\
+    [{\"op\":\"delete\",\"at\":[\"UNION\",0,16]}]}]}";
+
+#[test]
+fn a_kind_of_the_whole_language_is_named_there_alone(rt: HostRuntime) -> Result<(), Fail> {
+    let alloc = rt.alloc();
+    let mut memory = Memory::new(alloc);
+    memory.add(alloc, "a.rs", b"union U { a: u }")?;
+    let stop = rewrite(alloc, &mut memory, CommitRule::WithoutMessages, OF_WHOLE)?;
+    assert!(rt; stop.is_none());
+    assert!(rt; memory.read(alloc, "a.rs")?.bytes.is_empty());
+    let value = Value::from_str(alloc, OF_WHOLE)?;
+    assert!(rt; commands_of_files(alloc, Grammar::Profile, &value)?.is_none());
     Ok(())
 }

@@ -10,7 +10,7 @@ use source_tools::Dialect;
 #[derive(Clone, Copy)]
 pub(crate) struct DialectOptions {
     edition: Option<Edition>,
-    grammar: Grammar,
+    pub(crate) grammar: Grammar,
 }
 
 impl DialectOptions {

@@ -18,10 +18,9 @@ use std::alloc::AllocError;
 /// Returns the rewrites of the files, each read as its own Rust.
 fn rewrites_of<'a>(
     rt: &HostRuntime,
-    matches: &ArgMatches<'_>,
+    options: DialectOptions,
     files: Vec<FileCommands<'a>>,
 ) -> Result<Vec<Rewrite<'a>>, AllocError> {
-    let options = DialectOptions::new(matches);
     let mut rewrites = Vec::new(rt.alloc());
     for file in files {
         let dialect = options.dialect(rt, file.path);
@@ -98,9 +97,10 @@ pub(crate) fn rewrite(rt: &HostRuntime, matches: &ArgMatches<'_>) -> Result<u8> 
         Ok(value) => value,
         Err(error) => return Err(anyhow!("{path}: {error}")),
     };
-    let Some(files) = commands_of_files(rt.alloc(), &value)? else {
+    let options = DialectOptions::new(matches);
+    let Some(files) = commands_of_files(rt.alloc(), options.grammar, &value)? else {
         return Err(anyhow!("{path}: is no object of lists of commands"));
     };
-    let rewrites = rewrites_of(rt, matches, files)?;
+    let rewrites = rewrites_of(rt, options, files)?;
     run_rewrites(rt, matches, rewrites.as_slice())
 }

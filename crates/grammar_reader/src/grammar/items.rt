@@ -127,7 +127,7 @@ pub(crate) fn attributes_and_visibility(p: &mut Parser<'_>)
 /// `true` if it has some.
 // fn f() {}
 #[cycle(grammar)]
-fn body(p: &mut Parser<'_>, item: Marker, given: bool, condition: bool)
+pub(crate) fn body(p: &mut Parser<'_>, item: Marker, given: bool, condition: bool)
     requires some { given ≡ false → 1 ≤ tokens p.old }
     requires innermost { IsInnermost item p.old.nodes }
     ensures completes { CompletesWhere given condition (rule rules.body) p.old p.new }

@@ -3,37 +3,41 @@
 ghost use Rattle.std.specs.Prelude.{◌≤◌, ◌<◌, ◌+◌, Bool, IsTrue, true, false};
 ghost use Rattle.parser_events.specs.Stack.{IsInnermost};
 ghost use Rattle.rust_grammar.specs.Calls.{BlockLike};
-ghost use Rattle.rust_grammar.specs.Notation.{◌▸◌, ⁅◌⁆, ◌before◌, more, wide};
+ghost use Rattle.rust_grammar.specs.Notation.{◌▸◌, ⁅◌⁆, ◌before◌, lead, more, wide};
 ghost use Rattle.rust_grammar.specs.Rule as rules;
 ghost use Rattle.rust_grammar.specs.Expressions.{goes_on};
 ghost use Rattle.rust_grammar.specs.Words.{'#', '!'};
+ghost use Rattle.rust_grammar.specs.Shared.{attributed};
 ghost use Rattle.rust_grammar.specs.Statements as rows;
 ghost use Rattle.grammar_reader.specs.Told.{after_block_of, listing_of};
 ghost use Rattle.rust_productions.specs.Looks.{tokens, spent, Takes, Asks, Peeks, AsksIn};
-ghost use Rattle.rust_productions.specs.Reads.{looks, Anew, Gives, Reads, Saw};
+ghost use Rattle.rust_productions.specs.Reads.{looks, Anew, CompletesWhere, Gives, Reads, Saw};
 ghost use Rattle.rust_productions.specs.Starts.{Starts, StartsIn};
 
 use crate::grammar::attributes::attribute;
 use crate::grammar::expressions::atom::after_path;
 use crate::grammar::expressions::closures::opt_type;
 use crate::grammar::expressions::control::block_like;
-use crate::grammar::expressions::operand::{postfix, postfixes};
+use crate::grammar::expressions::operand::{extended_operand, postfix, postfixes};
 use crate::grammar::expressions::{after_operand, expression};
 use crate::grammar::items::consts::opt_value;
-use crate::grammar::items::item;
+use crate::grammar::items::{attributes, body, item};
 use crate::grammar::list_end::{ListEnd, at_end_of};
 use crate::grammar::parts::{Part, expect_part};
 use crate::grammar::paths::{Mode, path_with_args};
 use parser_events::message::Message;
 use parser_events::parser::{Marker, Parser};
 use parser_input::syntax_kind::SyntaxKind;
-use rust_productions::grammar::expressions::{at_block_like, at_expression};
+use rust_productions::grammar::expressions::{at_block_like, at_expression, at_operand};
 use rust_productions::grammar::match_arms::{at_braced_macro, at_long_path};
-use rust_productions::grammar::statements::{at_new_statement, at_profile_item, at_super_let};
+use rust_productions::grammar::statements::{
+    at_item_after_attributes, at_new_statement, at_profile_item, at_super_let,
+};
 use rust_productions::grammar::token_trees::token_tree;
+use rust_productions::grammar::visibility::opt_visibility;
 use rust_productions::grammar::{
-    abandon, at, at_pair, at_second, at_whole, complete, current, error, expect, skip, start, take,
-    wrap,
+    abandon, at, at_pair, at_second, at_whole, complete, current, error, expect, extend_left, skip,
+    start, take, wrap,
 };
 
 /// Parses a statement of a list.
@@ -87,6 +91,10 @@ fn new_statement(p: &mut Parser<'_>, end: ListEnd)
     ensures anew { Anew false (rows.new_statement (listing_of end)) p.old p.new }
     ensures takes { Takes 2880 p.old p.new }
 {
+    if at(p, SyntaxKind::POUND) {
+        attributed_statement(p, end);
+        return;
+    }
     if at_long_path(p) {
         long_path_statement(p, end);
         return;
@@ -96,6 +104,82 @@ fn new_statement(p: &mut Parser<'_>, end: ListEnd)
         return;
     }
     item(p, false);
+}
+
+/// Parses a statement with the attributes before it.
+// #[a] b.c();
+#[cycle(grammar)]
+fn attributed_statement(p: &mut Parser<'_>, end: ListEnd)
+    requires some { 1 ≤ tokens p.old }
+    ensures anew { Anew false (attributed (rows.after_attributes (listing_of end))) p.old p.new }
+    ensures takes { Takes 3900 p.old p.new }
+{
+    let frame = start(p);
+    attribute(p);
+    attributes(p);
+    after_attributes(p, frame, end);
+}
+
+/// Parses a statement after its attributes. They become the first children of a `let` or an item,
+/// and of the outermost node of an expression's first operand.
+// b.c();
+#[cycle(grammar)]
+fn after_attributes(p: &mut Parser<'_>, frame: Marker, end: ListEnd)
+    requires innermost { IsInnermost frame p.old.nodes }
+    ensures completes { CompletesWhere true false
+        (rows.after_attributes (listing_of end)) p.old p.new }
+    ensures asks { Asks 90 p.old p.new }
+{
+    if at(p, SyntaxKind::LET_KW) {
+        let_rest(p);
+        complete(p, frame, SyntaxKind::LET_STMT);
+        return;
+    }
+    if at_item_after_attributes(p) {
+        opt_visibility(p);
+        body(p, frame, true, false);
+        return;
+    }
+    if at_block_like(p) {
+        extended_block(p);
+        let rest = after_block(p, frame, end);
+        abandon(p, rest);
+        return;
+    }
+    if at_operand(p, false) {
+        extended_operand(p, false);
+        let frame = operators_and_end(p, frame, end);
+        abandon(p, frame);
+        return;
+    }
+    body(p, frame, true, false);
+}
+
+/// Parses an expression that ends in a block. What the innermost node has so far becomes its first
+/// children.
+// if a { b }
+#[cycle(grammar)]
+fn extended_block(p: &mut Parser<'_>)
+    requires begins { (c : Bool) → Saw c (looks rules.block_like) p.old true }
+    requires some { 1 ≤ tokens p.old }
+    ensures reads { (c : Bool) → Reads c (lead BlockLike) p.old p.new }
+    ensures takes { Takes 2890 p.old p.new }
+{
+    let inner = start(p);
+    block_like(p);
+    extend_left(p, inner);
+}
+
+/// Parses the operators after the first operand of a statement, and the statement's end.
+// + c;
+#[cycle(grammar)]
+fn operators_and_end(p: &mut Parser<'_>, frame: Marker, end: ListEnd) -> Marker
+    requires innermost { IsInnermost frame p.old.nodes }
+    ensures reads { Reads false (rows.operators_and_end (listing_of end)) p.old p.new }
+    ensures asks { AsksIn result 14 p.old p.new }
+{
+    let frame = after_operand(p, frame, false);
+    statement_end(p, frame, end)
 }
 
 /// Parses a statement that starts with a path of several segments.
@@ -130,8 +214,7 @@ fn path_tail(p: &mut Parser<'_>, frame: Marker, end: ListEnd) -> Marker
     }
     let frame = after_path(p, frame, false);
     let frame = postfixes(p, frame);
-    let frame = after_operand(p, frame, false);
-    statement_end(p, frame, end)
+    operators_and_end(p, frame, end)
 }
 
 /// Parses a `let` statement after `super`.

@@ -144,6 +144,12 @@ pub fn at_operand(p: &mut Parser<'_>, condition: bool) -> bool
             }
             false
         }
+        SyntaxKind::POUND => {
+            if at_whole(p) {
+                return true;
+            }
+            false
+        }
         _ => false,
     }
 }

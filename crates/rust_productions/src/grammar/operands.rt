@@ -29,12 +29,12 @@ pub fn at_raw(p: &mut Parser<'_>) -> bool
     }
 }
 
-/// Returns `true` if an operand starts here that only the whole language has: a raw reference, or a
-/// range without a start.
+/// Returns `true` if an operand starts here that only the whole language has: a raw reference, one
+/// after attributes, or a range without a start.
 pub fn at_new_operand(p: &mut Parser<'_>) -> bool
     ensures sees { (c : Bool) → Saw c (wide rows.new_operand_begins) p.old result }
-    ensures some { IsTrue result → 2 ≤ tokens p.old }
-    ensures peeks { Peeks 4 p.old p.new }
+    ensures some { IsTrue result → 1 ≤ tokens p.old }
+    ensures peeks { Peeks 5 p.old p.new }
 {
     if !at_whole(p) {
         return false;
@@ -42,13 +42,10 @@ pub fn at_new_operand(p: &mut Parser<'_>) -> bool
     if at_raw(p) {
         return true;
     }
-    if !at(p, SyntaxKind::DOT) {
-        return false;
+    if at(p, SyntaxKind::POUND) {
+        return true;
     }
-    if !at_joint(p) {
-        return false;
-    }
-    if at_second(p, SyntaxKind::DOT) {
+    if at_new_mark(p) {
         return true;
     }
     false
@@ -57,6 +54,7 @@ pub fn at_new_operand(p: &mut Parser<'_>) -> bool
 /// Returns `true` if a range operator is next that begins an operand, in the whole language.
 pub(crate) fn at_new_mark(p: &mut Parser<'_>) -> bool
     ensures sees { (c : Bool) → Saw c (wide rows.mark_begins) p.old result }
+    ensures some { IsTrue result → 1 ≤ tokens p.old }
     ensures peeks { Peeks 2 p.old p.new }
 {
     if !at_whole(p) {

@@ -119,6 +119,27 @@ fn at_no_item(p: &mut Parser<'_>) -> bool
     }
 }
 
+/// Returns `true` if an item starts here, among statements of the whole language.
+fn at_any_item(p: &mut Parser<'_>) -> bool
+    ensures sees { (c : Bool) → Saw c (wide rows.any_item_begins) p.old result }
+    ensures some { IsTrue result → 1 ≤ tokens p.old }
+    ensures peeks { Peeks 24 p.old p.new }
+{
+    if !at_whole(p) {
+        return false;
+    }
+    if at_no_item(p) {
+        return false;
+    }
+    if at_item(p) {
+        return true;
+    }
+    if at_new_item(p) {
+        return true;
+    }
+    false
+}
+
 /// Returns `true` if a statement starts here that only the whole language has, or an item there.
 pub fn at_new_statement(p: &mut Parser<'_>) -> bool
     ensures sees { (c : Bool) → Saw c (wide rows.new_statement_begins) p.old result }
@@ -134,13 +155,26 @@ pub fn at_new_statement(p: &mut Parser<'_>) -> bool
     if at_super_let(p) {
         return true;
     }
-    if at_no_item(p) {
-        return false;
-    }
-    if at_item(p) {
+    if at_any_item(p) {
         return true;
     }
-    if at_new_item(p) {
+    false
+}
+
+/// Returns `true` if an item starts here after attributes, among statements of the whole language.
+// pub fn
+pub fn at_item_after_attributes(p: &mut Parser<'_>) -> bool
+    ensures sees { (c : Bool) → Saw c (wide rows.item_after_attributes_begins) p.old result }
+    ensures some { IsTrue result → 1 ≤ tokens p.old }
+    ensures peeks { Peeks 30 p.old p.new }
+{
+    if !at_whole(p) {
+        return false;
+    }
+    if at(p, SyntaxKind::POUND) {
+        return false;
+    }
+    if at_any_item(p) {
         return true;
     }
     false

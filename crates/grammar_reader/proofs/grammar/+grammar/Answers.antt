@@ -3056,9 +3056,6 @@ expressions::operand::raw_ref_expr-returns-clause-reads = operand.expressions::o
 pub expressions::operand::raw_ref_expr-complete-requires : goal.expressions::operand::raw_ref_expr-complete-requires
 expressions::operand::raw_ref_expr-complete-requires = operand.expressions::operand::raw_ref_expr-complete-requires
 
-pub expressions::operand::new_operand-returns-then-at_raw-clause-reads : goal.expressions::operand::new_operand-returns-then-at_raw-clause-reads
-expressions::operand::new_operand-returns-then-at_raw-clause-reads = operand.expressions::operand::new_operand-returns-then-at_raw-clause-reads
-
 pub fields::attributed_value-value_after_attributes-requires : goal.fields::attributed_value-value_after_attributes-requires
 fields::attributed_value-value_after_attributes-requires = fields.fields::attributed_value-value_after_attributes-requires
 
@@ -3380,9 +3377,6 @@ expressions::closures::closure_param-returns-clause-reads = atom.expressions::cl
 pub expressions::match_arm::match_arm-returns-clause-gives : goal.expressions::match_arm::match_arm-returns-clause-gives
 expressions::match_arm::match_arm-returns-clause-gives = match_arm.expressions::match_arm::match_arm-returns-clause-gives
 
-pub expressions::operand::new_operand-returns-clause-reads : goal.expressions::operand::new_operand-returns-clause-reads
-expressions::operand::new_operand-returns-clause-reads = operand.expressions::operand::new_operand-returns-clause-reads
-
 pub fields::field_value-returns-then-at_pair-clause-gives : goal.fields::field_value-returns-then-at_pair-clause-gives
 fields::field_value-returns-then-at_pair-clause-gives = fields.fields::field_value-returns-then-at_pair-clause-gives
 
@@ -3506,12 +3500,6 @@ statements::path_tail-after_path-frame-requires = statements.statements::path_ta
 pub statements::path_tail-postfixes-frame-requires : goal.statements::path_tail-postfixes-frame-requires
 statements::path_tail-postfixes-frame-requires = statements.statements::path_tail-postfixes-frame-requires
 
-pub statements::path_tail-after_operand-frame-requires : goal.statements::path_tail-after_operand-frame-requires
-statements::path_tail-after_operand-frame-requires = statements.statements::path_tail-after_operand-frame-requires
-
-pub statements::path_tail-statement_end-requires : goal.statements::path_tail-statement_end-requires
-statements::path_tail-statement_end-requires = statements.statements::path_tail-statement_end-requires
-
 pub statements::super_let-returns-clause-reads : goal.statements::super_let-returns-clause-reads
 statements::super_let-returns-clause-reads = statements.statements::super_let-returns-clause-reads
 
@@ -3559,3 +3547,120 @@ statements::opt_operators-returns-clause-reads = statements.statements::opt_oper
 
 pub statements::opt_operators-returns-clause-asks : goal.statements::opt_operators-returns-clause-asks
 statements::opt_operators-returns-clause-asks = statements.statements::opt_operators-returns-clause-asks
+
+pub expressions::operand::new_operand-returns-then-at_raw-clause-anew : goal.expressions::operand::new_operand-returns-then-at_raw-clause-anew
+expressions::operand::new_operand-returns-then-at_raw-clause-anew = operand.expressions::operand::new_operand-returns-then-at_raw-clause-anew
+
+pub expressions::operand::new_operand-attributed_operand-requires : goal.expressions::operand::new_operand-attributed_operand-requires
+expressions::operand::new_operand-attributed_operand-requires = operand.expressions::operand::new_operand-attributed_operand-requires
+
+pub expressions::operand::new_operand-returns-then-at-clause-anew : goal.expressions::operand::new_operand-returns-then-at-clause-anew
+expressions::operand::new_operand-returns-then-at-clause-anew = operand.expressions::operand::new_operand-returns-then-at-clause-anew
+
+pub expressions::operand::new_operand-returns-clause-anew : goal.expressions::operand::new_operand-returns-clause-anew
+expressions::operand::new_operand-returns-clause-anew = operand.expressions::operand::new_operand-returns-clause-anew
+
+pub expressions::operand::attributed_operand-operand_after_attributes-requires : goal.expressions::operand::attributed_operand-operand_after_attributes-requires
+expressions::operand::attributed_operand-operand_after_attributes-requires = operand.expressions::operand::attributed_operand-operand_after_attributes-requires
+
+pub expressions::operand::attributed_operand-returns-clause-anew : goal.expressions::operand::attributed_operand-returns-clause-anew
+expressions::operand::attributed_operand-returns-clause-anew = operand.expressions::operand::attributed_operand-returns-clause-anew
+
+pub expressions::operand::operand_after_attributes-extended_operand-requires : goal.expressions::operand::operand_after_attributes-extended_operand-requires
+expressions::operand::operand_after_attributes-extended_operand-requires = operand.expressions::operand::operand_after_attributes-extended_operand-requires
+
+pub expressions::operand::operand_after_attributes-abandon-requires : goal.expressions::operand::operand_after_attributes-abandon-requires
+expressions::operand::operand_after_attributes-abandon-requires = operand.expressions::operand::operand_after_attributes-abandon-requires
+
+pub expressions::operand::operand_after_attributes-complete-requires : goal.expressions::operand::operand_after_attributes-complete-requires
+expressions::operand::operand_after_attributes-complete-requires = operand.expressions::operand::operand_after_attributes-complete-requires
+
+pub expressions::operand::operand_after_attributes-returns-then-at_operand-clause-completes : goal.expressions::operand::operand_after_attributes-returns-then-at_operand-clause-completes
+expressions::operand::operand_after_attributes-returns-then-at_operand-clause-completes = operand.expressions::operand::operand_after_attributes-returns-then-at_operand-clause-completes
+
+pub expressions::operand::operand_after_attributes-returns-clause-completes : goal.expressions::operand::operand_after_attributes-returns-clause-completes
+expressions::operand::operand_after_attributes-returns-clause-completes = operand.expressions::operand::operand_after_attributes-returns-clause-completes
+
+pub expressions::operand::extended_operand-prefixed-requires : goal.expressions::operand::extended_operand-prefixed-requires
+expressions::operand::extended_operand-prefixed-requires = operand.expressions::operand::extended_operand-prefixed-requires
+
+pub expressions::operand::extended_operand-extend_left-requires : goal.expressions::operand::extended_operand-extend_left-requires
+expressions::operand::extended_operand-extend_left-requires = operand.expressions::operand::extended_operand-extend_left-requires
+
+pub expressions::operand::extended_operand-returns-clause-reads : goal.expressions::operand::extended_operand-returns-clause-reads
+expressions::operand::extended_operand-returns-clause-reads = operand.expressions::operand::extended_operand-returns-clause-reads
+
+pub statements::new_statement-attributed_statement-requires : goal.statements::new_statement-attributed_statement-requires
+statements::new_statement-attributed_statement-requires = statements.statements::new_statement-attributed_statement-requires
+
+pub statements::new_statement-returns-then-at-clause-anew : goal.statements::new_statement-returns-then-at-clause-anew
+statements::new_statement-returns-then-at-clause-anew = statements.statements::new_statement-returns-then-at-clause-anew
+
+pub statements::path_tail-operators_and_end-requires : goal.statements::path_tail-operators_and_end-requires
+statements::path_tail-operators_and_end-requires = statements.statements::path_tail-operators_and_end-requires
+
+pub statements::operators_and_end-after_operand-frame-requires : goal.statements::operators_and_end-after_operand-frame-requires
+statements::operators_and_end-after_operand-frame-requires = statements.statements::operators_and_end-after_operand-frame-requires
+
+pub statements::operators_and_end-statement_end-requires : goal.statements::operators_and_end-statement_end-requires
+statements::operators_and_end-statement_end-requires = statements.statements::operators_and_end-statement_end-requires
+
+pub statements::operators_and_end-returns-clause-reads : goal.statements::operators_and_end-returns-clause-reads
+statements::operators_and_end-returns-clause-reads = statements.statements::operators_and_end-returns-clause-reads
+
+pub statements::attributed_statement-after_attributes-requires : goal.statements::attributed_statement-after_attributes-requires
+statements::attributed_statement-after_attributes-requires = statements.statements::attributed_statement-after_attributes-requires
+
+pub statements::attributed_statement-returns-clause-anew : goal.statements::attributed_statement-returns-clause-anew
+statements::attributed_statement-returns-clause-anew = statements.statements::attributed_statement-returns-clause-anew
+
+pub statements::after_attributes-complete-requires : goal.statements::after_attributes-complete-requires
+statements::after_attributes-complete-requires = statements.statements::after_attributes-complete-requires
+
+pub statements::after_attributes-returns-then-at-clause-completes : goal.statements::after_attributes-returns-then-at-clause-completes
+statements::after_attributes-returns-then-at-clause-completes = statements.statements::after_attributes-returns-then-at-clause-completes
+
+pub statements::after_attributes-body-requires : goal.statements::after_attributes-body-requires
+statements::after_attributes-body-requires = statements.statements::after_attributes-body-requires
+
+pub statements::after_attributes-returns-then-at_item_after_attributes-clause-completes : goal.statements::after_attributes-returns-then-at_item_after_attributes-clause-completes
+statements::after_attributes-returns-then-at_item_after_attributes-clause-completes = statements.statements::after_attributes-returns-then-at_item_after_attributes-clause-completes
+
+pub statements::after_attributes-extended_block-requires : goal.statements::after_attributes-extended_block-requires
+statements::after_attributes-extended_block-requires = statements.statements::after_attributes-extended_block-requires
+
+pub statements::after_attributes-after_block-rest-requires : goal.statements::after_attributes-after_block-rest-requires
+statements::after_attributes-after_block-rest-requires = statements.statements::after_attributes-after_block-rest-requires
+
+pub statements::after_attributes-abandon-requires : goal.statements::after_attributes-abandon-requires
+statements::after_attributes-abandon-requires = statements.statements::after_attributes-abandon-requires
+
+pub statements::after_attributes-returns-then-at_block_like-clause-completes : goal.statements::after_attributes-returns-then-at_block_like-clause-completes
+statements::after_attributes-returns-then-at_block_like-clause-completes = statements.statements::after_attributes-returns-then-at_block_like-clause-completes
+
+pub statements::after_attributes-extended_operand-requires : goal.statements::after_attributes-extended_operand-requires
+statements::after_attributes-extended_operand-requires = statements.statements::after_attributes-extended_operand-requires
+
+pub statements::after_attributes-operators_and_end-frame-requires : goal.statements::after_attributes-operators_and_end-frame-requires
+statements::after_attributes-operators_and_end-frame-requires = statements.statements::after_attributes-operators_and_end-frame-requires
+
+pub statements::after_attributes-abandon-requires-then-at_operand : goal.statements::after_attributes-abandon-requires-then-at_operand
+statements::after_attributes-abandon-requires-then-at_operand = statements.statements::after_attributes-abandon-requires-then-at_operand
+
+pub statements::after_attributes-returns-then-at_operand-clause-completes : goal.statements::after_attributes-returns-then-at_operand-clause-completes
+statements::after_attributes-returns-then-at_operand-clause-completes = statements.statements::after_attributes-returns-then-at_operand-clause-completes
+
+pub statements::after_attributes-body-requires-2 : goal.statements::after_attributes-body-requires-2
+statements::after_attributes-body-requires-2 = statements.statements::after_attributes-body-requires-2
+
+pub statements::after_attributes-returns-clause-completes : goal.statements::after_attributes-returns-clause-completes
+statements::after_attributes-returns-clause-completes = statements.statements::after_attributes-returns-clause-completes
+
+pub statements::extended_block-block_like-requires : goal.statements::extended_block-block_like-requires
+statements::extended_block-block_like-requires = statements.statements::extended_block-block_like-requires
+
+pub statements::extended_block-extend_left-requires : goal.statements::extended_block-extend_left-requires
+statements::extended_block-extend_left-requires = statements.statements::extended_block-extend_left-requires
+
+pub statements::extended_block-returns-clause-reads : goal.statements::extended_block-returns-clause-reads
+statements::extended_block-returns-clause-reads = statements.statements::extended_block-returns-clause-reads

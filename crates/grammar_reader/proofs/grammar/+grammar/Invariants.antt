@@ -1148,3 +1148,24 @@ decreases-statements::let_rest l = 512 * tokens l.p.now
 
 abbrev pub decreases-statements::opt_operators : goal.decreases-statements::opt_operators
 decreases-statements::opt_operators l = 512 * tokens l.p.now + 4
+
+abbrev pub decreases-expressions::operand::attributed_operand : goal.decreases-expressions::operand::attributed_operand
+decreases-expressions::operand::attributed_operand l = 512 * tokens l.p.now + 1
+
+abbrev pub decreases-expressions::operand::operand_after_attributes : goal.decreases-expressions::operand::operand_after_attributes
+decreases-expressions::operand::operand_after_attributes l = 512 * tokens l.p.now + 35
+
+abbrev pub decreases-expressions::operand::extended_operand : goal.decreases-expressions::operand::extended_operand
+decreases-expressions::operand::extended_operand l = 512 * tokens l.p.now + 34
+
+abbrev pub decreases-statements::attributed_statement : goal.decreases-statements::attributed_statement
+decreases-statements::attributed_statement l = 512 * tokens l.p.now + 2
+
+abbrev pub decreases-statements::after_attributes : goal.decreases-statements::after_attributes
+decreases-statements::after_attributes l = 512 * tokens l.p.now + 35
+
+abbrev pub decreases-statements::extended_block : goal.decreases-statements::extended_block
+decreases-statements::extended_block l = 512 * tokens l.p.now + 6
+
+abbrev pub decreases-statements::operators_and_end : goal.decreases-statements::operators_and_end
+decreases-statements::operators_and_end l = 512 * tokens l.p.now + 4

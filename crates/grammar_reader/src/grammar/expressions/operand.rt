@@ -5,29 +5,33 @@ ghost use Rattle.parser_input.specs.Kind.{raw_of};
 ghost use Rattle.parser_input.specs.Kinds.{FLOAT_NUMBER, PREFIX_EXPR};
 ghost use Rattle.parser_events.specs.Stack.{IsInnermost};
 ghost use Rattle.rust_grammar.specs.Calls.{Prefixed};
-ghost use Rattle.rust_grammar.specs.Notation.{◌▸◌, ◌*, ◌!, ◌⟨◌⟩, more, wide};
+ghost use Rattle.rust_grammar.specs.Notation.{◌▸◌, ◌*, ◌!, ◌⟨◌⟩, lead, more, wide};
 ghost use Rattle.rust_grammar.specs.Rule as rules;
 ghost use Rattle.rust_grammar.specs.Rule.{Kind, One, Split};
 ghost use Rattle.rust_grammar.specs.Words.{one};
 ghost use Rattle.rust_grammar.specs.Expressions as rows;
-ghost use Rattle.rust_productions.specs.Looks.{tokens, Takes, Peeks, TakesIn, TakesOneIn, AsksIn};
-ghost use Rattle.rust_productions.specs.Reads.{looks, Anew, Gives, Reads, Saw};
-ghost use Rattle.rust_productions.specs.Starts.{Starts};
+ghost use Rattle.rust_grammar.specs.Shared.{attributed};
+ghost use Rattle.rust_productions.specs.Looks.{tokens, Asks, Takes, Peeks, TakesIn, TakesOneIn, AsksIn};
+ghost use Rattle.rust_productions.specs.Reads.{looks, Anew, Completes, Gives, Reads, Saw};
+ghost use Rattle.rust_productions.specs.Starts.{Starts, StartsIn};
 ghost use Rattle.grammar_reader.specs.Next.{IsFloat};
 
+use crate::grammar::attributes::attribute;
 use crate::grammar::expressions::atom::inside;
 use crate::grammar::expressions::{Level, expect_expression, open_range};
+use crate::grammar::items::attributes;
 use crate::grammar::lists::{ListKind, list};
 use crate::grammar::parts::{Part, expect_part, opt_part};
 use crate::grammar::types::word_type;
 use parser_events::message::Message;
 use parser_events::parser::{Marker, Parser};
 use parser_input::syntax_kind::SyntaxKind;
+use rust_productions::grammar::expressions::at_operand;
 use rust_productions::grammar::operands::{at_new_operand, at_raw, opt_mut_or_const};
 use rust_productions::grammar::operators::at_joint;
 use rust_productions::grammar::{
     abandon, at, at_new, at_pair, at_pair_after, at_second, complete, current, eat, error, expect,
-    start, take, take_contextual, wrap,
+    extend_left, start, take, take_contextual, wrap,
 };
 
 /// Parses an operand with its prefix operators.
@@ -87,19 +91,69 @@ fn ref_expr(p: &mut Parser<'_>, condition: bool)
     complete(p, node, SyntaxKind::REF_EXPR);
 }
 
-/// Parses an operand that only the whole language has: a raw reference, or a range without a start.
+/// Parses an operand that only the whole language has: a raw reference, one after attributes, or a
+/// range without a start.
 // &raw mut a
 #[cycle(grammar)]
 fn new_operand(p: &mut Parser<'_>, condition: bool)
     requires begins { Starts (wide rows.new_operand_begins) p.old }
-    ensures reads { Reads condition rows.new_operand p.old p.new }
+    ensures anew { Anew condition rows.new_operand p.old p.new }
     ensures takes { Takes 3200 p.old p.new }
 {
     if at_raw(p) {
         raw_ref_expr(p, condition);
         return;
     }
+    if at(p, SyntaxKind::POUND) {
+        attributed_operand(p, condition);
+        return;
+    }
     open_range(p, condition);
+}
+
+/// Parses an operand with the attributes before it.
+// #[a] b.c
+#[cycle(grammar)]
+fn attributed_operand(p: &mut Parser<'_>, condition: bool)
+    requires some { 1 ≤ tokens p.old }
+    ensures anew { Anew condition (attributed rows.operand_after_attributes) p.old p.new }
+    ensures takes { Takes 4000 p.old p.new }
+{
+    let frame = start(p);
+    attribute(p);
+    attributes(p);
+    operand_after_attributes(p, frame, condition);
+}
+
+/// Parses an operand after its attributes, which become its first children; emits an error if there
+/// is none.
+// b.c
+#[cycle(grammar)]
+fn operand_after_attributes(p: &mut Parser<'_>, frame: Marker, condition: bool)
+    requires innermost { IsInnermost frame p.old.nodes }
+    ensures completes { Completes condition rows.operand_after_attributes p.old p.new }
+    ensures asks { Asks 16 p.old p.new }
+{
+    if at_operand(p, condition) {
+        extended_operand(p, condition);
+        abandon(p, frame);
+        return;
+    }
+    error(p, Message::ExpectedExpression);
+    complete(p, frame, SyntaxKind::ERROR);
+}
+
+/// Parses an operand. What the innermost node has so far becomes its first children.
+// a.b
+#[cycle(grammar)]
+pub(crate) fn extended_operand(p: &mut Parser<'_>, condition: bool)
+    requires begins { StartsIn condition (looks rules.prefixed) p.old }
+    ensures reads { Reads condition (lead Prefixed) p.old p.new }
+    ensures takes { Takes 2870 p.old p.new }
+{
+    let inner = start(p);
+    prefixed(p, condition);
+    extend_left(p, inner);
 }
 
 /// Parses a raw reference.

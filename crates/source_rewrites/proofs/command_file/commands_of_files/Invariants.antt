@@ -7,4 +7,4 @@ use Rattle.source_rewrites.proofs.command_file.commands_of_files.Given as goal
 -- the files so far and those in what is left are all of them
 abbrev pub invariant-loop-path : goal.invariant-loop-path
 invariant-loop-path l =
-    option_map (λ files. map asked l.files.items ++ files) (asked_in (members_view l.path-iterator)) ≡ asked_of (view l.value)
+    option_map (λ files. map asked l.files.items ++ files) (asked_in l.grammar (members_view l.path-iterator)) ≡ asked_of l.grammar (view l.value)

@@ -16,9 +16,10 @@ use Rattle.rust_grammar.specs.Types.{types}
 use Rattle.rust_grammar.specs.Whole.{rule, whole}
 use Rattle.grammar_reader.proofs.Operands.{anew-first}
 use Rattle.rust_productions.specs.Looks.{tokens}
-use Rattle.rust_productions.proofs.ByHand.{after-look, completes-leave, goes, reads-call, reads-mode, reads-more, reads-node, reads-then, reads-wrap}
-use Rattle.rust_productions.proofs.Choices.{anew-after, anew-here, anew-look, gives-anew, reads-here}
-use Rattle.rust_productions.proofs.Facts.{nothing, saw-so, ◌and◌}
+use Rattle.rust_productions.proofs.ByHand.{after-look, completes-leave, completes-look, completes-then, completes-wrap, goes, reads-call, reads-mode, reads-more, reads-node, reads-then, reads-wrap}
+use Rattle.rust_productions.proofs.Choices.{anew-after, anew-completes, anew-here, anew-look, completes-here, gives-anew, reads-here}
+use Rattle.rust_productions.proofs.Facts.{begun, nothing, saw-so, ◌and◌}
+use Rattle.rust_productions.proofs.Leading.{operand-rooted, reads-lead}
 use Rattle.rust_productions.proofs.Looking.{saw-arm, saw-not}
 use Rattle.rust_productions.proofs.Seen.{begins-else, ends-at-end, saw-after, saw-before, saw-inside, saw-else}
 use Rattle.rust_productions.proofs.Turns.{last-turn, next-turn}
@@ -115,10 +116,6 @@ expressions::operand::raw_ref_expr-returns-clause-reads t c = reads-node c.args.
 pub expressions::operand::raw_ref_expr-complete-requires : goal.expressions::operand::raw_ref_expr-complete-requires
 expressions::operand::raw_ref_expr-complete-requires t c = c.expect_expression.ensures.reads.does.innermost _ ((c.opt_mut_or_const.ensures.reads true).does.innermost _ ((c.take_contextual.ensures.reads true).does.innermost _ ((c.take.ensures.reads true).does.innermost _ (c.start-node.ensures.marker))))
 
-pub expressions::operand::new_operand-returns-then-at_raw-clause-reads : goal.expressions::operand::new_operand-returns-then-at_raw-clause-reads
-unfolding look_of begins_below whole rule items statements expressions patterns types paths there_at shift passes is_silent begins in_mode anew row one_of any_of no_longer longest is_longer
-expressions::operand::new_operand-returns-then-at_raw-clause-reads t c = reads-here (saw-so (c.at_raw.ensures.sees c.args.condition) c.if-at_raw.true and nothing) (after-look c.args.condition c.at_raw.ensures.peeks.same c.raw_ref_expr.ensures.reads)
-
 pub expressions::operand::after_dot-returns-then-at_method-clause-reads : goal.expressions::operand::after_dot-returns-then-at_method-clause-reads
 unfolding look_of begins_below whole rule items statements expressions patterns types paths there_at shift passes is_silent begins in_mode anew row one_of any_of no_longer longest is_longer
 expressions::operand::after_dot-returns-then-at_method-clause-reads t c = λ cond. reads-more cond (goes rules.after_dot cond (reads-here (saw-so (c.at_method.ensures.sees cond) c.if-at_method.true and nothing) (after-look cond c.at_method.ensures.peeks.same (reads-wrap cond (c.method_call.ensures.reads cond) c.wrap.ensures.wraps))))
@@ -175,7 +172,7 @@ expressions::operand::prefixed-returns-in-STAR-clause-gives t c = gives-anew (an
 
 pub expressions::operand::prefixed-returns-then-at_new_operand-clause-gives : goal.expressions::operand::prefixed-returns-then-at_new_operand-clause-gives
 unfolding look_of begins_below whole rule items statements expressions patterns types paths there_at shift passes is_silent begins in_mode anew row one_of any_of no_longer longest is_longer
-expressions::operand::prefixed-returns-then-at_new_operand-clause-gives t c = gives-anew (anew-here (saw-not c.in_default.not-MINUS (c.current.ensures.sees c.args.condition) and saw-not c.in_default.not-BANG (c.current.ensures.sees c.args.condition) and saw-not c.in_default.not-STAR (c.current.ensures.sees c.args.condition) and saw-before c.current.ensures.peeks.same (saw-so (c.at_new_operand.ensures.sees c.args.condition) c.if-at_new_operand.true) and nothing) (anew-look c.current.ensures.peeks.same (anew-look c.at_new_operand.ensures.peeks.same (anew-after refl c.new_operand.ensures.reads))))
+expressions::operand::prefixed-returns-then-at_new_operand-clause-gives t c = gives-anew (anew-here (saw-not c.in_default.not-MINUS (c.current.ensures.sees c.args.condition) and saw-not c.in_default.not-BANG (c.current.ensures.sees c.args.condition) and saw-not c.in_default.not-STAR (c.current.ensures.sees c.args.condition) and saw-before c.current.ensures.peeks.same (saw-so (c.at_new_operand.ensures.sees c.args.condition) c.if-at_new_operand.true) and nothing) (anew-look c.current.ensures.peeks.same (anew-look c.at_new_operand.ensures.peeks.same c.new_operand.ensures.anew)))
 
 pub expressions::operand::prefixed-returns-then-at-clause-gives : goal.expressions::operand::prefixed-returns-then-at-clause-gives
 unfolding look_of begins_below whole rule items statements expressions patterns types paths there_at shift passes is_silent begins in_mode anew row one_of any_of no_longer longest is_longer
@@ -188,14 +185,6 @@ expressions::operand::prefixed-operand-requires t c = (omega arith, (saw-after c
 pub expressions::operand::after_dot-float-requires : goal.expressions::operand::after_dot-float-requires
 expressions::operand::after_dot-float-requires t c = (omega arith, (record { sees = λ d. saw-after c.current.ensures.peeks.same (saw-arm c.in-FLOAT_NUMBER.is (c.current.ensures.sees d)); some = omega (arith, c.current.ensures.some (λ e. absurd (omega (arith, sym (ap (λ (k : SyntaxKind). raw_of k) c.in-FLOAT_NUMBER.is) ∙ e))), c.current.ensures.peeks.left) }, c.current.ensures.peeks.same.innermost _ (c.at_new.ensures.peeks.same.innermost _ (c.at_method.ensures.peeks.same.innermost _ c.requires.innermost))))
 
-pub expressions::operand::new_operand-open_range-requires : goal.expressions::operand::new_operand-open_range-requires
-unfolding look_of begins_below whole rule items statements expressions patterns types paths there_at shift passes is_silent begins in_mode anew row one_of any_of no_longer longest is_longer
-expressions::operand::new_operand-open_range-requires t c = (omega arith, record { sees = λ d. saw-after c.at_raw.ensures.peeks.same (saw-else mark_begins (wide new_operand_begins) (saw-so (c.at_raw.ensures.sees d) c.if-at_raw.false and nothing) (c.requires.begins.sees d) refl); some = omega (arith, c.requires.begins.some, c.at_raw.ensures.peeks.left) })
-
-pub expressions::operand::new_operand-returns-clause-reads : goal.expressions::operand::new_operand-returns-clause-reads
-unfolding look_of begins_below whole rule items statements expressions patterns types paths there_at shift passes is_silent begins in_mode anew row one_of any_of no_longer longest is_longer
-expressions::operand::new_operand-returns-clause-reads t c = reads-here (saw-so (c.at_raw.ensures.sees c.args.condition) c.if-at_raw.false and nothing) (after-look c.args.condition c.at_raw.ensures.peeks.same c.open_range.ensures.reads)
-
 pub expressions::operand::prefixed-returns-else-at : goal.expressions::operand::prefixed-returns-else-at
 unfolding look_of begins_below whole rule items statements expressions patterns types paths there_at shift passes is_silent begins in_mode anew row one_of any_of no_longer longest is_longer
 expressions::operand::prefixed-returns-else-at t c = record {
@@ -205,3 +194,54 @@ expressions::operand::prefixed-returns-else-at t c = record {
     looks = omega (arith, c.operand.ensures.takes.looks, c.at.ensures.peeks.looks, c.at_new_operand.ensures.peeks.looks, c.current.ensures.peeks.looks);
   };
 }
+
+pub expressions::operand::new_operand-returns-then-at_raw-clause-anew : goal.expressions::operand::new_operand-returns-then-at_raw-clause-anew
+unfolding look_of begins_below whole rule items statements expressions patterns types paths there_at shift passes is_silent begins in_mode anew row one_of any_of no_longer longest is_longer
+expressions::operand::new_operand-returns-then-at_raw-clause-anew t c = anew-here (saw-so (c.at_raw.ensures.sees c.args.condition) c.if-at_raw.true and nothing) (anew-look c.at_raw.ensures.peeks.same (anew-after refl c.raw_ref_expr.ensures.reads))
+
+pub expressions::operand::new_operand-attributed_operand-requires : goal.expressions::operand::new_operand-attributed_operand-requires
+expressions::operand::new_operand-attributed_operand-requires t c = (omega arith, omega (arith, c.requires.begins.some, c.at_raw.ensures.peeks.left, c.at.ensures.peeks.left))
+
+pub expressions::operand::new_operand-returns-then-at-clause-anew : goal.expressions::operand::new_operand-returns-then-at-clause-anew
+unfolding look_of begins_below whole rule items statements expressions patterns types paths there_at shift passes is_silent begins in_mode anew row one_of any_of no_longer longest is_longer
+expressions::operand::new_operand-returns-then-at-clause-anew t c = anew-here (saw-so (c.at_raw.ensures.sees c.args.condition) c.if-at_raw.false and saw-before c.at_raw.ensures.peeks.same (saw-so (c.at.ensures.sees c.args.condition) c.if-at.true) and nothing) (anew-look c.at_raw.ensures.peeks.same (anew-look c.at.ensures.peeks.same c.attributed_operand.ensures.anew))
+
+pub expressions::operand::new_operand-open_range-requires : goal.expressions::operand::new_operand-open_range-requires
+unfolding look_of begins_below whole rule items statements expressions patterns types paths there_at shift passes is_silent begins in_mode anew row one_of any_of no_longer longest is_longer
+expressions::operand::new_operand-open_range-requires t c = (omega arith, record { sees = λ d. saw-after c.at.ensures.peeks.same (saw-after c.at_raw.ensures.peeks.same (saw-else mark_begins (wide new_operand_begins) (saw-so (c.at_raw.ensures.sees d) c.if-at_raw.false and saw-before c.at_raw.ensures.peeks.same (saw-so (c.at.ensures.sees d) c.if-at.false) and nothing) (c.requires.begins.sees d) refl)); some = omega (arith, c.requires.begins.some, c.at_raw.ensures.peeks.left, c.at.ensures.peeks.left) })
+
+pub expressions::operand::new_operand-returns-clause-anew : goal.expressions::operand::new_operand-returns-clause-anew
+unfolding look_of begins_below whole rule items statements expressions patterns types paths there_at shift passes is_silent begins in_mode anew row one_of any_of no_longer longest is_longer
+expressions::operand::new_operand-returns-clause-anew t c = anew-here (saw-so (c.at_raw.ensures.sees c.args.condition) c.if-at_raw.false and saw-before c.at_raw.ensures.peeks.same (saw-so (c.at.ensures.sees c.args.condition) c.if-at.false) and nothing) (anew-look c.at_raw.ensures.peeks.same (anew-look c.at.ensures.peeks.same (anew-after refl c.open_range.ensures.reads)))
+
+pub expressions::operand::attributed_operand-operand_after_attributes-requires : goal.expressions::operand::attributed_operand-operand_after_attributes-requires
+expressions::operand::attributed_operand-operand_after_attributes-requires t c = (omega arith, (c.attributes.ensures.reads true).does.innermost _ ((c.attribute.ensures.gives true).does.innermost _ c.start-frame.ensures.marker))
+
+pub expressions::operand::attributed_operand-returns-clause-anew : goal.expressions::operand::attributed_operand-returns-clause-anew
+expressions::operand::attributed_operand-returns-clause-anew t c = anew-completes c.start-frame.ensures.opens (completes-then (reads-call c.args.condition (c.attribute.ensures.gives c.args.condition)) (completes-then (c.attributes.ensures.reads c.args.condition) c.operand_after_attributes.ensures.completes))
+
+pub expressions::operand::operand_after_attributes-extended_operand-requires : goal.expressions::operand::operand_after_attributes-extended_operand-requires
+expressions::operand::operand_after_attributes-extended_operand-requires t c = (omega arith, record { sees = saw-after c.at_operand.ensures.peeks.same (saw-so c.at_operand.ensures.sees c.if-at_operand.true); some = omega (arith, c.at_operand.ensures.some c.if-at_operand.true, c.at_operand.ensures.peeks.left) })
+
+pub expressions::operand::operand_after_attributes-abandon-requires : goal.expressions::operand::operand_after_attributes-abandon-requires
+expressions::operand::operand_after_attributes-abandon-requires t c = c.extended_operand.ensures.reads.does.innermost _ (c.at_operand.ensures.peeks.same.innermost _ c.requires.innermost)
+
+pub expressions::operand::operand_after_attributes-complete-requires : goal.expressions::operand::operand_after_attributes-complete-requires
+expressions::operand::operand_after_attributes-complete-requires t c = (c.error.ensures.reads true).does.innermost _ (c.at_operand.ensures.peeks.same.innermost _ c.requires.innermost)
+
+pub expressions::operand::operand_after_attributes-returns-then-at_operand-clause-completes : goal.expressions::operand::operand_after_attributes-returns-then-at_operand-clause-completes
+unfolding look_of begins_below whole rule items statements expressions patterns types paths there_at shift passes is_silent begins in_mode anew row one_of any_of no_longer longest is_longer
+expressions::operand::operand_after_attributes-returns-then-at_operand-clause-completes t c = completes-here (begun rules.prefixed (saw-so c.at_operand.ensures.sees c.if-at_operand.true) nothing) (completes-look c.at_operand.ensures.peeks.same (completes-leave c.extended_operand.ensures.reads c.abandon.ensures.leaves))
+
+pub expressions::operand::operand_after_attributes-returns-clause-completes : goal.expressions::operand::operand_after_attributes-returns-clause-completes
+unfolding look_of begins_below whole rule items statements expressions patterns types paths there_at shift passes is_silent begins in_mode anew row one_of any_of no_longer longest is_longer
+expressions::operand::operand_after_attributes-returns-clause-completes t c = completes-here (begun rules.prefixed (saw-so c.at_operand.ensures.sees c.if-at_operand.false) nothing) (completes-look c.at_operand.ensures.peeks.same (completes-wrap (c.error.ensures.reads c.args.condition) c.complete.ensures.closes))
+
+pub expressions::operand::extended_operand-prefixed-requires : goal.expressions::operand::extended_operand-prefixed-requires
+expressions::operand::extended_operand-prefixed-requires t c = (omega arith, (saw-inside c.start-inner.ensures.opens c.requires.begins.sees, omega (arith, c.requires.begins.some, c.start-inner.ensures.stays.left)))
+
+pub expressions::operand::extended_operand-extend_left-requires : goal.expressions::operand::extended_operand-extend_left-requires
+expressions::operand::extended_operand-extend_left-requires t c = c.prefixed.ensures.gives.does.innermost _ c.start-inner.ensures.marker
+
+pub expressions::operand::extended_operand-returns-clause-reads : goal.expressions::operand::extended_operand-returns-clause-reads
+expressions::operand::extended_operand-returns-clause-reads t c = reads-lead (operand-rooted c.args.condition) c.start-inner.ensures.opens (reads-call c.args.condition c.prefixed.ensures.gives) c.extend_left.ensures.extends

@@ -1,20 +1,23 @@
 -- Statements, arm by arm.
-use Rattle.std.proofs.Common.{true, false, refl, arith}
+use Rattle.std.proofs.Common.{true, false, refl, arith, true≢false}
 use Rattle.rust_grammar.specs.Rule as rules
 use Rattle.rust_grammar.specs.Expressions.{expressions}
 use Rattle.rust_grammar.specs.Items.{items}
-use Rattle.rust_grammar.specs.Meaning.{begins_below, look_of}
+use Rattle.rust_grammar.specs.Laws.{reads}
+use Rattle.rust_grammar.specs.Meaning.{begins_below, fresh, look_of, read}
 use Rattle.rust_grammar.specs.Notation.{any_of, is_longer, no_longer, longest, one_of, row}
 use Rattle.rust_grammar.specs.Paths.{paths}
 use Rattle.rust_grammar.specs.Patterns.{patterns}
-use Rattle.rust_grammar.specs.Rule.{begins, in_mode, anew, is_silent, passes, shift, there_at}
+use Rattle.rust_grammar.specs.Rule.{Call, begins, in_mode, anew, is_silent, passes, shift, there_at}
 use Rattle.rust_grammar.specs.Statements.{statements}
 use Rattle.rust_grammar.specs.Types.{types}
 use Rattle.rust_grammar.specs.Whole.{rule, whole}
 use Rattle.grammar_reader.proofs.Ends.{gives-statement}
-use Rattle.rust_productions.proofs.ByHand.{after-look, completes-leave, reads-call, reads-else, reads-node, reads-nothing, reads-or, reads-then, reads-when, reads-wrap, does-nothing}
+use Rattle.rust_productions.proofs.ByHand.{after-look, completes-leave, completes-wrap, reads-call, reads-else, reads-node, reads-nothing, reads-or, reads-then, reads-when, reads-wrap, does-nothing}
 use Rattle.rust_productions.proofs.Choices.{anew-after, anew-completes, anew-here, anew-look, reads-here}
 use Rattle.rust_productions.proofs.Facts.{begun, nothing, saw-so, ◌and◌}
+use Rattle.rust_productions.proofs.Given.{anew-apart, anew-given, call-gives, option-keeps, stars-keep, where-any, where-here, where-look, where-more, where-then}
+use Rattle.rust_productions.proofs.Leading.{block-rooted, reads-lead}
 use Rattle.rust_productions.proofs.Looking.{saw-arm, saw-not}
 use Rattle.rust_productions.proofs.Seen.{saw-after, saw-before, saw-inside}
 use Rattle.grammar_reader.proofs.Arms.{path-there}
@@ -125,27 +128,6 @@ statements::statement-returns-else-at_profile_item-clause-gives t c = gives-stat
 pub statements::statement-returns-else-at_profile_item-clause-pays : goal.statements::statement-returns-else-at_profile_item-clause-pays
 statements::statement-returns-else-at_profile_item-clause-pays t c = λ e. omega (arith, c.current.ensures.peeks.looks, c.at_inner_attribute.ensures.peeks.looks, c.at_new_statement.ensures.peeks.looks, c.at_profile_item.ensures.peeks.looks, c.expression_statement.ensures.pays (omega (arith, e, c.current.ensures.peeks.left, c.at_inner_attribute.ensures.peeks.left, c.at_new_statement.ensures.peeks.left, c.at_profile_item.ensures.peeks.left)))
 
-pub statements::new_statement-returns-then-at_long_path-clause-anew : goal.statements::new_statement-returns-then-at_long_path-clause-anew
-unfolding look_of begins_below whole rule items statements expressions patterns types paths there_at shift passes is_silent begins in_mode anew row one_of any_of no_longer longest is_longer
-statements::new_statement-returns-then-at_long_path-clause-anew t c = anew-here (saw-so (c.at_long_path.ensures.sees false) c.if-at_long_path.true and nothing) (anew-look c.at_long_path.ensures.peeks.same c.long_path_statement.ensures.anew)
-
-pub statements::new_statement-returns-then-at_super_let-clause-anew : goal.statements::new_statement-returns-then-at_super_let-clause-anew
-unfolding look_of begins_below whole rule items statements expressions patterns types paths there_at shift passes is_silent begins in_mode anew row one_of any_of no_longer longest is_longer
-statements::new_statement-returns-then-at_super_let-clause-anew t c = anew-here (saw-so (c.at_long_path.ensures.sees false) c.if-at_long_path.false and saw-before c.at_long_path.ensures.peeks.same (saw-so (c.at_super_let.ensures.sees false) c.if-at_super_let.true) and nothing) (anew-look c.at_long_path.ensures.peeks.same (anew-look c.at_super_let.ensures.peeks.same (anew-after refl c.super_let.ensures.reads)))
-
-pub statements::new_statement-returns-clause-anew : goal.statements::new_statement-returns-clause-anew
-unfolding look_of begins_below whole rule items statements expressions patterns types paths there_at shift passes is_silent begins in_mode anew row one_of any_of no_longer longest is_longer
-statements::new_statement-returns-clause-anew t c = anew-here (saw-so (c.at_long_path.ensures.sees false) c.if-at_long_path.false and saw-before c.at_long_path.ensures.peeks.same (saw-so (c.at_super_let.ensures.sees false) c.if-at_super_let.false) and nothing) (anew-look c.at_long_path.ensures.peeks.same (anew-look c.at_super_let.ensures.peeks.same (anew-after refl (reads-call false c.item.ensures.gives))))
-
-pub statements::new_statement-long_path_statement-requires : goal.statements::new_statement-long_path_statement-requires
-statements::new_statement-long_path_statement-requires t c = (omega arith, ((λ d. saw-after c.at_long_path.ensures.peeks.same (path-there (saw-so (c.at_long_path.ensures.sees d) c.if-at_long_path.true))), omega (arith, c.at_long_path.ensures.some c.if-at_long_path.true, c.at_long_path.ensures.peeks.left)))
-
-pub statements::new_statement-super_let-requires : goal.statements::new_statement-super_let-requires
-statements::new_statement-super_let-requires t c = (omega arith, omega (arith, c.at_super_let.ensures.some c.if-at_super_let.true, c.at_super_let.ensures.peeks.left))
-
-pub statements::new_statement-item-requires : goal.statements::new_statement-item-requires
-statements::new_statement-item-requires t c = (omega arith, omega (arith, c.requires.begins.some, c.at_long_path.ensures.peeks.left, c.at_super_let.ensures.peeks.left))
-
 pub statements::long_path_statement-path_with_args-requires : goal.statements::long_path_statement-path_with_args-requires
 statements::long_path_statement-path_with_args-requires t c = (omega arith, ((λ d. saw-inside c.start-frame.ensures.opens (c.requires.begins d)), omega (arith, c.requires.some, c.start-frame.ensures.stays.left)))
 
@@ -158,10 +140,6 @@ statements::long_path_statement-returns-clause-anew t c = anew-completes c.start
 pub statements::path_tail-returns-then-at_braced_macro-clause-reads : goal.statements::path_tail-returns-then-at_braced_macro-clause-reads
 unfolding look_of begins_below whole rule items statements expressions patterns types paths there_at shift passes is_silent begins in_mode anew row one_of any_of no_longer longest is_longer
 statements::path_tail-returns-then-at_braced_macro-clause-reads t c = reads-here (saw-so (c.at_braced_macro.ensures.sees false) c.if-at_braced_macro.true and nothing) (after-look false c.at_braced_macro.ensures.peeks.same (reads-then false (reads-wrap false (reads-then false (c.take.ensures.reads false) (reads-call false (c.token_tree.ensures.gives false))) c.wrap-frame.ensures.wraps) (reads-then false (reads-wrap false (reads-nothing false (does-nothing _)) c.wrap-frame-then-at_braced_macro.ensures.wraps) c.after_block.ensures.reads)))
-
-pub statements::path_tail-returns-clause-reads : goal.statements::path_tail-returns-clause-reads
-unfolding look_of begins_below whole rule items statements expressions patterns types paths there_at shift passes is_silent begins in_mode anew row one_of any_of no_longer longest is_longer
-statements::path_tail-returns-clause-reads t c = reads-here (saw-so (c.at_braced_macro.ensures.sees false) c.if-at_braced_macro.false and nothing) (after-look false c.at_braced_macro.ensures.peeks.same (reads-then false c.after_path-frame.ensures.reads (reads-then false (c.postfixes-frame.ensures.reads false) (reads-then false c.after_operand-frame.ensures.reads (c.statement_end.ensures.reads false)))))
 
 pub statements::path_tail-wrap-frame-requires : goal.statements::path_tail-wrap-frame-requires
 statements::path_tail-wrap-frame-requires t c = (c.token_tree.ensures.gives true).does.innermost _ ((c.take.ensures.reads true).does.innermost _ (c.at_braced_macro.ensures.peeks.same.innermost _ c.requires.innermost))
@@ -177,12 +155,6 @@ statements::path_tail-after_path-frame-requires t c = (omega arith, c.at_braced_
 
 pub statements::path_tail-postfixes-frame-requires : goal.statements::path_tail-postfixes-frame-requires
 statements::path_tail-postfixes-frame-requires t c = (omega arith, c.after_path-frame.ensures.asks.marker)
-
-pub statements::path_tail-after_operand-frame-requires : goal.statements::path_tail-after_operand-frame-requires
-statements::path_tail-after_operand-frame-requires t c = (omega arith, c.postfixes-frame.ensures.asks.marker)
-
-pub statements::path_tail-statement_end-requires : goal.statements::path_tail-statement_end-requires
-statements::path_tail-statement_end-requires t c = c.after_operand-frame.ensures.asks.marker
 
 pub statements::super_let-returns-clause-reads : goal.statements::super_let-returns-clause-reads
 statements::super_let-returns-clause-reads t c = reads-node false c.start-node.ensures.opens (reads-then false (c.take.ensures.reads false) c.let_rest.ensures.reads) c.complete.ensures.closes
@@ -242,3 +214,111 @@ statements::opt_operators-returns-clause-asks t c = record {
   looks = omega (arith, c.at_whole.ensures.stays.looks);
   marker = c.at_whole.ensures.same.innermost _ c.requires.innermost;
 }
+
+pub statements::new_statement-attributed_statement-requires : goal.statements::new_statement-attributed_statement-requires
+statements::new_statement-attributed_statement-requires t c = (omega arith, omega (arith, c.requires.begins.some, c.at.ensures.peeks.left))
+
+pub statements::new_statement-returns-then-at-clause-anew : goal.statements::new_statement-returns-then-at-clause-anew
+unfolding look_of begins_below whole rule items statements expressions patterns types paths there_at shift passes is_silent begins in_mode anew row one_of any_of no_longer longest is_longer
+statements::new_statement-returns-then-at-clause-anew t c = anew-here (saw-so (c.at.ensures.sees false) c.if-at.true and nothing) (anew-look c.at.ensures.peeks.same c.attributed_statement.ensures.anew)
+
+pub statements::new_statement-returns-then-at_long_path-clause-anew : goal.statements::new_statement-returns-then-at_long_path-clause-anew
+unfolding look_of begins_below whole rule items statements expressions patterns types paths there_at shift passes is_silent begins in_mode anew row one_of any_of no_longer longest is_longer
+statements::new_statement-returns-then-at_long_path-clause-anew t c = anew-here (saw-so (c.at.ensures.sees false) c.if-at.false and saw-before c.at.ensures.peeks.same (saw-so (c.at_long_path.ensures.sees false) c.if-at_long_path.true) and nothing) (anew-look c.at.ensures.peeks.same (anew-look c.at_long_path.ensures.peeks.same c.long_path_statement.ensures.anew))
+
+pub statements::new_statement-returns-then-at_super_let-clause-anew : goal.statements::new_statement-returns-then-at_super_let-clause-anew
+unfolding look_of begins_below whole rule items statements expressions patterns types paths there_at shift passes is_silent begins in_mode anew row one_of any_of no_longer longest is_longer
+statements::new_statement-returns-then-at_super_let-clause-anew t c = anew-here (saw-so (c.at.ensures.sees false) c.if-at.false and saw-before c.at.ensures.peeks.same (saw-so (c.at_long_path.ensures.sees false) c.if-at_long_path.false) and saw-before c.at.ensures.peeks.same (saw-before c.at_long_path.ensures.peeks.same (saw-so (c.at_super_let.ensures.sees false) c.if-at_super_let.true)) and nothing) (anew-look c.at.ensures.peeks.same (anew-look c.at_long_path.ensures.peeks.same (anew-look c.at_super_let.ensures.peeks.same (anew-after refl c.super_let.ensures.reads))))
+
+pub statements::new_statement-returns-clause-anew : goal.statements::new_statement-returns-clause-anew
+unfolding look_of begins_below whole rule items statements expressions patterns types paths there_at shift passes is_silent begins in_mode anew row one_of any_of no_longer longest is_longer
+statements::new_statement-returns-clause-anew t c = anew-here (saw-so (c.at.ensures.sees false) c.if-at.false and saw-before c.at.ensures.peeks.same (saw-so (c.at_long_path.ensures.sees false) c.if-at_long_path.false) and saw-before c.at.ensures.peeks.same (saw-before c.at_long_path.ensures.peeks.same (saw-so (c.at_super_let.ensures.sees false) c.if-at_super_let.false)) and nothing) (anew-look c.at.ensures.peeks.same (anew-look c.at_long_path.ensures.peeks.same (anew-look c.at_super_let.ensures.peeks.same (anew-after refl (reads-call false c.item.ensures.gives)))))
+
+pub statements::new_statement-long_path_statement-requires : goal.statements::new_statement-long_path_statement-requires
+statements::new_statement-long_path_statement-requires t c = (omega arith, ((λ d. saw-after c.at_long_path.ensures.peeks.same (path-there (saw-so (c.at_long_path.ensures.sees d) c.if-at_long_path.true))), omega (arith, c.at_long_path.ensures.some c.if-at_long_path.true, c.at_long_path.ensures.peeks.left)))
+
+pub statements::new_statement-super_let-requires : goal.statements::new_statement-super_let-requires
+statements::new_statement-super_let-requires t c = (omega arith, omega (arith, c.at_super_let.ensures.some c.if-at_super_let.true, c.at_super_let.ensures.peeks.left))
+
+pub statements::new_statement-item-requires : goal.statements::new_statement-item-requires
+statements::new_statement-item-requires t c = (omega arith, omega (arith, c.requires.begins.some, c.at.ensures.peeks.left, c.at_long_path.ensures.peeks.left, c.at_super_let.ensures.peeks.left))
+
+pub statements::path_tail-returns-clause-reads : goal.statements::path_tail-returns-clause-reads
+unfolding look_of begins_below whole rule items statements expressions patterns types paths there_at shift passes is_silent begins in_mode anew row one_of any_of no_longer longest is_longer
+statements::path_tail-returns-clause-reads t c = reads-here (saw-so (c.at_braced_macro.ensures.sees false) c.if-at_braced_macro.false and nothing) (after-look false c.at_braced_macro.ensures.peeks.same (reads-then false c.after_path-frame.ensures.reads (reads-then false (c.postfixes-frame.ensures.reads false) c.operators_and_end.ensures.reads)))
+
+pub statements::path_tail-operators_and_end-requires : goal.statements::path_tail-operators_and_end-requires
+statements::path_tail-operators_and_end-requires t c = (omega arith, c.postfixes-frame.ensures.asks.marker)
+
+pub statements::operators_and_end-after_operand-frame-requires : goal.statements::operators_and_end-after_operand-frame-requires
+statements::operators_and_end-after_operand-frame-requires t c = (omega arith, c.requires.innermost)
+
+pub statements::operators_and_end-statement_end-requires : goal.statements::operators_and_end-statement_end-requires
+statements::operators_and_end-statement_end-requires t c = c.after_operand-frame.ensures.asks.marker
+
+pub statements::operators_and_end-returns-clause-reads : goal.statements::operators_and_end-returns-clause-reads
+statements::operators_and_end-returns-clause-reads t c = reads-then false c.after_operand-frame.ensures.reads (c.statement_end.ensures.reads false)
+
+pub statements::attributed_statement-after_attributes-requires : goal.statements::attributed_statement-after_attributes-requires
+statements::attributed_statement-after_attributes-requires t c = (omega arith, (c.attributes.ensures.reads true).does.innermost _ ((c.attribute.ensures.gives true).does.innermost _ c.start-frame.ensures.marker))
+
+pub statements::attributed_statement-returns-clause-anew : goal.statements::attributed_statement-returns-clause-anew
+unfolding fresh read rule whole items
+statements::attributed_statement-returns-clause-anew t c =
+    anew-apart (anew-given c.start-frame.ensures.opens (reads-then false (reads-call false (c.attribute.ensures.gives false)) (c.attributes.ensures.reads false)) (λ s e. stars-keep rules.attribute false refl (reads false (Call rules.attribute) (fresh s)) (call-gives rules.attribute false refl (fresh s))) c.after_attributes.ensures.completes)
+
+pub statements::after_attributes-complete-requires : goal.statements::after_attributes-complete-requires
+statements::after_attributes-complete-requires t c = c.let_rest.ensures.reads.does.innermost _ (c.at.ensures.peeks.same.innermost _ (c.requires.innermost))
+
+pub statements::after_attributes-returns-then-at-clause-completes : goal.statements::after_attributes-returns-then-at-clause-completes
+unfolding look_of begins_below whole rule items statements expressions patterns types paths there_at shift passes is_silent begins in_mode anew row one_of any_of no_longer longest is_longer
+statements::after_attributes-returns-then-at-clause-completes t c = where-here (saw-so (c.at.ensures.sees false) c.if-at.true and nothing) (where-look c.at.ensures.peeks.same (where-any (completes-wrap c.let_rest.ensures.reads c.complete.ensures.closes)))
+
+pub statements::after_attributes-body-requires : goal.statements::after_attributes-body-requires
+statements::after_attributes-body-requires t c = (omega arith, ((λ e. absurd (true≢false e)), (c.opt_visibility.ensures.reads true).does.innermost _ (c.at_item_after_attributes.ensures.peeks.same.innermost _ (c.at.ensures.peeks.same.innermost _ (c.requires.innermost)))))
+
+pub statements::after_attributes-returns-then-at_item_after_attributes-clause-completes : goal.statements::after_attributes-returns-then-at_item_after_attributes-clause-completes
+unfolding look_of begins_below whole rule items statements expressions patterns types paths there_at shift passes is_silent begins in_mode anew row one_of any_of no_longer longest is_longer
+statements::after_attributes-returns-then-at_item_after_attributes-clause-completes t c = where-here (saw-so (c.at.ensures.sees false) c.if-at.false and saw-before c.at.ensures.peeks.same (saw-so (c.at_item_after_attributes.ensures.sees false) c.if-at_item_after_attributes.true) and nothing) (where-look c.at.ensures.peeks.same (where-look c.at_item_after_attributes.ensures.peeks.same (where-then (c.opt_visibility.ensures.reads false) (λ s g. option-keeps rules.visibility false refl s g) (where-more c.body.ensures.completes))))
+
+pub statements::after_attributes-extended_block-requires : goal.statements::after_attributes-extended_block-requires
+statements::after_attributes-extended_block-requires t c = (omega arith, ((λ d. saw-after c.at_block_like.ensures.peeks.same (saw-so (c.at_block_like.ensures.sees d) c.if-at_block_like.true)), omega (arith, c.at_block_like.ensures.some c.if-at_block_like.true, c.at_block_like.ensures.peeks.left)))
+
+pub statements::after_attributes-after_block-rest-requires : goal.statements::after_attributes-after_block-rest-requires
+statements::after_attributes-after_block-rest-requires t c = (omega arith, (c.extended_block.ensures.reads true).does.innermost _ (c.at_block_like.ensures.peeks.same.innermost _ (c.at_item_after_attributes.ensures.peeks.same.innermost _ (c.at.ensures.peeks.same.innermost _ (c.requires.innermost)))))
+
+pub statements::after_attributes-abandon-requires : goal.statements::after_attributes-abandon-requires
+statements::after_attributes-abandon-requires t c = c.after_block-rest.ensures.asks.marker
+
+pub statements::after_attributes-returns-then-at_block_like-clause-completes : goal.statements::after_attributes-returns-then-at_block_like-clause-completes
+unfolding look_of begins_below whole rule items statements expressions patterns types paths there_at shift passes is_silent begins in_mode anew row one_of any_of no_longer longest is_longer
+statements::after_attributes-returns-then-at_block_like-clause-completes t c = where-here (saw-so (c.at.ensures.sees false) c.if-at.false and saw-before c.at.ensures.peeks.same (saw-so (c.at_item_after_attributes.ensures.sees false) c.if-at_item_after_attributes.false) and begun rules.block_like (saw-before c.at.ensures.peeks.same (saw-before c.at_item_after_attributes.ensures.peeks.same (saw-so (c.at_block_like.ensures.sees false) c.if-at_block_like.true))) (nothing)) (where-look c.at.ensures.peeks.same (where-look c.at_item_after_attributes.ensures.peeks.same (where-look c.at_block_like.ensures.peeks.same (where-any (completes-leave (reads-then false (c.extended_block.ensures.reads false) c.after_block-rest.ensures.reads) c.abandon.ensures.leaves)))))
+
+pub statements::after_attributes-extended_operand-requires : goal.statements::after_attributes-extended_operand-requires
+statements::after_attributes-extended_operand-requires t c = (omega arith, record { sees = saw-after c.at_operand.ensures.peeks.same (saw-so c.at_operand.ensures.sees c.if-at_operand.true); some = omega (arith, c.at_operand.ensures.some c.if-at_operand.true, c.at_operand.ensures.peeks.left) })
+
+pub statements::after_attributes-operators_and_end-frame-requires : goal.statements::after_attributes-operators_and_end-frame-requires
+statements::after_attributes-operators_and_end-frame-requires t c = (omega arith, c.extended_operand.ensures.reads.does.innermost _ (c.at_operand.ensures.peeks.same.innermost _ (c.at_block_like.ensures.peeks.same.innermost _ (c.at_item_after_attributes.ensures.peeks.same.innermost _ (c.at.ensures.peeks.same.innermost _ (c.requires.innermost))))))
+
+pub statements::after_attributes-abandon-requires-then-at_operand : goal.statements::after_attributes-abandon-requires-then-at_operand
+statements::after_attributes-abandon-requires-then-at_operand t c = c.operators_and_end-frame.ensures.asks.marker
+
+pub statements::after_attributes-returns-then-at_operand-clause-completes : goal.statements::after_attributes-returns-then-at_operand-clause-completes
+unfolding look_of begins_below whole rule items statements expressions patterns types paths there_at shift passes is_silent begins in_mode anew row one_of any_of no_longer longest is_longer
+statements::after_attributes-returns-then-at_operand-clause-completes t c = where-here (saw-so (c.at.ensures.sees false) c.if-at.false and saw-before c.at.ensures.peeks.same (saw-so (c.at_item_after_attributes.ensures.sees false) c.if-at_item_after_attributes.false) and begun rules.block_like (saw-before c.at.ensures.peeks.same (saw-before c.at_item_after_attributes.ensures.peeks.same (saw-so (c.at_block_like.ensures.sees false) c.if-at_block_like.false))) (begun rules.prefixed (saw-before c.at.ensures.peeks.same (saw-before c.at_item_after_attributes.ensures.peeks.same (saw-before c.at_block_like.ensures.peeks.same (saw-so c.at_operand.ensures.sees c.if-at_operand.true)))) (nothing))) (where-look c.at.ensures.peeks.same (where-look c.at_item_after_attributes.ensures.peeks.same (where-look c.at_block_like.ensures.peeks.same (where-look c.at_operand.ensures.peeks.same (where-any (completes-leave (reads-then false c.extended_operand.ensures.reads c.operators_and_end-frame.ensures.reads) c.abandon-then-at_operand.ensures.leaves))))))
+
+pub statements::after_attributes-body-requires-2 : goal.statements::after_attributes-body-requires-2
+statements::after_attributes-body-requires-2 t c = (omega arith, ((λ e. absurd (true≢false e)), c.at_operand.ensures.peeks.same.innermost _ (c.at_block_like.ensures.peeks.same.innermost _ (c.at_item_after_attributes.ensures.peeks.same.innermost _ (c.at.ensures.peeks.same.innermost _ (c.requires.innermost))))))
+
+pub statements::after_attributes-returns-clause-completes : goal.statements::after_attributes-returns-clause-completes
+unfolding look_of begins_below whole rule items statements expressions patterns types paths there_at shift passes is_silent begins in_mode anew row one_of any_of no_longer longest is_longer
+statements::after_attributes-returns-clause-completes t c = where-here (saw-so (c.at.ensures.sees false) c.if-at.false and saw-before c.at.ensures.peeks.same (saw-so (c.at_item_after_attributes.ensures.sees false) c.if-at_item_after_attributes.false) and begun rules.block_like (saw-before c.at.ensures.peeks.same (saw-before c.at_item_after_attributes.ensures.peeks.same (saw-so (c.at_block_like.ensures.sees false) c.if-at_block_like.false))) (begun rules.prefixed (saw-before c.at.ensures.peeks.same (saw-before c.at_item_after_attributes.ensures.peeks.same (saw-before c.at_block_like.ensures.peeks.same (saw-so c.at_operand.ensures.sees c.if-at_operand.false)))) (nothing))) (where-look c.at.ensures.peeks.same (where-look c.at_item_after_attributes.ensures.peeks.same (where-look c.at_block_like.ensures.peeks.same (where-look c.at_operand.ensures.peeks.same (where-more c.body-2.ensures.completes)))))
+
+pub statements::extended_block-block_like-requires : goal.statements::extended_block-block_like-requires
+statements::extended_block-block_like-requires t c = (omega arith, ((λ d. saw-inside c.start-inner.ensures.opens (c.requires.begins d)), omega (arith, c.requires.some, c.start-inner.ensures.stays.left)))
+
+pub statements::extended_block-extend_left-requires : goal.statements::extended_block-extend_left-requires
+statements::extended_block-extend_left-requires t c = (c.block_like.ensures.gives true).does.innermost _ c.start-inner.ensures.marker
+
+pub statements::extended_block-returns-clause-reads : goal.statements::extended_block-returns-clause-reads
+statements::extended_block-returns-clause-reads t c = λ cond. reads-lead (block-rooted cond) c.start-inner.ensures.opens (reads-call cond (c.block_like.ensures.gives cond)) c.extend_left.ensures.extends

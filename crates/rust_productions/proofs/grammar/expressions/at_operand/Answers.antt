@@ -60,9 +60,23 @@ returns-else-at_second-clause-sees c = begins-row rules.prefixed (begun rules.at
 pub returns-else-at_second-clause-peeks : goal.returns-else-at_second-clause-peeks
 returns-else-at_second-clause-peeks c = peeks-within (peeks-then c.at_atom.ensures.peeks (peeks-then c.current.ensures.peeks (stays-then c.at_whole.ensures.same c.at_whole.ensures.stays (stays-then c.at_joint.ensures.same c.at_joint.ensures.stays (c.at_second.ensures.peeks))))) (omega arith)
 
+pub returns-then-at_whole-clause-sees : goal.returns-then-at_whole-clause-sees
+unfolding look_of begins_below whole rule items statements expressions patterns types paths there_at shift passes is_silent begins in_mode anew row one_of any_of no_longer longest is_longer
+returns-then-at_whole-clause-sees c = begins-row rules.prefixed (begun rules.atom (saw-so (c.at_atom.ensures.sees) c.if-at_atom.false) (saw-before c.at_atom.ensures.peeks.same (saw-arm c.in-POUND.is (c.current.ensures.sees c.args.condition)) and saw-before c.at_atom.ensures.peeks.same (saw-before c.current.ensures.peeks.same (saw-so (c.at_whole-in-POUND.ensures.sees c.args.condition) c.if-at_whole.true)) and nothing)) refl
+
+pub returns-then-at_whole-clause-peeks : goal.returns-then-at_whole-clause-peeks
+returns-then-at_whole-clause-peeks c = peeks-within (peeks-then c.at_atom.ensures.peeks (peeks-then c.current.ensures.peeks (stays-peeks c.at_whole-in-POUND.ensures.same c.at_whole-in-POUND.ensures.stays))) (omega arith)
+
+pub returns-else-at_whole-clause-sees : goal.returns-else-at_whole-clause-sees
+unfolding look_of begins_below whole rule items statements expressions patterns types paths there_at shift passes is_silent begins in_mode anew row one_of any_of no_longer longest is_longer
+returns-else-at_whole-clause-sees c = begins-row rules.prefixed (begun rules.atom (saw-so (c.at_atom.ensures.sees) c.if-at_atom.false) (saw-before c.at_atom.ensures.peeks.same (saw-arm c.in-POUND.is (c.current.ensures.sees c.args.condition)) and saw-before c.at_atom.ensures.peeks.same (saw-before c.current.ensures.peeks.same (saw-so (c.at_whole-in-POUND.ensures.sees c.args.condition) c.if-at_whole.false)) and nothing)) refl
+
+pub returns-else-at_whole-clause-peeks : goal.returns-else-at_whole-clause-peeks
+returns-else-at_whole-clause-peeks c = peeks-within (peeks-then c.at_atom.ensures.peeks (peeks-then c.current.ensures.peeks (stays-peeks c.at_whole-in-POUND.ensures.same c.at_whole-in-POUND.ensures.stays))) (omega arith)
+
 pub returns-in_default-clause-sees : goal.returns-in_default-clause-sees
 unfolding look_of begins_below whole rule items statements expressions patterns types paths there_at shift passes is_silent begins in_mode anew row one_of any_of no_longer longest is_longer
-returns-in_default-clause-sees c = begins-row rules.prefixed (begun rules.atom (saw-so (c.at_atom.ensures.sees) c.if-at_atom.false) (saw-before c.at_atom.ensures.peeks.same (saw-not c.in_default.not-MINUS (c.current.ensures.sees c.args.condition)) and saw-before c.at_atom.ensures.peeks.same (saw-not c.in_default.not-BANG (c.current.ensures.sees c.args.condition)) and saw-before c.at_atom.ensures.peeks.same (saw-not c.in_default.not-STAR (c.current.ensures.sees c.args.condition)) and saw-before c.at_atom.ensures.peeks.same (saw-not c.in_default.not-AMP (c.current.ensures.sees c.args.condition)) and saw-before c.at_atom.ensures.peeks.same (saw-not c.in_default.not-DOT (c.current.ensures.sees c.args.condition)) and nothing)) refl
+returns-in_default-clause-sees c = begins-row rules.prefixed (begun rules.atom (saw-so (c.at_atom.ensures.sees) c.if-at_atom.false) (saw-before c.at_atom.ensures.peeks.same (saw-not c.in_default.not-MINUS (c.current.ensures.sees c.args.condition)) and saw-before c.at_atom.ensures.peeks.same (saw-not c.in_default.not-BANG (c.current.ensures.sees c.args.condition)) and saw-before c.at_atom.ensures.peeks.same (saw-not c.in_default.not-STAR (c.current.ensures.sees c.args.condition)) and saw-before c.at_atom.ensures.peeks.same (saw-not c.in_default.not-AMP (c.current.ensures.sees c.args.condition)) and saw-before c.at_atom.ensures.peeks.same (saw-not c.in_default.not-DOT (c.current.ensures.sees c.args.condition)) and saw-before c.at_atom.ensures.peeks.same (saw-not c.in_default.not-POUND (c.current.ensures.sees c.args.condition)) and nothing)) refl
 
 pub returns-in_default-clause-peeks : goal.returns-in_default-clause-peeks
 returns-in_default-clause-peeks c = peeks-within (peeks-then c.at_atom.ensures.peeks (c.current.ensures.peeks)) (omega arith)

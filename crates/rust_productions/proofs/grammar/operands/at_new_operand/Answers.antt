@@ -1,5 +1,5 @@
 -- Each path reads what the rule comes to there.
-use Rattle.std.proofs.Common.{refl, arith}
+use Rattle.std.proofs.Common.{inl, inr, refl, arith}
 use Rattle.rust_grammar.specs.Expressions.{expressions}
 use Rattle.rust_grammar.specs.Items.{items}
 use Rattle.rust_grammar.specs.Meaning.{begins_below, look_of}
@@ -10,8 +10,9 @@ use Rattle.rust_grammar.specs.Rule.{begins, in_mode, anew, is_silent, passes, sh
 use Rattle.rust_grammar.specs.Statements.{statements}
 use Rattle.rust_grammar.specs.Types.{types}
 use Rattle.rust_grammar.specs.Whole.{rule, whole}
+use Rattle.rust_grammar.specs.Rule as rules
 use Rattle.rust_productions.proofs.Facts.{nothing, saw-so, ◌and◌}
-use Rattle.rust_productions.proofs.Seen.{saw-before, saw-told}
+use Rattle.rust_productions.proofs.Seen.{saw-of-whole, saw-before, saw-told}
 use Rattle.rust_productions.proofs.Peeking.{peeks-then, peeks-within, stays-then}
 use Rattle.rust_productions.proofs.Staying.{stays-peeks}
 use Rattle.rust_productions.proofs.grammar.operands.at_new_operand.Goals as goal
@@ -30,30 +31,23 @@ returns-then-at_raw-clause-sees c cond = saw-told (saw-so (c.at_whole.ensures.se
 pub returns-then-at_raw-clause-peeks : goal.returns-then-at_raw-clause-peeks
 returns-then-at_raw-clause-peeks c = peeks-within (stays-then c.at_whole.ensures.same c.at_whole.ensures.stays (c.at_raw.ensures.peeks)) (omega arith)
 
-pub returns-then-not-at-clause-sees : goal.returns-then-not-at-clause-sees
+pub returns-then-at-clause-sees : goal.returns-then-at-clause-sees
 unfolding look_of begins_below whole rule items statements expressions patterns types paths there_at shift passes is_silent begins in_mode anew row one_of any_of no_longer longest is_longer
-returns-then-not-at-clause-sees c cond = saw-told (saw-so (c.at_whole.ensures.sees cond) c.if-not-at_whole.false and saw-before c.at_whole.ensures.same (saw-so (c.at_raw.ensures.sees cond) c.if-at_raw.false) and saw-before c.at_whole.ensures.same (saw-before c.at_raw.ensures.peeks.same (saw-so (c.at.ensures.sees cond) c.if-not-at.true)) and nothing) refl
+returns-then-at-clause-sees c cond = saw-told (saw-so (c.at_whole.ensures.sees cond) c.if-not-at_whole.false and saw-before c.at_whole.ensures.same (saw-so (c.at_raw.ensures.sees cond) c.if-at_raw.false) and saw-before c.at_whole.ensures.same (saw-before c.at_raw.ensures.peeks.same (saw-so (c.at.ensures.sees cond) c.if-at.true)) and nothing) refl
 
-pub returns-then-not-at-clause-peeks : goal.returns-then-not-at-clause-peeks
-returns-then-not-at-clause-peeks c = peeks-within (stays-then c.at_whole.ensures.same c.at_whole.ensures.stays (peeks-then c.at_raw.ensures.peeks (c.at.ensures.peeks))) (omega arith)
+pub returns-then-at-clause-peeks : goal.returns-then-at-clause-peeks
+returns-then-at-clause-peeks c = peeks-within (stays-then c.at_whole.ensures.same c.at_whole.ensures.stays (peeks-then c.at_raw.ensures.peeks (c.at.ensures.peeks))) (omega arith)
 
-pub returns-then-not-at_joint-clause-sees : goal.returns-then-not-at_joint-clause-sees
+pub returns-then-at_new_mark-clause-sees : goal.returns-then-at_new_mark-clause-sees
 unfolding look_of begins_below whole rule items statements expressions patterns types paths there_at shift passes is_silent begins in_mode anew row one_of any_of no_longer longest is_longer
-returns-then-not-at_joint-clause-sees c cond = saw-told (saw-so (c.at_whole.ensures.sees cond) c.if-not-at_whole.false and saw-before c.at_whole.ensures.same (saw-so (c.at_raw.ensures.sees cond) c.if-at_raw.false) and saw-before c.at_whole.ensures.same (saw-before c.at_raw.ensures.peeks.same (saw-so (c.at.ensures.sees cond) c.if-not-at.false)) and saw-before c.at_whole.ensures.same (saw-before c.at_raw.ensures.peeks.same (saw-before c.at.ensures.peeks.same (saw-so (c.at_joint.ensures.sees cond) c.if-not-at_joint.true))) and nothing) refl
+returns-then-at_new_mark-clause-sees c cond = saw-told (saw-so (c.at_whole.ensures.sees cond) c.if-not-at_whole.false and saw-before c.at_whole.ensures.same (saw-so (c.at_raw.ensures.sees cond) c.if-at_raw.false) and saw-before c.at_whole.ensures.same (saw-before c.at_raw.ensures.peeks.same (saw-so (c.at.ensures.sees cond) c.if-at.false)) and saw-of-whole (saw-so (c.at_whole.ensures.sees cond) c.if-not-at_whole.false) (saw-before c.at_whole.ensures.same (saw-before c.at_raw.ensures.peeks.same (saw-before c.at.ensures.peeks.same (saw-so (c.at_new_mark.ensures.sees cond) c.if-at_new_mark.true)))) and nothing) refl
 
-pub returns-then-not-at_joint-clause-peeks : goal.returns-then-not-at_joint-clause-peeks
-returns-then-not-at_joint-clause-peeks c = peeks-within (stays-then c.at_whole.ensures.same c.at_whole.ensures.stays (peeks-then c.at_raw.ensures.peeks (peeks-then c.at.ensures.peeks (stays-peeks c.at_joint.ensures.same c.at_joint.ensures.stays)))) (omega arith)
-
-pub returns-then-at_second-clause-sees : goal.returns-then-at_second-clause-sees
-unfolding look_of begins_below whole rule items statements expressions patterns types paths there_at shift passes is_silent begins in_mode anew row one_of any_of no_longer longest is_longer
-returns-then-at_second-clause-sees c cond = saw-told (saw-so (c.at_whole.ensures.sees cond) c.if-not-at_whole.false and saw-before c.at_whole.ensures.same (saw-so (c.at_raw.ensures.sees cond) c.if-at_raw.false) and saw-before c.at_whole.ensures.same (saw-before c.at_raw.ensures.peeks.same (saw-so (c.at.ensures.sees cond) c.if-not-at.false)) and saw-before c.at_whole.ensures.same (saw-before c.at_raw.ensures.peeks.same (saw-before c.at.ensures.peeks.same (saw-so (c.at_joint.ensures.sees cond) c.if-not-at_joint.false))) and saw-before c.at_whole.ensures.same (saw-before c.at_raw.ensures.peeks.same (saw-before c.at.ensures.peeks.same (saw-before c.at_joint.ensures.same (saw-so (c.at_second.ensures.sees cond) c.if-at_second.true)))) and nothing) refl
-
-pub returns-then-at_second-clause-peeks : goal.returns-then-at_second-clause-peeks
-returns-then-at_second-clause-peeks c = peeks-within (stays-then c.at_whole.ensures.same c.at_whole.ensures.stays (peeks-then c.at_raw.ensures.peeks (peeks-then c.at.ensures.peeks (stays-then c.at_joint.ensures.same c.at_joint.ensures.stays (c.at_second.ensures.peeks))))) (omega arith)
+pub returns-then-at_new_mark-clause-peeks : goal.returns-then-at_new_mark-clause-peeks
+returns-then-at_new_mark-clause-peeks c = peeks-within (stays-then c.at_whole.ensures.same c.at_whole.ensures.stays (peeks-then c.at_raw.ensures.peeks (peeks-then c.at.ensures.peeks (c.at_new_mark.ensures.peeks)))) (omega arith)
 
 pub returns-clause-sees : goal.returns-clause-sees
 unfolding look_of begins_below whole rule items statements expressions patterns types paths there_at shift passes is_silent begins in_mode anew row one_of any_of no_longer longest is_longer
-returns-clause-sees c cond = saw-told (saw-so (c.at_whole.ensures.sees cond) c.if-not-at_whole.false and saw-before c.at_whole.ensures.same (saw-so (c.at_raw.ensures.sees cond) c.if-at_raw.false) and saw-before c.at_whole.ensures.same (saw-before c.at_raw.ensures.peeks.same (saw-so (c.at.ensures.sees cond) c.if-not-at.false)) and saw-before c.at_whole.ensures.same (saw-before c.at_raw.ensures.peeks.same (saw-before c.at.ensures.peeks.same (saw-so (c.at_joint.ensures.sees cond) c.if-not-at_joint.false))) and saw-before c.at_whole.ensures.same (saw-before c.at_raw.ensures.peeks.same (saw-before c.at.ensures.peeks.same (saw-before c.at_joint.ensures.same (saw-so (c.at_second.ensures.sees cond) c.if-at_second.false)))) and nothing) refl
+returns-clause-sees c cond = saw-told (saw-so (c.at_whole.ensures.sees cond) c.if-not-at_whole.false and saw-before c.at_whole.ensures.same (saw-so (c.at_raw.ensures.sees cond) c.if-at_raw.false) and saw-before c.at_whole.ensures.same (saw-before c.at_raw.ensures.peeks.same (saw-so (c.at.ensures.sees cond) c.if-at.false)) and saw-of-whole (saw-so (c.at_whole.ensures.sees cond) c.if-not-at_whole.false) (saw-before c.at_whole.ensures.same (saw-before c.at_raw.ensures.peeks.same (saw-before c.at.ensures.peeks.same (saw-so (c.at_new_mark.ensures.sees cond) c.if-at_new_mark.false)))) and nothing) refl
 
 pub returns-clause-peeks : goal.returns-clause-peeks
-returns-clause-peeks c = peeks-within (stays-then c.at_whole.ensures.same c.at_whole.ensures.stays (peeks-then c.at_raw.ensures.peeks (peeks-then c.at.ensures.peeks (stays-then c.at_joint.ensures.same c.at_joint.ensures.stays (c.at_second.ensures.peeks))))) (omega arith)
+returns-clause-peeks c = peeks-within (stays-then c.at_whole.ensures.same c.at_whole.ensures.stays (peeks-then c.at_raw.ensures.peeks (peeks-then c.at.ensures.peeks (c.at_new_mark.ensures.peeks)))) (omega arith)

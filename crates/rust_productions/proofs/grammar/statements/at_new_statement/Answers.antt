@@ -38,30 +38,16 @@ returns-then-at_super_let-clause-sees c cond = saw-told (saw-so (c.at_whole.ensu
 pub returns-then-at_super_let-clause-peeks : goal.returns-then-at_super_let-clause-peeks
 returns-then-at_super_let-clause-peeks c = peeks-within (stays-then c.at_whole.ensures.same c.at_whole.ensures.stays (peeks-then c.at_long_path.ensures.peeks (c.at_super_let.ensures.peeks))) (omega arith)
 
-pub returns-then-at_no_item-clause-sees : goal.returns-then-at_no_item-clause-sees
+pub returns-then-at_any_item-clause-sees : goal.returns-then-at_any_item-clause-sees
 unfolding look_of begins_below whole rule items statements expressions patterns types paths there_at shift passes is_silent begins in_mode anew row one_of any_of no_longer longest is_longer
-returns-then-at_no_item-clause-sees c cond = saw-told (saw-so (c.at_whole.ensures.sees cond) c.if-not-at_whole.false and saw-before c.at_whole.ensures.same (saw-so (c.at_long_path.ensures.sees cond) c.if-at_long_path.false) and saw-before c.at_whole.ensures.same (saw-before c.at_long_path.ensures.peeks.same (saw-so (c.at_super_let.ensures.sees cond) c.if-at_super_let.false)) and saw-before c.at_whole.ensures.same (saw-before c.at_long_path.ensures.peeks.same (saw-before c.at_super_let.ensures.peeks.same (saw-so (c.at_no_item.ensures.sees cond) c.if-at_no_item.true))) and nothing) refl
+returns-then-at_any_item-clause-sees c cond = saw-told (saw-so (c.at_whole.ensures.sees cond) c.if-not-at_whole.false and saw-before c.at_whole.ensures.same (saw-so (c.at_long_path.ensures.sees cond) c.if-at_long_path.false) and saw-before c.at_whole.ensures.same (saw-before c.at_long_path.ensures.peeks.same (saw-so (c.at_super_let.ensures.sees cond) c.if-at_super_let.false)) and saw-of-whole (saw-so (c.at_whole.ensures.sees cond) c.if-not-at_whole.false) (saw-before c.at_whole.ensures.same (saw-before c.at_long_path.ensures.peeks.same (saw-before c.at_super_let.ensures.peeks.same (saw-so (c.at_any_item.ensures.sees cond) c.if-at_any_item.true)))) and nothing) refl
 
-pub returns-then-at_no_item-clause-peeks : goal.returns-then-at_no_item-clause-peeks
-returns-then-at_no_item-clause-peeks c = peeks-within (stays-then c.at_whole.ensures.same c.at_whole.ensures.stays (peeks-then c.at_long_path.ensures.peeks (peeks-then c.at_super_let.ensures.peeks (c.at_no_item.ensures.peeks)))) (omega arith)
-
-pub returns-then-at_item-clause-sees : goal.returns-then-at_item-clause-sees
-unfolding look_of begins_below whole rule items statements expressions patterns types paths there_at shift passes is_silent begins in_mode anew row one_of any_of no_longer longest is_longer
-returns-then-at_item-clause-sees c cond = saw-told (saw-so (c.at_whole.ensures.sees cond) c.if-not-at_whole.false and saw-before c.at_whole.ensures.same (saw-so (c.at_long_path.ensures.sees cond) c.if-at_long_path.false) and saw-before c.at_whole.ensures.same (saw-before c.at_long_path.ensures.peeks.same (saw-so (c.at_super_let.ensures.sees cond) c.if-at_super_let.false)) and saw-before c.at_whole.ensures.same (saw-before c.at_long_path.ensures.peeks.same (saw-before c.at_super_let.ensures.peeks.same (saw-so (c.at_no_item.ensures.sees cond) c.if-at_no_item.false))) and saw-before c.at_whole.ensures.same (saw-before c.at_long_path.ensures.peeks.same (saw-before c.at_super_let.ensures.peeks.same (saw-before c.at_no_item.ensures.peeks.same (saw-so (c.at_item.ensures.sees cond) c.if-at_item.true)))) and nothing) refl
-
-pub returns-then-at_item-clause-peeks : goal.returns-then-at_item-clause-peeks
-returns-then-at_item-clause-peeks c = peeks-within (stays-then c.at_whole.ensures.same c.at_whole.ensures.stays (peeks-then c.at_long_path.ensures.peeks (peeks-then c.at_super_let.ensures.peeks (peeks-then c.at_no_item.ensures.peeks (c.at_item.ensures.peeks))))) (omega arith)
-
-pub returns-then-at_new_item-clause-sees : goal.returns-then-at_new_item-clause-sees
-unfolding look_of begins_below whole rule items statements expressions patterns types paths there_at shift passes is_silent begins in_mode anew row one_of any_of no_longer longest is_longer
-returns-then-at_new_item-clause-sees c cond = saw-told (saw-so (c.at_whole.ensures.sees cond) c.if-not-at_whole.false and saw-before c.at_whole.ensures.same (saw-so (c.at_long_path.ensures.sees cond) c.if-at_long_path.false) and saw-before c.at_whole.ensures.same (saw-before c.at_long_path.ensures.peeks.same (saw-so (c.at_super_let.ensures.sees cond) c.if-at_super_let.false)) and saw-before c.at_whole.ensures.same (saw-before c.at_long_path.ensures.peeks.same (saw-before c.at_super_let.ensures.peeks.same (saw-so (c.at_no_item.ensures.sees cond) c.if-at_no_item.false))) and saw-before c.at_whole.ensures.same (saw-before c.at_long_path.ensures.peeks.same (saw-before c.at_super_let.ensures.peeks.same (saw-before c.at_no_item.ensures.peeks.same (saw-so (c.at_item.ensures.sees cond) c.if-at_item.false)))) and saw-of-whole (saw-so (c.at_whole.ensures.sees cond) c.if-not-at_whole.false) (saw-before c.at_whole.ensures.same (saw-before c.at_long_path.ensures.peeks.same (saw-before c.at_super_let.ensures.peeks.same (saw-before c.at_no_item.ensures.peeks.same (saw-before c.at_item.ensures.peeks.same (saw-so (c.at_new_item.ensures.sees cond) c.if-at_new_item.true)))))) and nothing) refl
-
-pub returns-then-at_new_item-clause-peeks : goal.returns-then-at_new_item-clause-peeks
-returns-then-at_new_item-clause-peeks c = peeks-within (stays-then c.at_whole.ensures.same c.at_whole.ensures.stays (peeks-then c.at_long_path.ensures.peeks (peeks-then c.at_super_let.ensures.peeks (peeks-then c.at_no_item.ensures.peeks (peeks-then c.at_item.ensures.peeks (c.at_new_item.ensures.peeks)))))) (omega arith)
+pub returns-then-at_any_item-clause-peeks : goal.returns-then-at_any_item-clause-peeks
+returns-then-at_any_item-clause-peeks c = peeks-within (stays-then c.at_whole.ensures.same c.at_whole.ensures.stays (peeks-then c.at_long_path.ensures.peeks (peeks-then c.at_super_let.ensures.peeks (c.at_any_item.ensures.peeks)))) (omega arith)
 
 pub returns-clause-sees : goal.returns-clause-sees
 unfolding look_of begins_below whole rule items statements expressions patterns types paths there_at shift passes is_silent begins in_mode anew row one_of any_of no_longer longest is_longer
-returns-clause-sees c cond = saw-told (saw-so (c.at_whole.ensures.sees cond) c.if-not-at_whole.false and saw-before c.at_whole.ensures.same (saw-so (c.at_long_path.ensures.sees cond) c.if-at_long_path.false) and saw-before c.at_whole.ensures.same (saw-before c.at_long_path.ensures.peeks.same (saw-so (c.at_super_let.ensures.sees cond) c.if-at_super_let.false)) and saw-before c.at_whole.ensures.same (saw-before c.at_long_path.ensures.peeks.same (saw-before c.at_super_let.ensures.peeks.same (saw-so (c.at_no_item.ensures.sees cond) c.if-at_no_item.false))) and saw-before c.at_whole.ensures.same (saw-before c.at_long_path.ensures.peeks.same (saw-before c.at_super_let.ensures.peeks.same (saw-before c.at_no_item.ensures.peeks.same (saw-so (c.at_item.ensures.sees cond) c.if-at_item.false)))) and saw-of-whole (saw-so (c.at_whole.ensures.sees cond) c.if-not-at_whole.false) (saw-before c.at_whole.ensures.same (saw-before c.at_long_path.ensures.peeks.same (saw-before c.at_super_let.ensures.peeks.same (saw-before c.at_no_item.ensures.peeks.same (saw-before c.at_item.ensures.peeks.same (saw-so (c.at_new_item.ensures.sees cond) c.if-at_new_item.false)))))) and nothing) refl
+returns-clause-sees c cond = saw-told (saw-so (c.at_whole.ensures.sees cond) c.if-not-at_whole.false and saw-before c.at_whole.ensures.same (saw-so (c.at_long_path.ensures.sees cond) c.if-at_long_path.false) and saw-before c.at_whole.ensures.same (saw-before c.at_long_path.ensures.peeks.same (saw-so (c.at_super_let.ensures.sees cond) c.if-at_super_let.false)) and saw-of-whole (saw-so (c.at_whole.ensures.sees cond) c.if-not-at_whole.false) (saw-before c.at_whole.ensures.same (saw-before c.at_long_path.ensures.peeks.same (saw-before c.at_super_let.ensures.peeks.same (saw-so (c.at_any_item.ensures.sees cond) c.if-at_any_item.false)))) and nothing) refl
 
 pub returns-clause-peeks : goal.returns-clause-peeks
-returns-clause-peeks c = peeks-within (stays-then c.at_whole.ensures.same c.at_whole.ensures.stays (peeks-then c.at_long_path.ensures.peeks (peeks-then c.at_super_let.ensures.peeks (peeks-then c.at_no_item.ensures.peeks (peeks-then c.at_item.ensures.peeks (c.at_new_item.ensures.peeks)))))) (omega arith)
+returns-clause-peeks c = peeks-within (stays-then c.at_whole.ensures.same c.at_whole.ensures.stays (peeks-then c.at_long_path.ensures.peeks (peeks-then c.at_super_let.ensures.peeks (c.at_any_item.ensures.peeks)))) (omega arith)
