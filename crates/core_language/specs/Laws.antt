@@ -30,15 +30,16 @@ CoreTypesAreRead = (tokens : List Token) (tree : Forest) → IsCoreType tokens t
 abbrev pub CoreExpressionsAreRead : Type 0
 CoreExpressionsAreRead = (tokens : List Token) (tree : Forest) → IsCoreExpression tokens tree → entry whole expression tokens ≡ tree
 
--- So does the whole language: where the input is a core file but for its tokens' flag, the grammar gives its tree.
+-- Where the input is a core file but for its tokens' flag, which says that the whole language is read, the grammar
+-- gives its tree.
 abbrev pub WholeReadsCoreFiles : Type 0
 WholeReadsCoreFiles = (tokens : List Token) (tree : Forest) → IsCoreFile tokens tree → entry whole source_file (of_whole tokens) ≡ tree
 
--- So it does where the input is a core type.
+-- Where the input is a core type but for its tokens' flag, the grammar's entry for types gives its tree.
 abbrev pub WholeReadsCoreTypes : Type 0
 WholeReadsCoreTypes = (tokens : List Token) (tree : Forest) → IsCoreType tokens tree → entry whole any_type (of_whole tokens) ≡ tree
 
--- So it does where the input is a core expression.
+-- Where the input is a core expression but for its tokens' flag, the grammar's entry for expressions gives its tree.
 abbrev pub WholeReadsCoreExpressions : Type 0
 WholeReadsCoreExpressions = (tokens : List Token) (tree : Forest) → IsCoreExpression tokens tree → entry whole expression (of_whole tokens) ≡ tree
 
