@@ -1,8 +1,8 @@
 -- The reading of a text whose input is a core file.
-use Rattle.std.proofs.Common.{◌≡◌, ◌∙◌, ℕ, ◌-◌, false, true, List, [], ◌++◌, map, length, refl, sym, ap, subst, arith}
-use Rattle.std.proofs.lemmas.Bool.{and_parts}
-use Rattle.parser_input.specs.Input.{input}
-use Rattle.parser_input.specs.Leaf.{Leaf}
+use Rattle.std.proofs.Common.{◌≡◌, ◌∙◌, ℕ, ◌-◌, false, true, List, [], ◌∷◌, ◌++◌, map, length, refl, sym, ap, inl, inr, arith}
+use Rattle.std.proofs.lemmas.Bool.{and_parts, cases_Bool}
+use Rattle.parser_input.specs.Input.{Token, input, token_of}
+use Rattle.parser_input.specs.Leaf.{Leaf, is_trivia}
 use Rattle.parser_input.specs.Lexed.{lexed}
 use Rattle.parser_input.specs.declared.edition.Edition.{Edition}
 use Rattle.parser_events.specs.Forest as forest
@@ -10,14 +10,16 @@ use Rattle.parser_events.specs.Dressed as dressed
 use Rattle.parser_events.specs.Dressed.{Dressed, Saying, sayings_of}
 use Rattle.parser_events.specs.Trivia.{pending, attached}
 use Rattle.parser_events.specs.Dress.{Dressing, put_each, put_pending, put_leaf, open_node, close_node, dress, dress_root, root}
+use Rattle.rust_grammar.specs.Entry.{entry}
 use Rattle.rust_grammar.specs.Rule.{source_file}
+use Rattle.rust_grammar.specs.Whole.{whole}
 use Rattle.core_language.specs.Language.{IsCoreFile}
 use Rattle.core_language.specs.Laws.{is_clean}
+use Rattle.core_language.specs.Tokens.{of_whole}
 use Rattle.core_language.proofs.Clean.{files-clean}
-use Rattle.core_language.proofs.Read.{files-read}
-use Rattle.ra_parser.specs.Grammars.{is_whole}
+use Rattle.core_language.proofs.Read.{files-read, whole-reads-files}
 use Rattle.ra_parser.specs.declared.grammar.Grammar.{Grammar}
-use Rattle.ra_parser.specs.declared.grammar.Grammar.TheVariants.{Profile}
+use Rattle.ra_parser.specs.declared.grammar.Grammar.TheVariants.{Profile, Whole}
 use Rattle.rust_document.specs.Core.{ReadsAs}
 use Rattle.rust_document.specs.Reading.{dressed_by, forest_by, leaves_in, messages_by, of_grammar, of_leaves, root_of, terms_of, tree_by}
 use Rattle.rust_document.proofs.Silent.{said, said-close, said-each, said-leaf, said-open, said-pending}
@@ -77,20 +79,31 @@ whole-said (forest.ErrorLeaf m k f) ls clean = absurd (cc)
 whole-said (forest.Float b c f) ls clean = absurd (cc)
 whole-said (forest.Node k c f) ls clean = root-said k c (start ls) (and_parts (is_clean c) (is_clean f) clean).0 (start-said ls)
 
-pub core-read : (grammar : Grammar) (edition : Edition) (text : List ℕ) (core : forest.Forest) → IsCoreFile (input (is_whole grammar) edition (leaves_in edition text)) core → ReadsAs grammar edition text core
+-- the input of the whole language is that of the profile but for the flag of its tokens
+whole-input : (edition : Edition) (ls : List Leaf) → of_whole (input false edition ls) ≡ input true edition ls
+unfolding of_whole input token_of
+whole-input edition [] = refl
+whole-input edition (l ∷ ls) = elim (cases_Bool (is_trivia l)) [
+  | inl h ↦ rw h (whole-input edition ls)
+  | inr h ↦ rw h (ap (λ (ts : List Token). token_of true edition l ls ∷ ts) (whole-input edition ls))
+]
+
+-- each grammar reads the leaves of a core file to its tree
+core-forest : (grammar : Grammar) (edition : Edition) (ls : List Leaf) (core : forest.Forest) → IsCoreFile (input false edition ls) core
+    → forest_by source_file grammar edition ls ≡ core
+core-forest Profile edition ls core is = files-read (input false edition ls) core is
+core-forest Whole edition ls core is =
+    ap (λ (ts : List Token). entry whole source_file ts) (sym (whole-input edition ls)) ∙ whole-reads-files (input false edition ls) core is
+
+pub core-read : (grammar : Grammar) (edition : Edition) (text : List ℕ) (core : forest.Forest) → IsCoreFile (input false edition (leaves_in edition text)) core → ReadsAs grammar edition text core
 unfolding tree_by messages_by dressed_by
 core-read grammar edition text core is =
     let ls = leaves_in edition text in
-    let same : forest_by source_file grammar edition ls ≡ core = files-read (input (is_whole grammar) edition ls) core is in
-    let silent : sayings_of (dress_root core ls) ≡ [] = none-told (dress_root core ls) (whole-said core ls (files-clean (input (is_whole grammar) edition ls) core is)) in
+    let same : forest_by source_file grammar edition ls ≡ core = core-forest grammar edition ls core is in
+    let silent : sayings_of (dress_root core ls) ≡ [] = none-told (dress_root core ls) (whole-said core ls (files-clean (input false edition ls) core is)) in
     record {
       tree_is = ap (λ (f : forest.Forest). root_of (terms_of (dress_root f ls))) same;
       messages_are =
           ap (λ (f : forest.Forest). map of_grammar (sayings_of (dress_root f ls)) ++ of_leaves 0 (lexed edition text)) same
           ∙ ap (λ (xs : List Saying). map of_grammar xs ++ of_leaves 0 (lexed edition text)) silent;
     }
-
--- a core file is read as its tree, if the grammar is the profile
-pub document-core :
-    (grammar : Grammar) (edition : Edition) (text : List ℕ) → grammar ≡ Profile → (core : forest.Forest) → IsCoreFile (input false edition (leaves_in edition text)) core → ReadsAs grammar edition text core
-document-core grammar edition text is core h = subst (λ (g : Grammar). ReadsAs g edition text core) (sym is) (core-read Profile edition text core h)

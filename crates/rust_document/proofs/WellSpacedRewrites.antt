@@ -22,7 +22,6 @@ use Rattle.spaced_core.proofs.CoreInputs.{core-input}
 use Rattle.spaced_core.proofs.Dressed.{tree-dressed}
 use Rattle.spaced_core.proofs.TreeTexts.{tree-silent}
 use Rattle.ra_parser.specs.declared.grammar.Grammar.{Grammar}
-use Rattle.ra_parser.specs.declared.grammar.Grammar.TheVariants.{Profile}
 use Rattle.rust_document.specs.Commit.{RefusesCommit}
 use Rattle.rust_document.specs.Reading.{of_leaves, of_leaf, root_of, tree_in}
 use Rattle.rust_document.specs.Rewrite.{bare, rewritten}
@@ -61,10 +60,10 @@ tree-bare : (t : Tree) → root_of (without_trivia (node t.kind t.forest empty))
 tree-bare t = ap (λ (g : Forest). let u : Tree = record { kind = t.kind; forest = g } in u) (sym (bare-same t.forest))
 
 -- the text of a well-spaced tree reads as that tree, whitespace and comments aside
-spaced-reads : (edition : Edition) (t : Tree) → IsWellSpaced edition t → bare_tree (tree_in Profile edition (chars (tree_text t))) ≡ bare_tree t
-spaced-reads edition t w =
+spaced-reads : (grammar : Grammar) (edition : Edition) (t : Tree) → IsWellSpaced edition t → bare_tree (tree_in grammar edition (chars (tree_text t))) ≡ bare_tree t
+spaced-reads grammar edition t w =
     let ls = text_leaves edition t in
-    let core = core-read Profile edition (chars (tree_text t)) (shape_of t) (core-input edition t w) in
+    let core = core-read grammar edition (chars (tree_text t)) (shape_of t) (core-input edition t w) in
     ap bare_tree core.tree_is
     ∙ ap (λ (f : Forest). bare_tree (root_of f)) (terms-mapped (dress_root (shape_of t) ls))
     ∙ dressed-bare t.kind (shape t.forest) ls
@@ -74,18 +73,14 @@ spaced-reads edition t w =
 same-itself : (t : Tree) → same_tree t t ≡ true
 same-itself t = (same_tree-Decides t t).1 refl
 
-spaced-faithful : (edition : Edition) (t : Tree) → IsWellSpaced edition t → is_faithful Profile edition t ≡ true
-spaced-faithful edition t w = ap (λ (u : Tree). same_tree (bare_tree t) u) (spaced-reads edition t w) ∙ same-itself (bare_tree t)
-
-own-faithful : (d : State) (e : Editing) → IsWellSpacedRewrite d e → is_faithful d.grammar d.edition (rewritten e) ≡ true
-own-faithful d e w =
-    subst (λ (g : Grammar). is_faithful g d.edition (rewritten e) ≡ true) (sym w.profile) (spaced-faithful d.edition (rewritten e) w.spaced)
+spaced-faithful : (grammar : Grammar) (edition : Edition) (t : Tree) → IsWellSpaced edition t → is_faithful grammar edition t ≡ true
+spaced-faithful grammar edition t w = ap (λ (u : Tree). same_tree (bare_tree t) u) (spaced-reads grammar edition t w) ∙ same-itself (bare_tree t)
 
 pub spaced-accepted : WellSpacedRewritesAreAccepted
 unfolding first_fit
 spaced-accepted d e w =
     let has = parts e w.placeable in
-    verdict-is d e false false false false false w.own has.0 has.1 w.within (ap not (own-faithful d e w))
+    verdict-is d e false false false false false w.own has.0 has.1 w.within (ap not (spaced-faithful d.grammar d.edition (rewritten e) w.spaced))
 
 -- A refused well-spaced rewrite is refused as an accepted commit may be: out of tree numbers or of memory.
 pub spaced-refused : (d : State) (e : Editing) (number : ℕ) (error : CommitError) → RefusesCommit (verdict d e) number error → IsWellSpacedRewrite d e → RefusesCommit Accepted number error
@@ -103,6 +98,6 @@ silent-none place (l ∷ ls) h =
     none-first (Some m) h = absurd (let z : false ≡ true = h in cc)
 
 pub spaced-silent : WellSpacedTextsHaveNoMessages
-spaced-silent edition t w =
+spaced-silent grammar edition t w =
     let text = chars (tree_text t) in
-    (core-read Profile edition text (shape_of t) (core-input edition t w)).messages_are ∙ silent-none 0 (lexed edition text) (tree-silent edition t w)
+    (core-read grammar edition text (shape_of t) (core-input edition t w)).messages_are ∙ silent-none 0 (lexed edition text) (tree-silent edition t w)

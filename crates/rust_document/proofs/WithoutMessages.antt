@@ -1,5 +1,5 @@
 -- Commits of texts without messages, by what was tested.
-use Rattle.std.proofs.Common.{◌≡◌, ℕ, ◌^◌, Bool, true, false, not, List, [], ◌∷◌, map, length, chars, string_bytes, sym, ◌∙◌, ap, subst, nat_lt, arith}
+use Rattle.std.proofs.Common.{◌≡◌, ℕ, ◌^◌, Bool, true, false, not, List, [], ◌∷◌, map, length, string_bytes, sym, ◌∙◌, ap, nat_lt, arith}
 use Rattle.std.specs.Prelude.{◌≤◌, IfOk, IfErr, OnOk}
 use Rattle.std.specs.Str.{IsUtf8}
 use Rattle.std.proofs.lemmas.Bool.{lt-ltb}
@@ -16,12 +16,12 @@ use Rattle.ra_parser.specs.declared.grammar.Grammar.{Grammar}
 use Rattle.rust_document.specs.Commit.{RefusesCommit, commit_error_of}
 use Rattle.rust_document.specs.CommitWithoutMessages.{HaveNoMessages, RefusesRoom, RefusesWithoutMessages}
 use Rattle.rust_document.specs.Open.{IsOpened}
-use Rattle.rust_document.specs.Reading.{Message, messages_in}
+use Rattle.rust_document.specs.Reading.{Message}
 use Rattle.rust_document.specs.Renames.{IsPlainRenaming, IsReadExactly}
 use Rattle.rust_document.specs.Rewrite.{rewritten}
 use Rattle.rust_document.specs.Rewritten.{IsRewritten, RefusesRewritten}
 use Rattle.rust_document.specs.Seen.{message_of_error}
-use Rattle.rust_document.specs.Step.{State, MAX_TEXT, is_foreign, Verdict, verdict, Accepted}
+use Rattle.rust_document.specs.Step.{State, MAX_TEXT, is_foreign, verdict, Accepted}
 use Rattle.rust_document.specs.Step as step
 use Rattle.rust_document.specs.WellSpaced.{IsWellSpacedRewrite}
 use Rattle.rust_document.specs.WithoutMessages.{HasNoMessages}
@@ -91,7 +91,7 @@ by-tree d e number trees.NoMemory is clean h = tt
 
 -- a well-spaced rewrite of a text without messages
 spaced-clean : (d : State) (e : Editing) → IsWellSpacedRewrite d e → HasNoMessages d → HaveNoMessages d e
-spaced-clean d e w present = record { present = present; new = subst (λ (g : Grammar). messages_in g d.edition (chars (tree_text (rewritten e))) ≡ []) (sym w.profile) (spaced-silent d.edition (rewritten e) w.spaced) }
+spaced-clean d e w present = record { present = present; new = spaced-silent d.grammar d.edition (rewritten e) w.spaced }
 
 pub by-spaced : (d : State) (e : Editing) (number : ℕ) (error : CommitError) → RefusesWithoutMessages d e number (Refused error) → IsWellSpacedRewrite d e → RefusesRoom number (Refused error)
 by-spaced d e number commits.Foreign h w = absurd (let z : Accepted ≡ step.Foreign = sym (spaced-accepted d e w) ∙ h in cc)

@@ -73,8 +73,8 @@ pub fn swaps_are_one()
     laws::swaps_agree();
 }
 
-/// A text whose parser's input by the profile is a core file reads as the tree of its derivation,
-/// and only the lexer has messages.
+/// A text whose parser's input by the profile is a core file reads as the tree of its derivation by
+/// either grammar, and only the lexer has messages.
 pub fn core_texts_are_read()
     ensures { CoreTextsAreRead }
 {}
@@ -104,13 +104,13 @@ pub fn histories_go_on()
     ensures { HistoriesGoOn }
 {}
 
-/// In a document of the profile a rewrite of the present tree whose changes have places, whose text
-/// is within the limits and whose new tree is well-spaced is accepted.
+/// A rewrite of the present tree whose changes have places, whose text is within the limits and whose
+/// new tree is well-spaced is accepted.
 pub fn well_spaced_rewrites_are_accepted()
     ensures { WellSpacedRewritesAreAccepted }
 {}
 
-/// The text of a well-spaced tree has no message by the profile.
+/// The text of a well-spaced tree has no message, by either grammar.
 pub fn well_spaced_texts_have_no_messages()
     ensures { WellSpacedTextsHaveNoMessages }
 {}

@@ -52,9 +52,9 @@ impl Document {
     ///
     /// The parser's output is kept if the parser's input is the same.
     ///
-    /// A well-spaced rewrite of a document of the profile is always accepted too: the new tree is one
-    /// of the core language, its leaves are spelled as their kinds, and whitespace is between any two
-    /// of them. Only places, length, memory and tree numbers can refuse it.
+    /// A well-spaced rewrite is always accepted too: the new tree is one of the core language, its
+    /// leaves are spelled as their kinds, and whitespace is between any two of them. Only places,
+    /// length, memory and tree numbers can refuse it.
     ///
     /// The new text is read by the edition and the grammar of the old one.
     ///
@@ -112,8 +112,8 @@ impl Document {
     /// new text has messages. A tree that messages are about is a recovery: that a text reads as it
     /// says little of the program that was meant.
     ///
-    /// A well-spaced rewrite of a text without messages is always accepted if the document is one of
-    /// the profile: only tree numbers and memory can refuse it.
+    /// A well-spaced rewrite of a text without messages is always accepted: only tree numbers and
+    /// memory can refuse it.
     ///
     /// # Errors
     ///

@@ -1,7 +1,6 @@
 -- The law is a lemma on the definitions.
-use Rattle.ra_parser.specs.declared.grammar.Grammar.TheVariants.{Profile}
 use Rattle.rust_document.proofs.CoreTexts.{core-read}
 use Rattle.rust_document.proofs.laws.core_texts_are_read.Goals as goal
 
 pub returns : goal.returns
-returns c = core-read Profile
+returns c = core-read
