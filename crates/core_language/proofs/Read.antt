@@ -69,7 +69,7 @@ expressions-read tokens tree c =
     ∙ expression-of false c.expression c.well_formed
     ∙ c.has_tree
 
--- The same, where each token says that the whole language is read.
+-- Where each token says that the whole language is read: the reading of a core list by its tokens with that flag.
 no-tokens : of_whole [] ≡ []
 unfolding of_whole
 no-tokens = refl

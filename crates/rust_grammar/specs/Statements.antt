@@ -89,7 +89,6 @@ path_tail list = When braced_macro_begins (braced_macro ▸ after_block list) or
 abbrev pub long_path_statement : Listing → Rule
 long_path_statement list = ExprPath ▸ path_tail list
 
--- A statement after attributes: a `let`, an item, or an expression, in whose outermost operand the attributes stand first.
 abbrev pub attributed_let : Rule
 attributed_let = LET_STMT <⟨ let_rest ⟩
 
@@ -99,6 +98,7 @@ item_after_attributes_begins = Both any_item_begins (Not (next '#'))
 abbrev pub item_after_attributes : Rule
 item_after_attributes = ⁅ Visibility ⁆ ▸ more body
 
+-- A statement after attributes: a `let`, an item, or an expression, in whose outermost operand the attributes stand first.
 abbrev pub after_attributes : Listing → Rule
 after_attributes list =
     attributed_let

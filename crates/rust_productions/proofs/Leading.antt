@@ -1,4 +1,4 @@
--- What stands before one tree goes into it.
+-- The trees before one tree become its first children.
 use Rattle.std.proofs.Common.{◌≡◌, ◌<◌, ℕ, arith, Bool, true, false, suc, ◌∷◌, refl, sym, ap, subst, ◌∙◌}
 use Rattle.parser_input.specs.Kinds.{FIELD_EXPR}
 use Rattle.parser_events.specs.Fits.{IsRooted}

@@ -40,7 +40,7 @@ pub record Leaves (old new : View) : Type 0 where
   pub nodes : (inside given : Marked) (below : List Marked) → Holds old.nodes (inside ∷ given ∷ below) → Holds new.nodes ((given beside inside) ∷ below)
   pub innermost : (around : ℕ) → IsInnermost (suc around) old.nodes → IsInnermost around new.nodes
 
--- the innermost node is left out; what the node around it had stands first in the one tree that it had
+-- the innermost node is left out; the trees of the node around it become the first children of the one tree in it
 pub record Extends (old new : View) : Type 0 where
   pub input : new.input ≡ old.input
   pub rest : left new ≡ left old
