@@ -129,6 +129,7 @@ pub(crate) fn operation(p: &mut Parser<'_>, condition: bool)
 
 /// Parses an operation that starts with an operand.
 // a + b
+#[inline(never)]
 #[cycle(grammar)]
 fn operands(p: &mut Parser<'_>, condition: bool)
     requires unmarked { IsMark None p.old }
@@ -208,6 +209,7 @@ pub(crate) fn after_operand(p: &mut Parser<'_>, frame: Marker, condition: bool) 
 
 /// Parses what follows an operand and its operators: ranges, operands after `|>`, an assignment.
 // ..b = c
+#[inline(never)]
 #[cycle(grammar)]
 pub(crate) fn operation_tail(p: &mut Parser<'_>, frame: Marker, condition: bool) -> Marker
     requires innermost { IsInnermost frame p.old.nodes }
@@ -229,6 +231,7 @@ pub(crate) fn operation_tail(p: &mut Parser<'_>, frame: Marker, condition: bool)
 
 /// Parses the operands after `|>`, and an assignment after those.
 // a |> f() |> g() = b
+#[inline(never)]
 #[cycle(grammar)]
 fn pipe_tail(p: &mut Parser<'_>, frame: Marker, condition: bool) -> Marker
     requires innermost { IsInnermost frame p.old.nodes }
@@ -248,6 +251,7 @@ fn pipe_tail(p: &mut Parser<'_>, frame: Marker, condition: bool) -> Marker
 
 /// Parses an optional assignment operator and its right operand. `operator` is the next operator.
 // = b
+#[inline(never)]
 #[cycle(grammar)]
 fn opt_assignment(p: &mut Parser<'_>, frame: Marker, operator: Operator, condition: bool) -> Marker
     requires next { IsNext operator p.old }

@@ -32,6 +32,7 @@ use rust_productions::grammar::{
 
 /// Parses a field of a record expression.
 // a: 1
+#[inline(never)]
 #[cycle(grammar)]
 pub(crate) fn field_value(p: &mut Parser<'_>, condition: bool)
     requires begins { Saw condition (looks rules.field_value) p.old true }
@@ -177,6 +178,7 @@ fn path_value(p: &mut Parser<'_>)
 
 /// Parses a field of a record pattern.
 // a: Some(b)
+#[inline(never)]
 #[cycle(grammar)]
 pub(crate) fn pattern_field(p: &mut Parser<'_>)
     requires begins { (c : Bool) → Saw c (looks rules.pattern_field) p.old true }

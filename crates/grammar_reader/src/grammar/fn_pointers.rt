@@ -63,6 +63,7 @@ fn fn_ptr_words(p: &mut Parser<'_>)
 
 /// Parses a parameter.
 // #[a] b: u8
+#[inline(never)]
 #[cycle(grammar)]
 pub(crate) fn fn_ptr_param(p: &mut Parser<'_>)
     requires begins { Starts (begins looks rows.fn_ptr_param) p.old }

@@ -29,6 +29,7 @@ use rust_productions::grammar::{abandon, at, at_second, complete, current, start
 
 /// Parses a generic argument.
 // T = u8
+#[inline(never)]
 #[cycle(grammar)]
 pub(crate) fn generic_arg(p: &mut Parser<'_>)
     requires begins { Starts (looks rules.generic_arg) p.old }
@@ -214,6 +215,7 @@ fn assoc_type_arg(p: &mut Parser<'_>)
 
 /// Parses a type argument.
 // u8
+#[inline(never)]
 #[cycle(grammar)]
 pub(crate) fn type_arg(p: &mut Parser<'_>)
     requires begins { Starts (looks rules.any_type) p.old }

@@ -211,6 +211,7 @@ fn type_param(p: &mut Parser<'_>)
 
 /// Parses a generic parameter.
 // T: A = u8
+#[inline(never)]
 #[cycle(grammar)]
 pub(crate) fn generic_param(p: &mut Parser<'_>)
     requires some { 1 ≤ tokens p.old }

@@ -216,6 +216,7 @@ fn read_element(p: &mut Parser<'_>, element: Element)
 /// Parses an element and its comma, or skips a token into an error. Returns `true` if the list may
 /// continue.
 // a,
+#[inline(always)]
 #[cycle(grammar)]
 fn turn(p: &mut Parser<'_>, list: SyntaxKind, element: Element, closing: SyntaxKind) -> bool
     ensures goes { IsTrue result → TakesTurn false
@@ -243,6 +244,7 @@ fn turn(p: &mut Parser<'_>, list: SyntaxKind, element: Element, closing: SyntaxK
 
 /// Parses the elements of a list.
 // a, b
+#[inline(always)]
 #[cycle(grammar)]
 fn elements(p: &mut Parser<'_>, list: SyntaxKind, element: Element, closing: SyntaxKind)
     ensures reads { Reads false
@@ -254,6 +256,7 @@ fn elements(p: &mut Parser<'_>, list: SyntaxKind, element: Element, closing: Syn
 
 /// Parses the rest of a list after its opening token.
 // a, b)
+#[inline(always)]
 #[cycle(grammar)]
 pub(crate) fn rest_of_list(
     p: &mut Parser<'_>,
@@ -297,6 +300,7 @@ pub(crate) fn tuple_tail(
 
 /// Parses a list.
 // (a, b)
+#[inline(never)]
 #[cycle(grammar)]
 pub(crate) fn list(p: &mut Parser<'_>, which: ListKind)
     requires some { 1 ≤ tokens p.old }

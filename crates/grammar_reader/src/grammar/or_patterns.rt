@@ -19,6 +19,7 @@ use rust_productions::grammar::{abandon, at, start, take, wrap};
 
 /// Parses a pattern.
 // A | B
+#[inline(never)]
 #[cycle(grammar)]
 pub fn pattern(p: &mut Parser<'_>)
     requires begins { (c : Bool) → Saw c (looks rules.pattern) p.old true }

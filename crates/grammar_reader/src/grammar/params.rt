@@ -59,6 +59,7 @@ fn at_self(p: &mut Parser<'_>) -> bool
 
 /// Parses a function parameter.
 // a: u8
+#[inline(never)]
 #[cycle(grammar)]
 pub(crate) fn param(p: &mut Parser<'_>, condition: bool)
     requires begins { (c : Bool) → Saw c (looks rules.param) p.old true }

@@ -85,6 +85,7 @@ pub(crate) fn at_inner_attribute(p: &mut Parser<'_>) -> bool
 
 /// Parses a statement that only the whole language has, or an item there.
 // a::b! { c } d();
+#[inline(never)]
 #[cycle(grammar)]
 fn new_statement(p: &mut Parser<'_>, end: ListEnd)
     requires begins { Starts (wide rows.new_statement_begins) p.old }
@@ -323,6 +324,7 @@ fn expression_statement(p: &mut Parser<'_>, end: ListEnd)
 
 /// Parses a statement that starts with an expression that ends in a block.
 // if a { b }.c();
+#[inline(never)]
 #[cycle(grammar)]
 fn block_statement(p: &mut Parser<'_>, end: ListEnd)
     requires begins { (c : Bool) → Saw c (looks rules.block_like) p.old true }
@@ -395,6 +397,7 @@ fn opt_operators(p: &mut Parser<'_>, frame: Marker) -> Marker
 
 /// Parses an expression and the end of its statement.
 // f();
+#[inline(never)]
 #[cycle(grammar)]
 fn ended_expression(p: &mut Parser<'_>, end: ListEnd)
     requires begins { StartsIn false (looks rules.expression) p.old }

@@ -93,6 +93,7 @@ pub fn at_captured(p: &mut Parser<'_>) -> bool
 
 /// Parses a captured parameter: a lifetime, a name or `Self`.
 // 'a
+#[inline(never)]
 pub fn captured(p: &mut Parser<'_>)
     requires some { 1 ≤ tokens p.old }
     ensures reads { (c : Bool) → Reads c rows.captured p.old p.new }

@@ -30,6 +30,7 @@ use rust_productions::grammar::{at, at_pair, complete, current, expect, start, t
 
 /// Parses an expression without operators, within `frame`, which the caller abandons.
 // (a)
+#[inline(never)]
 #[cycle(grammar)]
 pub(crate) fn inside(p: &mut Parser<'_>, frame: Marker, condition: bool) -> Marker
     requires begins { StartsIn condition (looks rules.atom) p.old }
@@ -86,6 +87,7 @@ pub(crate) fn inside(p: &mut Parser<'_>, frame: Marker, condition: bool) -> Mark
 
 /// Parses a path expression, a macro call or a record expression.
 // S { a: 1 }
+#[inline(never)]
 #[cycle(grammar)]
 fn path_expr(p: &mut Parser<'_>, frame: Marker, condition: bool) -> Marker
     requires begins { Starts (looks rules.path) p.old }
@@ -300,6 +302,7 @@ fn let_expr(p: &mut Parser<'_>)
 /// Parses an expression without operators that only the whole language has, within `frame`. `let`
 /// is read elsewhere.
 // <T as A>::b
+#[inline(never)]
 #[cycle(grammar)]
 fn new_atom(p: &mut Parser<'_>, frame: Marker, condition: bool) -> Marker
     requires begins { Starts (wide rows.new_atom_begins) p.old }

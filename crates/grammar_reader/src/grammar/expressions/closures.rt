@@ -61,6 +61,7 @@ pub(crate) fn move_closure(p: &mut Parser<'_>, condition: bool)
 
 /// Parses a closure parameter.
 // b: u8
+#[inline(never)]
 #[cycle(grammar)]
 pub(crate) fn closure_param(p: &mut Parser<'_>)
     requires begins { (c : Bool) → Saw c (begins looks rows.closure_param) p.old true }

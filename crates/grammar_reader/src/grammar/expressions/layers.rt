@@ -38,6 +38,7 @@ pub(crate) fn layers(p: &mut Parser<'_>, height: u8, condition: bool)
 /// Parses operators of the layers up to `top`, each with its right operand. After an operator of a
 /// layer no tighter one can follow: it would belong to the right operand.
 // * b + c
+#[inline(never)]
 #[cycle(grammar)]
 pub(crate) fn climb(p: &mut Parser<'_>, frame: Marker, top: u8, condition: bool) -> Marker
     requires high { top ≤ 10 }

@@ -174,6 +174,7 @@ fn raw_ref_expr(p: &mut Parser<'_>, condition: bool)
 
 /// Parses an expression without operators, with its postfix operators.
 // a.b(c)?
+#[inline(never)]
 #[cycle(grammar)]
 fn operand(p: &mut Parser<'_>, condition: bool)
     requires begins { Saw condition (looks rules.atom) p.old true }
@@ -209,6 +210,7 @@ fn at_postfix(p: &mut Parser<'_>) -> bool
 
 /// Parses postfix operators.
 // .b(c)?[d]
+#[inline(never)]
 #[cycle(grammar)]
 pub(crate) fn postfixes(p: &mut Parser<'_>, frame: Marker) -> Marker
     requires innermost { IsInnermost frame p.old.nodes }
@@ -224,6 +226,7 @@ pub(crate) fn postfixes(p: &mut Parser<'_>, frame: Marker) -> Marker
 
 /// Parses one postfix operator.
 // [d]
+#[inline(never)]
 #[cycle(grammar)]
 pub(crate) fn postfix(p: &mut Parser<'_>, frame: Marker) -> Marker
     requires some { 1 ≤ tokens p.old }

@@ -65,6 +65,7 @@ pub(crate) fn at_tuple_field(p: &mut Parser<'_>) -> bool
 
 /// Parses a variant of an enum.
 // A { a: u8 }
+#[inline(never)]
 #[cycle(grammar)]
 pub(crate) fn variant(p: &mut Parser<'_>)
     requires begins { Saw false (begins looks rows.variant) p.old true }
@@ -81,6 +82,7 @@ pub(crate) fn variant(p: &mut Parser<'_>)
 
 /// Parses a named field.
 // pub a: u8
+#[inline(never)]
 #[cycle(grammar)]
 pub(crate) fn record_field(p: &mut Parser<'_>)
     requires begins { Saw false (begins looks rows.record_field) p.old true }
@@ -98,6 +100,7 @@ pub(crate) fn record_field(p: &mut Parser<'_>)
 
 /// Parses a tuple field.
 // pub u8
+#[inline(never)]
 #[cycle(grammar)]
 pub(crate) fn tuple_field(p: &mut Parser<'_>)
     requires begins { Saw false (begins looks rows.tuple_field) p.old true }
