@@ -1,11 +1,9 @@
-//! Differences of rewritten trees from their readings; commits that are tried; indents of lines; inputs of the whole language.
+//! Differences of rewritten trees from their readings; commits that are tried; inputs of the whole language.
 use crate::documents::{Changes, read, recorded};
-use anyhow::bail;
 use parser_input::{Edition, LexedStr, SyntaxKind};
 use ra_parser::{Grammar, TopEntryPoint};
 use rowan_green::{TextRange, TextSize};
 use rust_document::Document;
-use rust_source::Source;
 use std::alloc::Global;
 use syntax_tree::TreeIds;
 
@@ -42,16 +40,6 @@ pub(crate) fn tried(
 ) -> anyhow::Result<String> {
     let editor = recorded(alloc, changes, document, ids)?;
     Ok(document.try_commit(alloc, &editor)?)
-}
-
-/// Returns the indent of a function's line.
-pub(crate) fn line_indent(alloc: Global) -> anyhow::Result<String> {
-    let text = "mod m {\n \tfn f() {}\n}";
-    let source = Source::open(alloc, Edition::Edition2021, text)?;
-    match source.find(SyntaxKind::FN, range(10, 19))? {
-        Some(function) => Ok(source.line_indent(&function)?),
-        None => bail!("not found"),
-    }
 }
 
 /// Returns the number of tokens of a text that is read as the whole language.

@@ -1,5 +1,5 @@
 //! Documents that are opened, edited and committed.
-use crate::differences::{difference, line_indent, payload_read, range, tried, whole_input};
+use crate::differences::{difference, payload_read, range, tried, whole_input};
 use anyhow::bail;
 use memory_table::row::{Ask, Row};
 use memory_table::shown::all_shown;
@@ -31,7 +31,6 @@ pub(crate) enum DocumentCall {
     Payload,
     Find,
     Editor,
-    LineIndent,
     WholeInput,
 }
 
@@ -337,7 +336,6 @@ impl Ask for DocumentCall {
         let edition = Edition::Edition2021;
         match self {
             DocumentCall::Payload => payload_read(alloc),
-            DocumentCall::LineIndent => line_indent(alloc),
             DocumentCall::WholeInput => whole_input(alloc),
             DocumentCall::Open(edition, text) => {
                 let document = open(alloc, (edition, text), &mut ids, refused)?;
@@ -488,10 +486,5 @@ pub(crate) const ROWS: &[Row<DocumentCall>] = &[
     ("rust_document::payload", DocumentCall::Payload, "1 1 + 2"),
     ("rust_document::Document::find", DocumentCall::Find, "S"),
     ("rust_document::Document::editor", DocumentCall::Editor, "1"),
-    (
-        "rust_source::Source::line_indent",
-        DocumentCall::LineIndent,
-        " \t",
-    ),
     ("ra_parser::Grammar::input", DocumentCall::WholeInput, "3"),
 ];

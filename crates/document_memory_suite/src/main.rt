@@ -1,4 +1,4 @@
-//! Makes each public call on documents and requests that can run out of memory, and compares its
+//! Makes each public call on documents, requests and sources that can run out of memory, and compares its
 //! answer with the one that a table has. A call that answers out of memory is made a second time: it
 //! has to leave its values as they were, and to give the answer of the table then.
 //!
@@ -11,6 +11,7 @@ mod differences;
 mod documents;
 mod grammars;
 mod requests;
+mod sources;
 
 use memory_table::row::{Tally, try_all};
 
@@ -20,6 +21,7 @@ fn main(rt: HostRuntime) -> anyhow::Result<()> {
     try_all(alloc, documents::ROWS, &mut tally)?;
     try_all(alloc, grammars::ROWS, &mut tally)?;
     try_all(alloc, requests::ROWS, &mut tally)?;
+    try_all(alloc, sources::ROWS, &mut tally)?;
     if tally.refused != 0 {
         println!(rt; "{} out of memory: {}", tally.refused, tally.last_refused)?;
     }

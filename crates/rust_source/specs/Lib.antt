@@ -5,3 +5,5 @@ pub mod Identifiers
 pub mod Nodes
 pub mod Elements
 pub mod Changes
+pub mod ChangedRanges
+pub mod RangedErrors

@@ -6,18 +6,24 @@
 #![tactic(auto)]
 
 pub mod ancestors;
+mod changed_ranges;
 pub mod error;
 pub mod identifiers;
 pub mod lines;
 pub mod making;
+pub mod preview;
+pub mod ranged_errors;
 pub mod source;
 
 pub use ancestors::ancestor_below;
+pub use changed_ranges::ChangedRange;
 pub use error::{NodeError, SourceError};
 pub use lines::Side;
 pub use making::is_of_kind;
 pub use parser_input::{Edition, SyntaxKind};
+pub use preview::Preview;
 pub use ra_parser::{Grammar, TopEntryPoint};
+pub use ranged_errors::RangedError;
 pub use renamer::RenameError;
 pub use rowan_green::{TextRange, TextSize};
 pub use rust_document::{
@@ -38,6 +44,8 @@ pub use typed_nodes::{
     StructParts, Use, UseParts,
 };
 
+#[cfg(test)]
+mod preview_tests;
 #[cfg(test)]
 mod trial_tests;
 #[cfg(test)]

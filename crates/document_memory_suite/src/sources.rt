@@ -1,0 +1,92 @@
+//! Calls of a source that are no call of its document.
+use anyhow::bail;
+use memory_table::row::{Ask, Row};
+use rowan_green::{TextRange, TextSize};
+use rust_source::{Edition, Source, SyntaxElement, SyntaxKind};
+use std::alloc::Global;
+
+/// The calls on a source.
+#[derive(Clone, Copy)]
+pub(crate) enum SourceCall {
+    /// Returns the indent of a function's line.
+    LineIndent,
+    /// Tells what a commit of a new name would change.
+    Preview,
+    /// Lists the places and ends of the messages about a text.
+    RangedErrors(&'static str),
+}
+
+/// Returns a range of bytes.
+fn range(start: u32, end: u32) -> TextRange {
+    if end < start {
+        return TextRange::empty(TextSize(start));
+    }
+    TextRange::new(TextSize(start), TextSize(end))
+}
+
+fn line_indent(alloc: Global) -> anyhow::Result<String> {
+    let text = "mod m {\n \tfn f() {}\n}";
+    let source = Source::open(alloc, Edition::Edition2021, text)?;
+    match source.find(SyntaxKind::FN, range(10, 19))? {
+        Some(function) => Ok(source.line_indent(&function)?),
+        None => bail!("not found"),
+    }
+}
+
+/// Returns the new text, and the changed ranges of both texts.
+fn preview(alloc: Global) -> anyhow::Result<String> {
+    let mut source = Source::open(alloc, Edition::Edition2021, "struct S;")?;
+    let name = source.make_token(SyntaxKind::IDENT, "Tee")?;
+    let mut editor = source.editor()?;
+    if let Some(old) = source.find(SyntaxKind::IDENT, range(7, 8))? {
+        editor.replace(alloc, &old, &SyntaxElement::Token(name))?;
+    }
+    let preview = source.preview(&editor)?;
+    let mut told = format!(in alloc; "{}", preview.text)?;
+    for changed in &preview.changed {
+        let (before, after) = (changed.before, changed.after);
+        let (start, end) = (before.start().0, before.end().0);
+        let (at, to) = (after.start().0, after.end().0);
+        let pair = format!(in alloc; " {start}..{end} {at}..{to}")?;
+        told.push_str(pair.as_str())?;
+    }
+    Ok(told)
+}
+
+fn ranged_errors(alloc: Global, text: &str) -> anyhow::Result<String> {
+    let source = Source::open(alloc, Edition::Edition2021, text)?;
+    let mut told = String::new(alloc);
+    for ranged in source.ranged_errors()? {
+        let message = format!(in alloc; "{}..{};", ranged.error.offset, ranged.end)?;
+        told.push_str(message.as_str())?;
+    }
+    Ok(told)
+}
+
+impl Ask for SourceCall {
+    fn answer(self, alloc: Global, _refused: &mut u32) -> anyhow::Result<String> {
+        match self {
+            SourceCall::LineIndent => line_indent(alloc),
+            SourceCall::Preview => preview(alloc),
+            SourceCall::RangedErrors(text) => ranged_errors(alloc, text),
+        }
+    }
+}
+
+pub(crate) const ROWS: &[Row<SourceCall>] = &[
+    (
+        "rust_source::Source::line_indent",
+        SourceCall::LineIndent,
+        " \t",
+    ),
+    (
+        "rust_source::Source::preview",
+        SourceCall::Preview,
+        "struct Tee; 7..8 7..10",
+    ),
+    (
+        "rust_source::Source::ranged_errors",
+        SourceCall::RangedErrors("const A: u8 = 0x;"),
+        "14..16;",
+    ),
+];
