@@ -3,7 +3,8 @@
     ./test            proves each crate with 'rt ci', over a copy of the tree: tries must-fail edits, runs the tests, and runs each
                       program on its stored input. It leaves out the edits that a crate's ledger has as refused over the same sources,
                       but for a sample of one crate. Of the others it tries at most 100, of one crate at most 50; the commit picks them.
-                      At the end it runs two of the programs with each request for memory refused in turn (refusals.py)
+                      At the end it runs some of the programs with each request for memory refused in turn (refusals.py), and
+                      document_tool on deeply nested texts (deep_texts.py)
     ./test --quick    proves nothing: runs the tests and each program on its stored input, by 'rt try'
     ./test --list     prints the edits that ./test would try, and runs nothing
 
@@ -15,6 +16,7 @@ import resource
 import sys
 import tempfile
 
+import deep_texts
 import ledger
 import progress
 import quick
@@ -84,7 +86,7 @@ def test(copied, tried):
         write(f"test: not all passed; {os.path.relpath(LOG, repository.TOP)} has what 'rt ci' printed")
         write(counts_of_failure(lines[-1], len(missed)))
         return status or 1
-    failed = refusals.failures(repository.TOP, write)
+    failed = refusals.failures(repository.TOP, write) + deep_texts.failures(repository.TOP, write)
     write(f"{len(plan.crates) + len(tried)} passed, {len(failed)} failed")
     return int(bool(failed))
 

@@ -1,7 +1,7 @@
 //! Calls of a source that are no call of its document.
+use crate::differences::range;
 use anyhow::bail;
 use memory_table::row::{Ask, Row};
-use rowan_green::{TextRange, TextSize};
 use rust_source::{Edition, Source, SyntaxElement, SyntaxKind};
 use std::alloc::Global;
 
@@ -14,14 +14,6 @@ pub(crate) enum SourceCall {
     Preview,
     /// Lists the places and ends of the messages about a text.
     RangedErrors(&'static str),
-}
-
-/// Returns a range of bytes.
-fn range(start: u32, end: u32) -> TextRange {
-    if end < start {
-        return TextRange::empty(TextSize(start));
-    }
-    TextRange::new(TextSize(start), TextSize(end))
 }
 
 fn line_indent(alloc: Global) -> anyhow::Result<String> {

@@ -1,6 +1,6 @@
 -- An accepted rewrite is within the limit.
-use Rattle.std.proofs.Common.{◌≡◌, ◌≤◌, Bool, true, false, ◌||◌, not, nat_lt, is_none, refl, sym, ◌∙◌, arith, length}
-use Rattle.rustc_lexer.specs.Rows.{row, first_fit}
+use Rattle.std.proofs.Common.{◌≡◌, ◌≤◌, Bool, true, false, ◌||◌, not, nat_lt, refl, sym, ◌∙◌, arith, length}
+use Rattle.rustc_lexer.specs.Rows.{first_fit}
 use Rattle.rowan_green.specs.Forest.{tree_text}
 use Rattle.tree_rewrite.specs.Change.{has_collision}
 use Rattle.syntax_editor.specs.Editing.{Editing}

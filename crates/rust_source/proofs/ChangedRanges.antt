@@ -1,11 +1,17 @@
 -- Texts that agree outside of changed ranges.
-use Rattle.std.proofs.Common.{◌≡◌, ℕ, ◌+◌, ◌-◌, ◌≤◌, true, List, [], ◌∷◌, ◌++◌, take, drop, slice_range, take-append-drop, sym, ap, ◌∙◌, arith}
-use Rattle.std.proofs.lemmas.List.{drop-take, drop-drop, take-take}
+use Rattle.std.proofs.Common.{◌≡◌, ℕ, ◌+◌, ◌-◌, ◌≤◌, true, false, Bool, reverse, refl, if◌then◌else◌, List, [], ◌∷◌, ◌++◌, map, take, drop, slice_range, take-append-drop, append_assoc, sym, ap, ◌∙◌, arith}
+use Rattle.std.proofs.lemmas.List.{drop-take, drop-drop, take-take, reverse-append}
 use Rattle.std.specs.Str.{IsCharBoundary}
 use Rattle.rust_document.specs.Edit.{can_edit}
 use Rattle.rust_document.proofs.Boundaries.{boundary-to, editable}
-use Rattle.rust_source.specs.ChangedRanges.{AreSame, AgreeBetween, Agrees, IsMoved, CanKeep}
+use Rattle.rust_source.specs.ChangedRanges.{ahead, between, bounds, bytes_of, changes_with, if_any, standing, standing_at, standing_in, stays, AreSame, AgreeBetween, Agrees, IsMoved, CanKeep, Standing}
+use Rattle.rowan.specs.Place.{start_of, end_of}
+use Rattle.syntax_tree.specs.Handle.{element_of}
+use Rattle.syntax_tree.specs.declared.element.SyntaxElement.{SyntaxElement}
+use Rattle.tree_rewrite.specs.declared.piece.Piece.{Piece}
+use Rattle.tree_rewrite.specs.declared.piece.Piece.TheVariants.{Whole}
 use Rattle.rust_source.specs.declared.changed_ranges.ChangedRange.{ChangedRange}
+use Rattle.rust_source.specs.declared.changed_ranges.Walk.{Walk}
 use Rattle.rust_source.specs.declared.changed_ranges.Agreement.{Agreement}
 
 take-plus : (n m : ℕ) (xs : List ℕ) → take (n + m) xs ≡ take n xs ++ take m (drop n xs)
@@ -80,3 +86,41 @@ skipped a c agrees is_start is_at to end =
     changed a.before.now a.after.now 0 0 a.ranges.items c (rw (is_start, is_at) agrees.ranges)
     (bounded a.before.now c.before.start.0 c.before.end.0 c.before.ordered (rw is_start agrees.before_boundary) to)
     (bounded a.after.now c.after.start.0 c.after.end.0 c.after.ordered (rw is_at agrees.after_boundary) end)
+
+-- an element that stays, in front of others
+pub kept-ahead : (a b : Agreement) (start end place to stop : ℕ) (ss : List Standing) → stays a.before.now a.after.now a.before_end a.after_end (standing_in start end place) ≡ true → IsMoved a b start place
+    → to ≡ end → stop ≡ place + (end - start) → map bounds b.ranges.items ++ between b.before.now b.after.now to stop ss ≡ ahead a (standing_in start end place ∷ ss)
+kept-ahead a b start end place to stop ss is moved is_to is_stop =
+    let told = map bounds a.ranges.items in
+    let gap = if_any a.before_end start a.after_end place in
+    let rest = between a.before.now a.after.now end (place + (end - start)) ss in
+    rw (moved.before, moved.after, is_to, is_stop) (ap (λ l. l ++ rest) moved.ranges
+    ∙ append_assoc told gap rest
+    ∙ sym (ap (λ (t : Bool). told ++ (if t then gap ++ rest else between a.before.now a.after.now a.before_end a.after_end ss)) is))
+
+-- ---- piece by piece
+
+bytes-between : (e : SyntaxElement) (start end : ℕ) → start ≡ start_of (element_of e).place → end ≡ end_of (element_of e).place → end - start ≡ bytes_of e
+bytes-between e start end is_start is_end = omega (arith, is_start, is_end)
+
+same-standing : (e : SyntaxElement) (start end place : ℕ) → start ≡ start_of (element_of e).place → end ≡ end_of (element_of e).place → standing_in start end place ≡ standing_at place e
+same-standing e start end place is_start is_end = λ i. record { start = is_start i; end = is_end i; place = place; stop = place + bytes-between e start end is_start is_end i }
+
+-- an element that no change inserted
+pub passed : (w u : Walk) (e : SyntaxElement) (start end : ℕ) (ps : List Piece) → start ≡ start_of (element_of e).place → end ≡ end_of (element_of e).place → w.is_inserted ≡ false
+    → ((ss : List Standing) → ahead u.agreement ss ≡ ahead w.agreement (standing_in start end w.place ∷ ss)) → u.is_inserted ≡ w.is_inserted → u.around.items ≡ w.around.items
+    → u.place ≡ w.place + (end - start) → changes_with u ps ≡ changes_with w (Whole e ∷ ps)
+passed w u e start end ps is_start is_end inserted next is around place =
+    let rest = standing false (reverse w.around.items) (w.place + bytes_of e) ps in
+    rw (is, inserted, around, place, bytes-between e start end is_start is_end)
+    (next rest ∙ ap (λ s. ahead w.agreement (s ∷ rest)) (same-standing e start end w.place is_start is_end))
+
+-- an inserted one
+pub passed-over : (w u : Walk) (e : SyntaxElement) (start end : ℕ) (ps : List Piece) → start ≡ start_of (element_of e).place → end ≡ end_of (element_of e).place → w.is_inserted ≡ true
+    → u.agreement ≡ w.agreement → u.is_inserted ≡ w.is_inserted → u.around.items ≡ w.around.items → u.place ≡ w.place + (end - start) → changes_with u ps ≡ changes_with w (Whole e ∷ ps)
+passed-over w u e start end ps is_start is_end inserted next is around place = rw (is, inserted, around, place, bytes-between e start end is_start is_end, next) refl
+
+-- the start of a node or a group
+pub entered : (w u : Walk) (inserted : Bool) (ps : List Piece) → u.agreement ≡ w.agreement → u.place ≡ w.place → u.is_inserted ≡ inserted → u.around.items ≡ w.around.items ++ w.is_inserted ∷ []
+    → changes_with u ps ≡ ahead w.agreement (standing inserted (w.is_inserted ∷ reverse w.around.items) w.place ps)
+entered w u inserted ps same place is around = rw (same, place, is, around, reverse-append w.around.items (w.is_inserted ∷ [])) refl

@@ -1,5 +1,5 @@
 -- The range of each message of a text.
-use Rattle.std.specs.Prelude.{◌≡◌, ◌≤◌, ℕ, chars, ◌==◌, nat_lt, if◌then◌else◌, List, [], ◌∷◌, map, Option, None, Some}
+use Rattle.std.specs.Prelude.{◌≡◌, ◌≤◌, ℕ, chars, ◌==◌, if◌then◌else◌, List, [], ◌∷◌, map, Option, None, Some}
 use Rattle.rust_document.specs.Reading.{Fault, OfGrammar, OfLeaf, Message}
 use Rattle.rust_document.specs.Seen.{message_of_error}
 use Rattle.rust_document.specs.Tokens.{Span, span_of, tokens_of}
@@ -9,11 +9,10 @@ use Rattle.rust_source.specs.declared.ranged_errors.Ends.{Ends}
 use Rattle.rust_source.specs.declared.ranged_errors.RangedError.{RangedError}
 use Rattle.rust_source.specs.declared.ranged_errors.TokensLeft.{TokensLeft}
 
--- The end of the first token that does not begin before a place, if it begins there; else the place. Tokens come in order.
+-- The end of the token that begins at a place; where none does, the place.
 abbrev pub token_end : ℕ → List Span → ℕ
 token_end place [] = place
-token_end place (t ∷ ts) =
-    if nat_lt t.start place then token_end place ts else (if t.start == place then t.end else place)
+token_end place (t ∷ ts) = if t.start == place then t.end else token_end place ts
 
 -- A message of the lexer ends with the token that it is about, one of the parser where it begins.
 abbrev pub fault_end : List Span → ℕ → Fault → ℕ
@@ -31,7 +30,7 @@ with_end tokens m = (m, message_end tokens m)
 abbrev pub ranged : RangedError → Message × ℕ
 ranged r = (message_of_error r.error, r.end)
 
--- ---- tokens of which the first is apart; without it none is left
+-- ---- tokens of which the first is apart; without it none is left. Only proofs use what follows.
 
 abbrev pub all_left : Option LexedToken → List LexedToken → List LexedToken
 all_left None ts = []
@@ -44,11 +43,17 @@ spans_left t = map span_of (all_left t.first t.after)
 pub record TellsAlike (from : ℕ) (some all : List Span) : Type 0 where
   pub ends : (place : ℕ) → from ≤ place → token_end place some ≡ token_end place all
 
+-- The first begins at this place or behind it, and each other at the start of the one before or behind it.
+abbrev pub BeginFrom : ℕ → List Span → Type 0
+BeginFrom n [] = Unit {0}
+BeginFrom n (t ∷ ts) = (n ≤ t.start) × BeginFrom t.start ts
+
 -- ---- the tokens of a source
 
 abbrev pub all_tokens : Held → List Span
 all_tokens s = tokens_of s.document.edition (chars s.document.text)
 
--- those that are left tell the ends from a place on
-abbrev pub AreEnds : Ends → Type 0
-AreEnds e = TellsAlike e.from (spans_left e.left) (all_tokens e.source.now)
+-- those that are left come in order, and tell the ends from a place on
+pub record AreEnds (e : Ends) : Type 0 where
+  pub alike : TellsAlike e.from (spans_left e.left) (all_tokens e.source.now)
+  pub ordered : BeginFrom 0 (spans_left e.left)

@@ -1,14 +1,21 @@
 //! The ranges of a text that a rewrite changes, beside those of the new text.
-ghost use Rattle.std.specs.Prelude.{◌≡◌, ◌+◌, ◌<◌, ◌≤◌, ◌^◌, [], length, IsTrue, IfOk, OnOk};
+ghost use Rattle.std.specs.Prelude.{◌≡◌, ◌+◌, ◌<◌, ◌≤◌, ◌^◌, ◌||◌, List, [], ◌∷◌, ◌++◌, length, map, IsTrue, IfOk, OnOk};
 ghost use Rattle.std.specs.Str.{IsCharBoundary};
-ghost use Rattle.rust_source.specs.ChangedRanges.{AreChanges, Agrees, CanKeep, CanWalk, HasWalked, IsMoved};
+ghost use Rattle.tree_rewrite.specs.Fits.{IsNode};
+ghost use Rattle.tree_rewrite.specs.Marked.{Marked};
+ghost use Rattle.tree_rewrite.specs.Pieces.{Say};
+ghost use Rattle.tree_rewrite.specs.Tracking.{bytes_by};
+ghost use Rattle.tree_rewrite.specs.declared.piece.Piece.TheVariants.{Whole, Close};
+ghost use Rattle.rust_document.specs.Edit.{can_edit};
+ghost use Rattle.rust_source.specs.ChangedRanges.{ahead, between, bounds, bytes_of, changes_with, standing_in, stays, AreBetween, AreChanges, Agrees, CanKeep, CanWalk, HasWalked, IsMoved, Standing};
 
 use rowan_green::{TextRange, TextSize};
 use std::alloc::{AllocError, Global};
 use syntax_tree::SyntaxElement;
 use tree_rewrite::piece::Piece;
+use tree_rewrite::plan::Rewritten;
 
-/// A range of a text, and the range of the new text that stands in its place.
+/// A range of a text, and the range of the new text that replaces it.
 #[derive(Clone, Copy, Debug, PartialEq, Eq)]
 pub struct ChangedRange {
     pub before: TextRange,
@@ -26,12 +33,24 @@ struct Agreement<'a> {
     after_end: u32,
 }
 
+/// Returns `true` if the bytes of `text` from `start` to just before `end` are whole characters.
+fn can_edit(text: &str, start: usize, end: usize) -> bool
+    requires { start ≤ end }
+    ensures test { result ≡ can_edit text.now start end }
+    ensures start { IsTrue result → IsCharBoundary text.now start }
+    ensures end { IsTrue result → IsCharBoundary text.now end }
+{
+    text.is_char_boundary(start) && text.is_char_boundary(end)
+}
+
 impl<'a> Agreement<'a> {
     /// Creates the agreement of two texts up to their starts.
     fn new(alloc: Global, before: &'a str, after: &'a str) -> Agreement<'a>
         ensures agrees { Agrees result }
         ensures before { result.before.now ≡ before.entry.now }
         ensures after { result.after.now ≡ after.entry.now }
+        ensures ahead { (ss : List Standing)
+            → ahead result ss ≡ between before.entry.now after.entry.now 0 0 ss }
     {
         Agreement {
             before,
@@ -63,10 +82,13 @@ impl<'a> Agreement<'a> {
         Ok(())
     }
 
-    /// Returns `true` if `range` of the text before comes behind the ends, and the text after reads
-    /// the same from `place` on.
+    /// Returns `true` if `range` of the text before comes behind the ends, and the text after has the
+    /// same bytes from `place` on.
     fn can_keep(&self, range: TextRange, place: u32) -> bool
-        ensures { IsTrue result → CanKeep self.now range.start.0 range.end.0 place }
+        ensures keeps { IsTrue result → CanKeep self.now range.start.0 range.end.0 place }
+        ensures stays { result
+            ≡ stays self.now.before.now self.now.after.now self.now.before_end self.now.after_end
+            (standing_in range.start.0 range.end.0 place) }
     {
         let start = usize::from(range.start());
         let end = usize::from(range.end());
@@ -75,10 +97,7 @@ impl<'a> Agreement<'a> {
         if range.start().0 < self.before_end || place < self.after_end {
             return false;
         }
-        if !self.before.is_char_boundary(start) || !self.before.is_char_boundary(end) {
-            return false;
-        }
-        if !self.after.is_char_boundary(from) || !self.after.is_char_boundary(to) {
+        if !can_edit(self.before, start, end) || !can_edit(self.after, from, to) {
             return false;
         }
         self.before.as_bytes()[start..end] == self.after.as_bytes()[from..to]
@@ -87,7 +106,9 @@ impl<'a> Agreement<'a> {
     /// Records that `range` of the text before stands at `place` of the text after, if it does.
     fn keep(&mut self, range: TextRange, place: u32) -> Result<(), AllocError>
         requires { CanWalk self.old }
-        ensures { OnOk result (HasWalked self.old self.new) }
+        ensures walked { OnOk result (HasWalked self.old self.new) }
+        ensures ahead { (ss : List Standing) → OnOk result (ahead self.new ss
+            ≡ ahead self.old (standing_in range.start.0 range.end.0 place ∷ ss)) }
     {
         if self.can_keep(range, place) {
             self.skip_to(range.start().0, place)?;
@@ -100,7 +121,9 @@ impl<'a> Agreement<'a> {
     /// Returns the changed ranges of the whole texts.
     fn finish(mut self) -> Result<Vec<ChangedRange>, AllocError>
         requires { CanWalk self }
-        ensures { IfOk result (λ v. AreChanges self.entry.before.now self.entry.after.now v.items) }
+        ensures changes { IfOk result (λ v.
+            AreChanges self.entry.before.now self.entry.after.now v.items) }
+        ensures ahead { IfOk result (λ v. map bounds v.items ≡ ahead self.entry []) }
     {
         let to = self.before.len() as u32;
         let end = self.after.len() as u32;
@@ -123,20 +146,30 @@ struct Walk<'a> {
 impl Walk<'_> {
     /// Passes an element with all elements below it.
     fn pass(&mut self, element: &SyntaxElement) -> Result<(), AllocError>
-        requires { CanWalk self.old.agreement }
-        ensures { OnOk result (HasWalked self.old.agreement self.new.agreement) }
+        requires walk { CanWalk self.old.agreement }
+        requires fits { self.old.place + bytes_of element.now < 2 ^ 32 }
+        ensures walked { OnOk result (HasWalked self.old.agreement self.new.agreement) }
+        ensures ahead { (ps : List Piece) → OnOk result (changes_with self.new ps
+            ≡ changes_with self.old (Whole element.now ∷ ps)) }
+        ensures place { OnOk result (self.new.place ≡ self.old.place + bytes_of element.now) }
     {
         let range = element.text_range();
-        if !self.is_inserted {
-            self.agreement.keep(range, self.place)?;
+        if self.is_inserted {
+            self.place += range.len().0;
+            return Ok(());
         }
-        self.place = self.place.saturating_add(range.len().0);
+        self.agreement.keep(range, self.place)?;
+        self.place += range.len().0;
         Ok(())
     }
 
     /// Enters a node or a group of inserted elements.
     fn enter(&mut self, is_group: bool) -> Result<(), AllocError>
-        ensures { OnOk result (self.new.agreement ≡ self.old.agreement) }
+        ensures agreement { OnOk result (self.new.agreement ≡ self.old.agreement) }
+        ensures place { OnOk result (self.new.place ≡ self.old.place) }
+        ensures inserted { OnOk result (self.new.is_inserted ≡ (self.old.is_inserted || is_group)) }
+        ensures around { OnOk result (self.new.around.items
+            ≡ self.old.around.items ++ self.old.is_inserted ∷ []) }
     {
         self.around.push(self.is_inserted)?;
         self.is_inserted = self.is_inserted || is_group;
@@ -145,7 +178,10 @@ impl Walk<'_> {
 
     /// Leaves the node or group that was entered last.
     fn leave(&mut self)
-        ensures { self.new.agreement ≡ self.old.agreement }
+        ensures agreement { self.new.agreement ≡ self.old.agreement }
+        ensures place { self.new.place ≡ self.old.place }
+        ensures ahead { (ps : List Piece) → changes_with self.new ps
+            ≡ changes_with self.old (Close ∷ ps) }
     {
         if let Some(is_inserted) = self.around.pop() {
             self.is_inserted = is_inserted;
@@ -154,8 +190,12 @@ impl Walk<'_> {
 
     /// Processes one piece.
     fn step(&mut self, piece: &Piece) -> Result<(), AllocError>
-        requires { CanWalk self.old.agreement }
-        ensures { OnOk result (HasWalked self.old.agreement self.new.agreement) }
+        requires walk { CanWalk self.old.agreement }
+        requires fits { self.old.place + bytes_by piece.now < 2 ^ 32 }
+        ensures walked { OnOk result (HasWalked self.old.agreement self.new.agreement) }
+        ensures ahead { (ps : List Piece) → OnOk result (changes_with self.new ps
+            ≡ changes_with self.old (piece.now ∷ ps)) }
+        ensures place { OnOk result (self.new.place ≡ self.old.place + bytes_by piece.now) }
     {
         match piece {
             Piece::Whole(element) => self.pass(element)?,
@@ -167,26 +207,31 @@ impl Walk<'_> {
     }
 }
 
-/// Returns the ranges of `before` that a rewrite changes, each beside the range of `after`, the
-/// rewritten tree's text, that stands in its place. `pieces` are those of the rewritten tree: what
-/// is unchanged in it is found by them.
+/// Returns the ranges of `before` that a rewrite changes, each beside the range of `after` that
+/// replaces it. `made` is the rewritten tree, and `after` its text: the elements that no change
+/// inserted are found by its pieces.
 pub(crate) fn changed_ranges(
     alloc: Global,
     before: &str,
     after: &str,
-    pieces: &[Piece],
+    made: &Rewritten,
 ) -> Result<Vec<ChangedRange>, AllocError>
     requires before { length before.now < 2 ^ 32 }
     requires after { length after.now < 2 ^ 32 }
-    ensures { IfOk result (λ v. AreChanges before.now after.now v.items) }
+    requires made { (m : Marked) × (Say made.now.pieces.items m × IsNode m made.now.green) }
+    ensures changes { IfOk result (λ v. AreChanges before.now after.now v.items) }
+    ensures between { IfOk result (λ v.
+        AreBetween before.now after.now made.now.pieces.items v.items) }
 {
+    // The pieces have as many bytes as the tree, which a range of its text can tell.
+    let _bytes = made.green.text_len();
     let mut walk = Walk {
         agreement: Agreement::new(alloc, before, after),
         place: 0,
         is_inserted: false,
         around: Vec::new(alloc),
     };
-    for piece in pieces {
+    for piece in &made.pieces {
         walk.step(piece)?;
     }
     let Walk { agreement, .. } = walk;

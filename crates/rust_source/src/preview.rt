@@ -4,7 +4,8 @@ ghost use Rattle.rowan_green.specs.Forest.{tree_text};
 ghost use Rattle.rust_document.specs.Commit.{RefusesCommit};
 ghost use Rattle.rust_document.specs.Rewrite.{rewritten};
 ghost use Rattle.rust_document.specs.Step.{verdict, Accepted};
-ghost use Rattle.rust_source.specs.ChangedRanges.{AreChanges};
+ghost use Rattle.rust_source.specs.ChangedRanges.{AreChanges, AreRewritten};
+ghost use Rattle.syntax_editor.specs.Rewriting.{rewriting};
 
 use crate::changed_ranges::{ChangedRange, changed_ranges};
 use crate::source::Source;
@@ -31,6 +32,9 @@ impl Source {
         ensures text { IfOk result (λ p. string_bytes p.text ≡ tree_text (rewritten editor.now)) }
         ensures changed { IfOk result (λ p.
             AreChanges self.now.document.text (string_bytes p.text) p.changed.items) }
+        ensures rewritten { IfOk result (λ p.
+            AreRewritten self.now.document.text (string_bytes p.text) (rewriting editor.now)
+            p.changed.items) }
         ensures refused { IfErr result (λ error. (number : ℕ)
             → RefusesCommit (verdict self.now.document editor.now) number error) }
     {
@@ -39,7 +43,7 @@ impl Source {
         let Ok(made) = editor.rewritten(self.alloc) else {
             return Err(CommitError::NoMemory);
         };
-        let changed = changed_ranges(self.alloc, self.text(), text.as_str(), &made.pieces)?;
+        let changed = changed_ranges(self.alloc, self.text(), text.as_str(), &made)?;
         Ok(Preview { text, changed })
     }
 }

@@ -3,7 +3,7 @@ ghost use Rattle.std.specs.Prelude.{◌≡◌, chars, map, IfOk};
 ghost use Rattle.rust_document.specs.Reading.{messages_in};
 ghost use Rattle.rust_document.specs.Seen.{message_of_error};
 ghost use Rattle.rust_document.specs.Tokens.{span_of, tokens_of};
-ghost use Rattle.rust_source.specs.RangedErrors.{all_tokens, message_end, ranged, spans_left, token_end, with_end, AreEnds, TellsAlike};
+ghost use Rattle.rust_source.specs.RangedErrors.{all_tokens, message_end, ranged, spans_left, token_end, with_end, AreEnds, BeginFrom, TellsAlike};
 
 use crate::source::Source;
 use rust_document::{LexedToken, SyntaxError, SyntaxMessage, Tokens};
@@ -25,9 +25,11 @@ struct TokensLeft<'a> {
 }
 
 impl<'a> TokensLeft<'a> {
-    fn of(mut tokens: Tokens<'a>) -> TokensLeft<'a>
-        ensures { spans_left result ≡ map span_of tokens.entry }
+    fn of(source: &'a Source) -> TokensLeft<'a>
+        ensures tokens { spans_left result ≡ all_tokens source.entry.now }
+        ensures ordered { BeginFrom 0 (spans_left result) }
     {
+        let mut tokens = source.tokens();
         let first = tokens.next();
         TokensLeft {
             first,
@@ -38,8 +40,10 @@ impl<'a> TokensLeft<'a> {
     /// Skips the tokens that begin before `place`, and returns the end of the one that begins there,
     /// or `place` if none does.
     fn end_of_token(&mut self, place: usize) -> usize
+        requires { BeginFrom 0 (spans_left self.old) }
         ensures end { result ≡ token_end place (spans_left self.old) }
         ensures rest { TellsAlike place (spans_left self.new) (spans_left self.old) }
+        ensures ordered { BeginFrom 0 (spans_left self.new) }
     {
         'skip: while let Some(token) = self.first {
             let start = usize::from(token.range.start());
@@ -55,8 +59,8 @@ impl<'a> TokensLeft<'a> {
     }
 }
 
-/// The ends of the messages of a source. They are found in one pass over the tokens where they are
-/// asked for in order of place.
+/// The ends of the messages of a source. Where they are asked for in order of place, the tokens are
+/// walked once.
 #[derive(Drop)]
 struct Ends<'a> {
     source: &'a Source,
@@ -71,7 +75,7 @@ impl<'a> Ends<'a> {
     {
         Ends {
             source,
-            left: TokensLeft::of(source.tokens()),
+            left: TokensLeft::of(source),
             from: 0,
         }
     }
@@ -84,7 +88,7 @@ impl<'a> Ends<'a> {
         ensures source { self.new.source.now ≡ self.old.source.now }
     {
         if place < self.from {
-            self.left = TokensLeft::of(self.source.tokens());
+            self.left = TokensLeft::of(self.source);
         }
         self.from = place;
         self.left.end_of_token(place)

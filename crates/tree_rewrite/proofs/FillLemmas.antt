@@ -5,7 +5,7 @@ use Rattle.std.proofs.lemmas.Option.{slice_get-get_or}
 use Rattle.rowan_green.specs.Forest.{Forest, empty, node, leaf, Tree, forest_count}
 use Rattle.rowan_green.specs.Term.{Term, terms}
 use Rattle.rowan_green.specs.declared.utility_types.NodeOrToken.TheVariants.{Node, Token}
-use Rattle.rowan.specs.Place.{terms_below, children_in, below, kind_at}
+use Rattle.rowan.specs.Place.{terms_below, children_in, below}
 use Rattle.rowan.specs.Around.{numbered, children}
 use Rattle.syntax_tree.specs.Element.{Way, Element, term_of}
 use Rattle.syntax_tree.specs.Handle.{element_of, with_number, with_cursor}
@@ -14,10 +14,11 @@ use Rattle.syntax_tree.specs.declared.element.SyntaxElement.TheVariants as eleme
 use Rattle.tree_rewrite.specs.Change.{is_within, covers}
 use Rattle.tree_rewrite.specs.Marked.{Marked, nothing, inner, token, join, with_put, origin_at, gap, slot, Sheet, blank, or_own, filled, read_from, reading_of}
 use Rattle.tree_rewrite.specs.Below.{AgreeBelow, AgreeChild}
+use Rattle.tree_rewrite.specs.Filling.{size_of, sizes_of, ChildrenLeft}
 use Rattle.tree_rewrite.specs.Fill.{Given, laid, at_gap, IsBlankBelow, inside, node_in, standing}
-use Rattle.tree_rewrite.specs.Pieces.{added, after, after_piece, in_node, in_group, Adds}
+use Rattle.tree_rewrite.specs.Pieces.{added, after, after_piece, in_group, Adds}
 use Rattle.tree_rewrite.specs.declared.piece.Piece.{Piece}
-use Rattle.tree_rewrite.specs.declared.piece.Piece.TheVariants.{Whole, Open, Group, Close}
+use Rattle.tree_rewrite.specs.declared.piece.Piece.TheVariants.{Whole, Group, Close}
 use Rattle.tree_rewrite.proofs.MarkedLemmas.{filled_agree, agree_from}
 use Rattle.tree_rewrite.proofs.SheetLemmas.{after-append}
 use Rattle.std.proofs.lemmas.Bool.{or_left, and_from, le-leb, false≢true}
@@ -105,15 +106,7 @@ child-whole gs n e w i x h o =
 pub adds-whole : (ps qs : List Piece) (x : SyntaxElement) → qs ≡ ps ++ Whole x ∷ [] → Adds ps qs (reading_of blank (element_of x))
 adds-whole ps qs x e = record { says = λ s. ap (λ l. after l s) e ∙ after-append ps (Whole x ∷ []) s }
 
--- ---- the terms of a node or a group of inserted elements, after its contents
-pub adds-node : (ps opened qs rs : List Piece) (x : Element) (f : Marked) → opened ≡ ps ++ Open x ∷ [] → Adds opened qs f → rs ≡ qs ++ Close ∷ []
-    → Adds ps rs (inner (record { origin = x; put = false }) (kind_at x.place) f nothing)
-adds-node ps opened qs rs x f o a e = record {
-  says = λ s.
-      let here : after opened s ≡ record { done = nothing; around = in_node (after ps s).done x (after ps s).around } = ap (λ l. after l s) o ∙ after-append ps (Open x ∷ []) s in
-      ap (λ l. after l s) e ∙ after-append qs (Close ∷ []) s ∙ ap (after_piece Close) (a.says s ∙ ap (added f) here);
-}
-
+-- ---- the terms of a group of inserted elements, after its contents
 pub adds-group : (ps opened qs rs : List Piece) (b : Bool) (f : Marked) → opened ≡ ps ++ Group b ∷ [] → Adds opened qs f → rs ≡ qs ++ Close ∷ [] → Adds ps rs (with_put b f)
 adds-group ps opened qs rs b f o a e = record {
   says = λ s.
@@ -122,17 +115,6 @@ adds-group ps opened qs rs b f o a e = record {
 }
 
 -- ---- children, one after another
-
--- the size of what is copied
-abbrev pub size_of : Element → ℕ
-size_of x = 1 + forest_count (inside (term_of x))
-
--- the children of a node from a number on
-pub record ChildrenLeft (x : Element) (i : ℕ) (left : List SyntaxElement) : Type 0 where
-  pub rest : Forest
-  pub left_is : left ≡ map (with_cursor x.number) (numbered x.place i (terms rest))
-  pub drops : terms rest ≡ drop i (terms_below x.place)
-  pub fewer : forest_count rest < size_of x
 
 pub terms-inside : (o : Option Term) → terms (inside o) ≡ children_in o
 terms-inside None = refl
@@ -153,6 +135,7 @@ pub record NextChild (x : Element) (i : ℕ) (child : SyntaxElement) (left : Lis
   pub at : element_of child ≡ record { number = x.number; place = below x.place i }
   pub inside_bound : i < length (terms_below x.place)
   pub smaller : size_of (element_of child) < size_of x
+  pub counted : forest_count rest ≡ size_of (element_of child) + forest_count after.rest
   pub reads : (s : Sheet) (e : Element) (w : Way) → filled s e w i rest ≡ join (or_own (s (gap w i)) nothing) (join (standing s e (i ∷ w) (term_of (element_of child))) (filled s e w (i + 1) after.rest))
 
 pub drop_first : (xs : List Term) (i : ℕ) (y : Term) (ys : List Term) → y ∷ ys ≡ drop i xs → (slice_get xs i ≡ Some y) × (ys ≡ drop (i + 1) xs) × (i < length xs)
@@ -180,6 +163,7 @@ next_child x i child all left c h = by_rest c.rest c.left_is c.drops c.fewer
           at = at;
           inside_bound = found.2;
           smaller = omega (arith, l, ap (λ o. forest_count (inside o)) term);
+          counted = omega (arith, ap (λ o. forest_count (inside o)) term);
           reads = λ s e w. ap (λ o. join (or_own (s (gap w i)) nothing) (join (standing s e (i ∷ w) o) (filled s e w (i + 1) r))) (sym term);
         }
     by_rest (leaf t r) is d l =
@@ -194,6 +178,7 @@ next_child x i child all left c h = by_rest c.rest c.left_is c.drops c.fewer
           at = at;
           inside_bound = found.2;
           smaller = omega (arith, l, ap (λ o. forest_count (inside o)) term);
+          counted = omega (arith, ap (λ o. forest_count (inside o)) term);
           reads = λ s e w. ap (λ o. join (or_own (s (gap w i)) nothing) (join (standing s e (i ∷ w) o) (filled s e w (i + 1) r))) (sym term);
         }
 
@@ -205,6 +190,13 @@ none_left x i left c h = by_rest c.rest c.left_is
     by_rest empty is = refl
     by_rest (node k f r) is = absurd (omega (arith, ap length (sym h ∙ is)))
     by_rest (leaf t r) is = absurd (omega (arith, ap length (sym h ∙ is)))
+
+-- the elements of the children that are left
+pub left_count : (x : Element) (i : ℕ) (left : List SyntaxElement) (c : ChildrenLeft x i left) → sizes_of left ≡ forest_count c.rest
+left_count x i [] c = sym (ap forest_count (none_left x i [] c refl))
+left_count x i (y ∷ ys) c =
+    let n = next_child x i y (y ∷ ys) ys c refl in
+    omega (arith, n.counted, left_count x (i + 1) ys n.after)
 
 -- ---- on success
 pub on_ok : {A E : Type 0} (r : Result A E) (P Q : Type 0) → (P → Q) → OnOk r P → OnOk r Q

@@ -12,8 +12,10 @@ pub mod KeptLemmas
 pub mod MovedLemmas
 pub mod SheetLemmas
 pub mod FillLemmas
+pub mod FillingLemmas
 pub mod FitLemmas
 pub mod BelowLemmas
+pub mod PathLemmas
 pub mod GreenLemmas
 pub mod ExecuteLemmas
 pub mod RootLemmas

@@ -1,12 +1,12 @@
 -- The terms that executed changes insert. Model of the code; only proofs use it.
-use Rattle.std.specs.Prelude.{◌≡◌, ℕ, List, [], ◌∷◌, reverse, Option, Some, None, Bool, true, ◌&&◌, slice_get}
+use Rattle.std.specs.Prelude.{◌≡◌, ℕ, List, [], ◌∷◌, length, reverse, Option, Some, None, Bool, true, ◌&&◌, slice_get}
 use Rattle.rowan_green.specs.Forest.{Forest, empty}
 use Rattle.rowan_green.specs.Term.{Term}
 use Rattle.rowan_green.specs.declared.utility_types.NodeOrToken.TheVariants.{Node, Token}
 use Rattle.syntax_tree.specs.Element.{Way, Element}
-use Rattle.tree_rewrite.specs.Change.{is_within}
+use Rattle.tree_rewrite.specs.Change.{Change, is_within}
 use Rattle.tree_rewrite.specs.Marked.{Marked, nothing, inner, token, gap, slot, Sheet, or_own, origin_at, filled}
-use Rattle.tree_rewrite.specs.Reach.{reaches}
+use Rattle.tree_rewrite.specs.Reach.{reaches, is_deep}
 use Rattle.tree_rewrite.specs.Rewrite.{Job, Sheets, same_sheet, blank_sheets, write, puts, terms_of}
 use Rattle.tree_rewrite.specs.Pieces.{Say}
 use Rattle.tree_rewrite.specs.declared.piece.Put.{Put}
@@ -60,6 +60,18 @@ at_slot gs n w = or_own (laid gs n (slot w)) nothing
 -- the change affects elements below the one at `v` in a target tree
 abbrev pub touches : Option Way → Way → Given → Bool
 touches n v g = same_sheet g.0.sheet n && reaches v g.0.change
+
+-- the change affects, in a target tree, children of an element at this depth, or elements below these
+abbrev pub is_deep_on : Option Way → ℕ → Given → Bool
+is_deep_on n d g = same_sheet g.0.sheet n && is_deep d g.0.change
+
+-- the change, if it leads as deep as the element at `v`, leads through this element
+abbrev pub IsAlong : Way → Change → Type 0
+IsAlong v c = is_deep (length v) c ≡ true → reaches v c ≡ true
+
+abbrev pub AreAlong : Way → List Given → Type 0
+AreAlong v [] = Unit {0}
+AreAlong v (g ∷ gs) = IsAlong v g.0.change × AreAlong v gs
 
 -- none of the changes affects elements below the one at `v` in a target tree
 abbrev pub IsBlankBelow : List Given → Option Way → Way → Type 0

@@ -10,6 +10,7 @@ pub mod Plan
 pub mod Reach
 pub mod Pieces
 pub mod Fill
+pub mod Filling
 pub mod Below
 pub mod Fits
 pub mod Came

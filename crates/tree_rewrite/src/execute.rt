@@ -10,7 +10,7 @@ ghost use Rattle.tree_rewrite.specs.Fill.{HavePut};
 ghost use Rattle.tree_rewrite.specs.Listed.{IsListed};
 ghost use Rattle.tree_rewrite.specs.Pieces.{Adds, Say};
 
-use crate::fill::{push_standing, push_whole};
+use crate::fill::{Overlay, push_standing, push_whole};
 use crate::job::Job;
 use crate::on_payloads::OnPayloads;
 use crate::piece::{Piece, Put};
@@ -38,7 +38,13 @@ fn push_payload(
         None => push_whole(copy, pieces)?,
         Some(way) => {
             let numbers = listed.numbers(alloc, way)?;
-            push_standing(alloc, jobs, made, &numbers, own, copy, &[], pieces)?;
+            let overlay = Overlay {
+                alloc,
+                jobs,
+                made,
+                sheet: own,
+            };
+            push_standing(&overlay, &numbers, copy, pieces)?;
         }
     }
     Ok(())

@@ -1,20 +1,53 @@
 //! Elements of a target tree after some executed changes. Elements that no change affects are
-//! shared.
-ghost use Rattle.std.specs.Prelude.{◌≡◌, ◌∷◌, List, IfOk, OnOk};
-ghost use Rattle.syntax_tree.specs.Element.{Element, term_of};
+//! shared. The nodes above a change are open at the same time, on a stack of their own, so no
+//! function calls itself, however deep a tree is.
+ghost use Rattle.std.specs.Prelude.{◌≡◌, ◌<◌, ◌+◌, ◌*◌, List, [], ◌∷◌, length, reverse, IfOk, OnOk};
+ghost use Rattle.syntax_tree.specs.Element.{Way, Element, term_of};
 ghost use Rattle.syntax_tree.specs.Handle.{element_of};
-ghost use Rattle.tree_rewrite.specs.Marked.{join, origin_at, filled, blank, reading_of};
+ghost use Rattle.tree_rewrite.specs.Marked.{origin_at, blank, reading_of};
+ghost use Rattle.tree_rewrite.specs.Moved.{way_above};
 ghost use Rattle.tree_rewrite.specs.Recorded.{way_of};
-ghost use Rattle.tree_rewrite.specs.Fill.{Given, laid, HaveGiven, at_gap, standing, node_in, inside};
-ghost use Rattle.tree_rewrite.specs.Pieces.{Adds};
+ghost use Rattle.tree_rewrite.specs.Fill.{Given, laid, HaveGiven, at_gap, standing};
+ghost use Rattle.tree_rewrite.specs.Filling.{size_of, IsNew, child_in, Closes, AreOpen, LeadTo, with_opened, level_size, level_sizes};
+ghost use Rattle.tree_rewrite.specs.Below.{lists_of, AreLists};
+ghost use Rattle.tree_rewrite.specs.Pieces.{Stand, added, after, Adds};
+ghost use Rattle.tree_rewrite.specs.declared.fill.Level.{Level};
 
 use crate::job::Job;
 use crate::lists::{list_at, lists_below};
-use crate::moved::with_number;
 use crate::piece::{Piece, Put};
 use crate::sheet::{is_touched, push_gap, push_slot};
 use std::alloc::{AllocError, Global};
-use syntax_tree::{SyntaxElement, SyntaxNode};
+use syntax_tree::{SyntaxElement, SyntaxElementChildren, SyntaxNode};
+
+/// The executed changes `made` of the planned changes `jobs`, for the target tree `sheet`.
+#[derive(Clone, Copy)]
+pub struct Overlay<'a> {
+    pub alloc: Global,
+    pub jobs: &'a [Job],
+    pub made: &'a [Put],
+    pub sheet: &'a Option<Vec<usize>>,
+}
+
+/// An open node: its children that are not appended yet, and the index of the first of them.
+struct Level {
+    children: SyntaxElementChildren,
+    index: usize,
+    /// For each child, and for the gap after the last one, the indices of the executed changes that
+    /// may affect it.
+    lists: Vec<Vec<usize>>,
+}
+
+// Not derived: a derived drop is opened field by field in each function that drops one.
+impl Drop for Level {
+    fn drop(self) {
+        let Level {
+            children: _children,
+            index: _,
+            lists: _lists,
+        } = self;
+    }
+}
 
 /// Appends `element`, unchanged, as one piece.
 pub(crate) fn push_whole(element: SyntaxElement, pieces: &mut Vec<Piece>) -> Result<(), AllocError>
@@ -25,123 +58,235 @@ pub(crate) fn push_whole(element: SyntaxElement, pieces: &mut Vec<Piece>) -> Res
     Ok(())
 }
 
-/// Appends the element at up-path `way` of target tree `sheet`, with the executed changes at
-/// `numbers`.
-#[cycle(fill)]
-pub fn push_standing(
-    alloc: Global,
-    jobs: &[Job],
-    made: &[Put],
-    numbers: &[usize],
-    sheet: &Option<Vec<usize>>,
-    element: SyntaxElement,
-    way: &[usize],
-    pieces: &mut Vec<Piece>,
-) -> Result<(), AllocError>
-    ensures { (gs : List Given) (e : Element) → HaveGiven jobs.now made.now numbers.now gs
-        → element_of element ≡ (origin_at e way.now).origin → OnOk result
-        (Adds pieces.old.items pieces.new.items
-        (standing (laid gs (way_of sheet.now)) e way.now (term_of (element_of element)))) }
+/// Appends `opened`, if it is a node.
+fn push_opened(opened: Option<Level>, levels: &mut Vec<Level>) -> Result<(), AllocError>
+    ensures { OnOk result
+        (reverse levels.new.items ≡ with_opened opened (reverse levels.old.items)) }
 {
-    if push_slot(jobs, made, numbers, sheet, way, pieces)? {
-        return Ok(());
+    if let Some(level) = opened {
+        levels.push(level)?;
     }
-    match element {
-        SyntaxElement::Token(token) => {
-            let _stands = token.cursor().green();
-            push_whole(SyntaxElement::Token(token), pieces)
+    Ok(())
+}
+
+/// Removes the last index of `path`, if there is one.
+fn leave(path: &mut Vec<usize>)
+    ensures { reverse path.new.items ≡ way_above (reverse path.old.items) }
+{
+    path.pop();
+}
+
+impl Overlay<'_> {
+    /// Opens `node`, which is at depth `depth`. None of its children is appended.
+    fn open_node(
+        &self,
+        numbers: &[usize],
+        node: &SyntaxNode,
+        depth: usize,
+    ) -> Result<Level, AllocError>
+        ensures new { (e : Element) (w : Way) → node.now ≡ (origin_at e w).origin
+            → IfOk result (λ l. IsNew e w l) }
+        ensures lists { (gs : List Given) (w : Way)
+            → HaveGiven self.now.jobs.now self.now.made.now numbers.now gs → length w ≡ depth
+            → IfOk result (λ l. AreLists self.now.jobs.now self.now.made.now
+            (lists_of l.lists.items) (way_of self.now.sheet.now) w gs) }
+        ensures size { IfOk result (λ l. level_size l < 2 * size_of node.now) }
+    {
+        let count = node.cursor().green().children().len();
+        let lists = lists_below(self.alloc, self.jobs, self.made, numbers, depth, count + 1)?;
+        let children = node.children_with_tokens(self.alloc)?;
+        Ok(Level {
+            children,
+            index: 0,
+            lists,
+        })
+    }
+
+    /// Appends the element at `path`. Of a node that has changes below it only the start is
+    /// appended, and the open node is returned; else `path` loses its last index.
+    fn enter(
+        &self,
+        numbers: &[usize],
+        element: SyntaxElement,
+        path: &mut Vec<usize>,
+        pieces: &mut Vec<Piece>,
+    ) -> Result<Option<Level>, AllocError>
+        ensures opened { (e : Element) (ls : List Level)
+            → element_of element ≡ (origin_at e (reverse path.old.items)).origin
+            → AreOpen e (way_above (reverse path.old.items)) ls
+            → IfOk result (λ o. AreOpen e (reverse path.new.items) (with_opened o ls)) }
+        ensures terms { (gs : List Given) (e : Element) (ls : List Level) (s t : Stand)
+            → HaveGiven self.now.jobs.now self.now.made.now numbers.now gs
+            → element_of element ≡ (origin_at e (reverse path.old.items)).origin
+            → LeadTo self.now.jobs.now self.now.made.now (way_of self.now.sheet.now) e
+            (way_above (reverse path.old.items)) ls
+            (added (standing (laid gs (way_of self.now.sheet.now)) e (reverse path.old.items)
+            (term_of (element_of element))) (after pieces.old.items s)) t
+            → IfOk result (λ o. LeadTo self.now.jobs.now self.now.made.now
+            (way_of self.now.sheet.now) e (reverse path.new.items) (with_opened o ls)
+            (after pieces.new.items s) t) }
+        ensures size { IfOk result (λ o. level_sizes (with_opened o [])
+            < 2 * size_of (element_of element)) }
+    {
+        if push_slot(self.jobs, self.made, numbers, self.sheet, path, pieces)? {
+            leave(path);
+            return Ok(None);
         }
-        SyntaxElement::Node(node) => {
-            let _stands = node.cursor().green();
-            if is_touched(jobs, made, numbers, sheet, way) {
-                push_node(alloc, jobs, made, numbers, sheet, &node, way, pieces)
-            } else {
-                push_whole(SyntaxElement::Node(node), pieces)
+        match element {
+            SyntaxElement::Token(token) => {
+                let _stands = token.cursor().green();
+                leave(path);
+                push_whole(SyntaxElement::Token(token), pieces)?;
+                Ok(None)
+            }
+            SyntaxElement::Node(node) => {
+                let _stands = node.cursor().green();
+                if !is_touched(self.jobs, self.made, numbers, self.sheet, path.len()) {
+                    leave(path);
+                    push_whole(SyntaxElement::Node(node), pieces)?;
+                    return Ok(None);
+                }
+                let level = self.open_node(numbers, &node, path.len())?;
+                pieces.push(Piece::Open(node))?;
+                Ok(Some(level))
             }
         }
     }
-}
 
-/// Appends a node that is not replaced itself.
-#[cycle(fill)]
-fn push_node(
-    alloc: Global,
-    jobs: &[Job],
-    made: &[Put],
-    numbers: &[usize],
-    sheet: &Option<Vec<usize>>,
-    node: &SyntaxNode,
-    way: &[usize],
-    pieces: &mut Vec<Piece>,
-) -> Result<(), AllocError>
-    ensures { (gs : List Given) (e : Element) → HaveGiven jobs.now made.now numbers.now gs
-        → node.now ≡ (origin_at e way.now).origin → OnOk result
-        (Adds pieces.old.items pieces.new.items
-        (node_in (laid gs (way_of sheet.now)) e way.now (term_of node.now))) }
-{
-    let _stands = node.cursor().green();
-    pieces.push(Piece::Open(node.clone()?))?;
-    fill(alloc, jobs, made, numbers, sheet, node, way, pieces)?;
-    pieces.push(Piece::Close)?;
-    Ok(())
-}
+    /// Appends the contents of the gap before `child`, the next child of `level`, which is at
+    /// `path`, and the child. If the child is opened, it is returned, and `path` leads to it.
+    fn push_child(
+        &self,
+        level: &Level,
+        child: SyntaxElement,
+        path: &mut Vec<usize>,
+        pieces: &mut Vec<Piece>,
+    ) -> Result<Option<Level>, AllocError>
+        requires { level.now.index < length level.now.lists.items }
+        ensures opened { (e : Element) (ls : List Level)
+            → element_of child ≡ (origin_at e (level.now.index ∷ reverse path.old.items)).origin
+            → AreOpen e (reverse path.old.items) ls
+            → IfOk result (λ o. AreOpen e (reverse path.new.items) (with_opened o ls)) }
+        ensures terms { (gs : List Given) (e : Element) (ls : List Level) (s t : Stand)
+            → AreLists self.now.jobs.now self.now.made.now (lists_of level.now.lists.items)
+            (way_of self.now.sheet.now) (reverse path.old.items) gs
+            → element_of child ≡ (origin_at e (level.now.index ∷ reverse path.old.items)).origin
+            → LeadTo self.now.jobs.now self.now.made.now (way_of self.now.sheet.now) e
+            (reverse path.old.items) ls
+            (added (child_in gs (way_of self.now.sheet.now) e (reverse path.old.items)
+            level.now.index (element_of child)) (after pieces.old.items s)) t
+            → IfOk result (λ o. LeadTo self.now.jobs.now self.now.made.now
+            (way_of self.now.sheet.now) e (reverse path.new.items) (with_opened o ls)
+            (after pieces.new.items s) t) }
+        ensures size { IfOk result (λ o. level_sizes (with_opened o [])
+            < 2 * size_of (element_of child)) }
+    {
+        let numbers = list_at(&level.lists, level.index);
+        if numbers.is_empty() {
+            push_whole(child, pieces)?;
+            return Ok(None);
+        }
+        push_gap(
+            self.jobs,
+            self.made,
+            numbers,
+            self.sheet,
+            path,
+            level.index,
+            pieces,
+        )?;
+        path.push(level.index)?;
+        self.enter(numbers, child, path, pieces)
+    }
 
-/// Appends the children of a node, gap by gap and slot by slot.
-#[cycle(fill)]
-fn fill(
-    alloc: Global,
-    jobs: &[Job],
-    made: &[Put],
-    numbers: &[usize],
-    sheet: &Option<Vec<usize>>,
-    node: &SyntaxNode,
-    way: &[usize],
-    pieces: &mut Vec<Piece>,
-) -> Result<(), AllocError>
-    ensures { (gs : List Given) (e : Element) → HaveGiven jobs.now made.now numbers.now gs
-        → node.now ≡ (origin_at e way.now).origin → OnOk result
-        (Adds pieces.old.items pieces.new.items
-        (filled (laid gs (way_of sheet.now)) e way.now 0 (inside (term_of node.now)))) }
-{
-    let count = node.cursor().green().children().len();
-    let lists = lists_below(alloc, jobs, made, numbers, way.len(), count + 1)?;
-    let mut children = node.children_with_tokens(alloc)?;
-    let mut index = 0;
-    while let Some(child) = children.next() {
+    /// Closes the node at `path`, which has no children left, after the contents of its last gap.
+    /// `path` loses its last index.
+    fn close(
+        &self,
+        level: &Level,
+        path: &mut Vec<usize>,
+        pieces: &mut Vec<Piece>,
+    ) -> Result<(), AllocError>
+        requires { level.now.index < length level.now.lists.items }
+        ensures terms { (gs : List Given)
+            → AreLists self.now.jobs.now self.now.made.now (lists_of level.now.lists.items)
+            (way_of self.now.sheet.now) (reverse path.old.items) gs
+            → OnOk result (Closes pieces.old.items pieces.new.items
+            (at_gap gs (way_of self.now.sheet.now) (reverse path.old.items) level.now.index)) }
+        ensures path { OnOk result
+            (reverse path.new.items ≡ way_above (reverse path.old.items)) }
+    {
+        let last = list_at(&level.lists, level.index);
+        push_gap(
+            self.jobs,
+            self.made,
+            last,
+            self.sheet,
+            path,
+            level.index,
+            pieces,
+        )?;
+        pieces.push(Piece::Close)?;
+        leave(path);
+        Ok(())
+    }
+
+    /// Appends the next child of `level`, the innermost open node, which is at `path`; or closes
+    /// it, if no child is left. `levels` are the nodes around it, outermost first; the nodes that
+    /// are open after the step are appended to them.
+    fn step(
+        &self,
+        level: Level,
+        levels: &mut Vec<Level>,
+        path: &mut Vec<usize>,
+        pieces: &mut Vec<Piece>,
+    ) -> Result<(), AllocError>
+        requires { level.index < length level.lists.items }
+        ensures opened { (e : Element)
+            → AreOpen e (reverse path.old.items) (level ∷ reverse levels.old.items)
+            → OnOk result (AreOpen e (reverse path.new.items) (reverse levels.new.items)) }
+        ensures terms { (e : Element) (s t : Stand)
+            → LeadTo self.now.jobs.now self.now.made.now (way_of self.now.sheet.now) e
+            (reverse path.old.items) (level ∷ reverse levels.old.items)
+            (after pieces.old.items s) t
+            → OnOk result (LeadTo self.now.jobs.now self.now.made.now (way_of self.now.sheet.now) e
+            (reverse path.new.items) (reverse levels.new.items) (after pieces.new.items s) t) }
+        ensures size { OnOk result (level_sizes (reverse levels.new.items)
+            < level_sizes (level ∷ reverse levels.old.items)) }
+    {
+        let mut level = level;
+        let Some(child) = level.children.next() else {
+            return self.close(&level, path, pieces);
+        };
         let child = child?;
-        prove!(index < count);
-        let own = list_at(&lists, index);
-        push_child(alloc, jobs, made, own, sheet, child, way, index, pieces)?;
-        index += 1;
+        let opened = self.push_child(&level, child, path, pieces)?;
+        let count = level.lists.len();
+        prove!(level.index < count);
+        level.index += 1;
+        levels.push(level)?;
+        push_opened(opened, levels)
     }
-    let last = list_at(&lists, index);
-    push_gap(jobs, made, last, sheet, way, index, pieces)?;
-    Ok(())
 }
 
-/// Appends the contents of the gap before a child, and the child, with the executed changes.
-#[cycle(fill)]
-fn push_child(
-    alloc: Global,
-    jobs: &[Job],
-    made: &[Put],
+/// Appends `element`, the root of a target tree or an element of a payload, with the executed
+/// changes at `numbers`.
+pub fn push_standing(
+    overlay: &Overlay<'_>,
     numbers: &[usize],
-    sheet: &Option<Vec<usize>>,
-    child: SyntaxElement,
-    way: &[usize],
-    index: usize,
+    element: SyntaxElement,
     pieces: &mut Vec<Piece>,
 ) -> Result<(), AllocError>
-    ensures { (gs : List Given) (e : Element) → HaveGiven jobs.now made.now numbers.now gs
-        → element_of child ≡ (origin_at e (index ∷ way.now)).origin → OnOk result
+    ensures { (gs : List Given)
+        → HaveGiven overlay.now.jobs.now overlay.now.made.now numbers.now gs → OnOk result
         (Adds pieces.old.items pieces.new.items
-        (join (at_gap gs (way_of sheet.now) way.now index)
-        (standing (laid gs (way_of sheet.now)) e (index ∷ way.now) (term_of (element_of child))))) }
+        (reading_of (laid gs (way_of overlay.now.sheet.now)) (element_of element))) }
 {
-    if numbers.is_empty() {
-        return push_whole(child, pieces);
+    let mut path = Vec::new(overlay.alloc);
+    let mut levels = Vec::new(overlay.alloc);
+    let opened = overlay.enter(numbers, element, &mut path, pieces)?;
+    push_opened(opened, &mut levels)?;
+    while let Some(level) = levels.pop() {
+        overlay.step(level, &mut levels, &mut path, pieces)?;
     }
-    push_gap(jobs, made, numbers, sheet, way, index, pieces)?;
-    let below = with_number(alloc, index, way)?;
-    push_standing(alloc, jobs, made, numbers, sheet, child, &below, pieces)
+    Ok(())
 }

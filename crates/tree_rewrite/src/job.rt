@@ -1,9 +1,9 @@
 //! Planned changes, and the orders in which they may be executed one at a time.
-ghost use Rattle.std.specs.Prelude.{◌≡◌, ◌&&◌, Some, ℕ, length, is_none, map};
+ghost use Rattle.std.specs.Prelude.{◌≡◌, ◌&&◌, Some, ℕ, length, reverse, is_none, map};
 ghost use Rattle.std.specs.List.{list_all};
 ghost use Rattle.tree_rewrite.specs.Rewrite.{same_sheet, sets, first_way, payload_of};
 ghost use Rattle.tree_rewrite.specs.Marked.{gap, slot};
-ghost use Rattle.tree_rewrite.specs.Reach.{reaches};
+ghost use Rattle.tree_rewrite.specs.Reach.{is_deep};
 ghost use Rattle.syntax_tree.specs.Element.{Way, same_way};
 ghost use Rattle.syntax_tree.specs.Handle.{element_of};
 ghost use Rattle.tree_rewrite.specs.Orders.{is_owned, same_gap, may_follow, in_order, is_order};
@@ -108,37 +108,37 @@ impl Job {
         }
     }
 
-    /// Returns `true` if it inserts into gap `index` of the node at up-path `way` in target tree
-    /// `sheet`.
-    pub(crate) fn sets_gap(&self, sheet: &Option<Vec<usize>>, way: &[usize], index: usize) -> bool
+    /// Returns `true` if it inserts into gap `index` of the node at `path` in target tree `sheet`.
+    pub(crate) fn sets_gap(&self, sheet: &Option<Vec<usize>>, path: &[usize], index: usize) -> bool
         ensures { result ≡ (same_sheet self.now.sheet (way_of sheet.now)
-            && sets self.now.change (gap way.now index)) }
+            && sets self.now.change (gap (reverse path.now) index)) }
     {
-        same_sheet(&self.sheet, sheet) && self.change.sets_gap(way, index)
+        same_sheet(&self.sheet, sheet) && self.change.sets_gap(path, index)
     }
 
-    /// Returns `true` if it replaces the element at up-path `way` in target tree `sheet`.
-    pub(crate) fn sets_slot(&self, sheet: &Option<Vec<usize>>, way: &[usize]) -> bool
+    /// Returns `true` if it replaces the element at `path` in target tree `sheet`.
+    pub(crate) fn sets_slot(&self, sheet: &Option<Vec<usize>>, path: &[usize]) -> bool
         ensures { result ≡ (same_sheet self.now.sheet (way_of sheet.now)
-            && sets self.now.change (slot way.now)) }
+            && sets self.now.change (slot (reverse path.now))) }
     {
-        same_sheet(&self.sheet, sheet) && self.change.replaces(way)
+        same_sheet(&self.sheet, sheet) && self.change.sets_slot(path)
     }
 
-    /// Returns `true` if it affects elements below the one at up-path `way` in target tree `sheet`.
-    pub(crate) fn reaches(&self, sheet: &Option<Vec<usize>>, way: &[usize]) -> bool
+    /// Returns `true` if it affects, in target tree `sheet`, children of an element at depth
+    /// `depth`, or elements below these.
+    pub(crate) fn is_deep(&self, sheet: &Option<Vec<usize>>, depth: usize) -> bool
         ensures { result ≡ (same_sheet self.now.sheet (way_of sheet.now)
-            && reaches way.now self.now.change) }
+            && is_deep depth self.now.change) }
     {
-        same_sheet(&self.sheet, sheet) && self.change.reaches(way)
+        same_sheet(&self.sheet, sheet) && self.change.is_deep(depth)
     }
 
-    /// Returns `true` if `way` is the up-path of the first element that it replaces; for an
-    /// insertion, if `way` is the root's.
-    pub(crate) fn begins_at(&self, way: &[usize]) -> bool
-        ensures { result ≡ same_way (first_way self.now.change) way.now }
+    /// Returns `true` if `path` leads to the first element that it replaces; for an insertion, if
+    /// `path` leads to the root.
+    pub(crate) fn begins_at(&self, path: &[usize]) -> bool
+        ensures { result ≡ same_way (first_way self.now.change) (reverse path.now) }
     {
-        self.change.begins_at(way)
+        self.change.begins_at(path)
     }
 
     /// Returns `true` if it applies to target tree `sheet`.

@@ -169,11 +169,7 @@ fn change_below(
 }
 
 /// Returns the up-path of child `number` of the node at up-path `way`.
-pub(crate) fn with_number(
-    alloc: Global,
-    number: usize,
-    way: &[usize],
-) -> Result<Vec<usize>, AllocError>
+fn with_number(alloc: Global, number: usize, way: &[usize]) -> Result<Vec<usize>, AllocError>
     ensures { IfOk result (λ v. v.items ≡ number ∷ way.now) }
 {
     let mut below = vec![in alloc; number]?;

@@ -18,7 +18,7 @@ use crate::changed::changed_of;
 use crate::depth::deepest_first;
 use crate::error::{ExecuteError, PlanError};
 use crate::execute::make_all;
-use crate::fill::push_standing;
+use crate::fill::{Overlay, push_standing};
 use crate::green::{green_of, one_node};
 use crate::held_ways::held_ways;
 use crate::job::{Job, is_order};
@@ -181,16 +181,13 @@ impl Plan {
         let _stands = self.top.cursor().green();
         let top = SyntaxElement::Node(self.top.clone()?);
         let numbers = on_sheet(alloc, &self.jobs, &made, &None)?;
-        push_standing(
+        let overlay = Overlay {
             alloc,
-            &self.jobs,
-            &made,
-            &numbers,
-            &None,
-            top,
-            &[],
-            &mut pieces,
-        )?;
+            jobs: &self.jobs,
+            made: &made,
+            sheet: &None,
+        };
+        push_standing(&overlay, &numbers, top, &mut pieces)?;
         Ok(pieces)
     }
 }

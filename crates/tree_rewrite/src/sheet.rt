@@ -1,16 +1,16 @@
 //! Contents of the gaps and slots of a target tree after some executed changes. Only the executed
-//! changes whose indices are given are examined.
-ghost use Rattle.std.specs.Prelude.{◌≡◌, List, Some, ℕ, ◌&&◌, slice_get, is_some, if◌then◌else◌, IfOk, OnOk};
+//! changes whose indices are given are examined. Elements are named by paths: child indices from the
+//! root down.
+ghost use Rattle.std.specs.Prelude.{◌≡◌, List, Some, ℕ, ◌&&◌, length, reverse, slice_get, is_some, if◌then◌else◌, IfOk, OnOk};
 ghost use Rattle.std.specs.Bool.{OnFalse};
 ghost use Rattle.std.specs.List.{list_any};
 ghost use Rattle.std.specs.Option.{option_copied};
-ghost use Rattle.syntax_tree.specs.Element.{same_way};
+ghost use Rattle.syntax_tree.specs.Element.{Way, same_way};
 ghost use Rattle.tree_rewrite.specs.Marked.{Marked, nothing, gap, slot};
 ghost use Rattle.tree_rewrite.specs.Rewrite.{Job, same_sheet, sets, first_way};
 ghost use Rattle.tree_rewrite.specs.Recorded.{way_of};
-ghost use Rattle.tree_rewrite.specs.Fill.{Given, laid, IsGiven, HaveGiven, touches, IsBlankBelow, at_gap, at_slot};
+ghost use Rattle.tree_rewrite.specs.Fill.{Given, laid, IsGiven, HaveGiven, touches, is_deep_on, AreAlong, IsBlankBelow, at_gap, at_slot};
 ghost use Rattle.tree_rewrite.specs.Pieces.{Adds};
-ghost use Rattle.tree_rewrite.specs.Reach.{reaches};
 
 use crate::job::Job;
 use crate::piece::{Piece, Put, push_pieces};
@@ -32,65 +32,68 @@ fn sets_gap(
     made: &[Put],
     number: usize,
     sheet: &Option<Vec<usize>>,
-    way: &[usize],
+    path: &[usize],
     index: usize,
 ) -> bool
     ensures { (g : Given) → IsGiven jobs.now (slice_get made.now number) g
-        → result ≡ (same_sheet g.0.sheet (way_of sheet.now) && sets g.0.change (gap way.now index)) }
+        → result ≡ (same_sheet g.0.sheet (way_of sheet.now)
+        && sets g.0.change (gap (reverse path.now) index)) }
 {
     match job_of(jobs, made, number) {
-        Some(job) => job.sets_gap(sheet, way, index),
+        Some(job) => job.sets_gap(sheet, path, index),
         None => false,
     }
 }
 
-/// Returns `true` if the executed change at index `number` replaces the element at up-path `way` in
+/// Returns `true` if the executed change at index `number` replaces the element at `path` in
 /// target tree `sheet`.
 fn sets_slot(
     jobs: &[Job],
     made: &[Put],
     number: usize,
     sheet: &Option<Vec<usize>>,
-    way: &[usize],
+    path: &[usize],
 ) -> bool
     ensures { (g : Given) → IsGiven jobs.now (slice_get made.now number) g
-        → result ≡ (same_sheet g.0.sheet (way_of sheet.now) && sets g.0.change (slot way.now)) }
+        → result ≡ (same_sheet g.0.sheet (way_of sheet.now)
+        && sets g.0.change (slot (reverse path.now))) }
 {
     match job_of(jobs, made, number) {
-        Some(job) => job.sets_slot(sheet, way),
+        Some(job) => job.sets_slot(sheet, path),
         None => false,
     }
 }
 
-/// Returns `true` if `way` is the up-path of the first element that the executed change at index
-/// `number` replaces; for an insertion, if `way` is the root's.
-fn begins_at(jobs: &[Job], made: &[Put], number: usize, way: &[usize]) -> bool
+/// Returns `true` if `path` leads to the first element that the executed change at index `number`
+/// replaces; for an insertion, if `path` leads to the root.
+fn begins_at(jobs: &[Job], made: &[Put], number: usize, path: &[usize]) -> bool
     ensures { (g : Given) → IsGiven jobs.now (slice_get made.now number) g
-        → result ≡ same_way (first_way g.0.change) way.now }
+        → result ≡ same_way (first_way g.0.change) (reverse path.now) }
 {
     match job_of(jobs, made, number) {
-        Some(job) => job.begins_at(way),
+        Some(job) => job.begins_at(path),
         None => false,
     }
 }
 
 /// Appends the pieces that the executed changes at `numbers` inserted into gap `index` of the node
-/// at up-path `way` in target tree `sheet`, the last executed change first.
+/// at `path` in target tree `sheet`, the last executed change first.
 pub fn push_gap(
     jobs: &[Job],
     made: &[Put],
     numbers: &[usize],
     sheet: &Option<Vec<usize>>,
-    way: &[usize],
+    path: &[usize],
     index: usize,
     pieces: &mut Vec<Piece>,
 ) -> Result<(), AllocError>
     ensures { (gs : List Given) → HaveGiven jobs.now made.now numbers.now gs → OnOk result
-        (Adds pieces.old.items pieces.new.items (at_gap gs (way_of sheet.now) way.now index)) }
+        (Adds pieces.old.items pieces.new.items
+        (at_gap gs (way_of sheet.now) (reverse path.now) index)) }
 {
     let mut rest = numbers;
     while let Some((number, before)) = rest.split_last() {
-        let is_there = sets_gap(jobs, made, *number, sheet, way, index);
+        let is_there = sets_gap(jobs, made, *number, sheet, path, index);
         push_if(is_there, made, *number, pieces)?;
         rest = before;
     }
@@ -131,25 +134,26 @@ fn push_if(
     Ok(())
 }
 
-/// Appends the pieces that replace the element at up-path `way` in target tree `sheet`. Returns
+/// Appends the pieces that replace the element at `path` in target tree `sheet`. Returns
 /// `true` if the element is replaced.
 pub fn push_slot(
     jobs: &[Job],
     made: &[Put],
     numbers: &[usize],
     sheet: &Option<Vec<usize>>,
-    way: &[usize],
+    path: &[usize],
     pieces: &mut Vec<Piece>,
 ) -> Result<bool, AllocError>
     ensures replaced { (gs : List Given) → HaveGiven jobs.now made.now numbers.now gs → IfOk result
-        (λ b. b ≡ is_some (laid gs (way_of sheet.now) (slot way.now))) }
+        (λ b. b ≡ is_some (laid gs (way_of sheet.now) (slot (reverse path.now)))) }
     ensures added { (gs : List Given) → HaveGiven jobs.now made.now numbers.now gs → OnOk result
-        (Adds pieces.old.items pieces.new.items (at_slot gs (way_of sheet.now) way.now)) }
+        (Adds pieces.old.items pieces.new.items
+        (at_slot gs (way_of sheet.now) (reverse path.now))) }
 {
     let mut rest = numbers;
     while let Some((number, before)) = rest.split_last() {
-        if sets_slot(jobs, made, *number, sheet, way) {
-            push_if(begins_at(jobs, made, *number, way), made, *number, pieces)?;
+        if sets_slot(jobs, made, *number, sheet, path) {
+            push_if(begins_at(jobs, made, *number, path), made, *number, pieces)?;
             return Ok(true);
         }
         rest = before;
@@ -157,41 +161,43 @@ pub fn push_slot(
     Ok(false)
 }
 
-/// Returns `true` if the executed change at index `number` affects elements below the one at
-/// up-path `way` in target tree `sheet`.
-fn reaches(
+/// Returns `true` if the executed change at index `number` affects, in target tree `sheet`,
+/// children of an element at depth `depth`, or elements below these.
+fn is_deep(
     jobs: &[Job],
     made: &[Put],
     number: usize,
     sheet: &Option<Vec<usize>>,
-    way: &[usize],
+    depth: usize,
 ) -> bool
     ensures { (g : Given) → IsGiven jobs.now (slice_get made.now number) g
-        → result ≡ (same_sheet g.0.sheet (way_of sheet.now) && reaches way.now g.0.change) }
+        → result ≡ is_deep_on (way_of sheet.now) depth g }
 {
     match job_of(jobs, made, number) {
-        Some(job) => job.reaches(sheet, way),
+        Some(job) => job.is_deep(sheet, depth),
         None => true,
     }
 }
 
-/// Returns `true` if one of the executed changes at `numbers` affects elements below the one at
-/// up-path `way` in target tree `sheet`. If none does, those elements are unchanged.
+/// Returns `true` if one of the executed changes at `numbers` affects elements below one at depth
+/// `depth` in target tree `sheet`. Only depths are compared: each of them must lead through that
+/// element if it leads as deep, as those do that `lists_below` lists for it. If the result is
+/// `false`, the elements below are unchanged.
 pub fn is_touched(
     jobs: &[Job],
     made: &[Put],
     numbers: &[usize],
     sheet: &Option<Vec<usize>>,
-    way: &[usize],
+    depth: usize,
 ) -> bool
-    ensures touched { (gs : List Given) → HaveGiven jobs.now made.now numbers.now gs
-        → result ≡ list_any (touches (way_of sheet.now) way.now) gs }
-    ensures blank { (gs : List Given) → HaveGiven jobs.now made.now numbers.now gs → OnFalse result
-        (IsBlankBelow gs (way_of sheet.now) way.now) }
+    ensures touched { (gs : List Given) (w : Way) → HaveGiven jobs.now made.now numbers.now gs
+        → length w ≡ depth → AreAlong w gs → result ≡ list_any (touches (way_of sheet.now) w) gs }
+    ensures blank { (gs : List Given) (w : Way) → HaveGiven jobs.now made.now numbers.now gs
+        → length w ≡ depth → OnFalse result (IsBlankBelow gs (way_of sheet.now) w) }
 {
     let mut rest = numbers;
     while let Some((number, before)) = rest.split_last() {
-        if reaches(jobs, made, *number, sheet, way) {
+        if is_deep(jobs, made, *number, sheet, depth) {
             return true;
         }
         rest = before;

@@ -1,17 +1,17 @@
 //! Recorded changes that name their elements by up-paths.
-ghost use Rattle.std.specs.Prelude.{◌≡◌, ◌∷◌, List, ℕ, length, false, map, IfOk};
+ghost use Rattle.std.specs.Prelude.{◌≡◌, ◌∷◌, List, ℕ, length, reverse, false, map, IfOk};
 ghost use Rattle.syntax_tree.specs.Element.{Element};
 ghost use Rattle.syntax_tree.specs.Handle.{element_of};
 ghost use Rattle.syntax_tree.specs.Element.{Way, same_way};
-ghost use Rattle.tree_rewrite.specs.Marked.{gap};
-ghost use Rattle.tree_rewrite.specs.Reach.{reaches};
+ghost use Rattle.tree_rewrite.specs.Marked.{gap, slot};
+ghost use Rattle.tree_rewrite.specs.Reach.{is_deep};
 ghost use Rattle.tree_rewrite.specs.Change.{is_within};
 ghost use Rattle.tree_rewrite.specs.Below.{IsBeyond, LeavesChild};
 ghost use Rattle.tree_rewrite.specs.Rewrite.{payload_of, sets, first_way};
 ghost use Rattle.tree_rewrite.specs.Orders.{same_gap_at};
 ghost use Rattle.tree_rewrite.specs.Recorded.{change_of};
 
-use crate::ways::is_within;
+use crate::ways::{covers_path, has_path};
 use std::alloc::{AllocError, Global};
 use std::marker::Model;
 use syntax_tree::SyntaxElement;
@@ -149,37 +149,45 @@ impl TreeChange {
         self.moved_to(alloc, target)
     }
 
-    /// Returns `true` if it inserts into gap `number` of the node at up-path `way`.
-    pub(crate) fn sets_gap(&self, way: &[usize], number: usize) -> bool
-        ensures { result ≡ sets self.now (gap way.now number) }
+    /// Returns `true` if it inserts into gap `number` of the node at `path`.
+    pub(crate) fn sets_gap(&self, path: &[usize], number: usize) -> bool
+        ensures { result ≡ sets self.now (gap (reverse path.now) number) }
     {
         match &self.target {
-            Target::Gap { parent, index } => parent.as_slice() == way && *index == number,
+            Target::Gap { parent, index } => has_path(parent, path) && *index == number,
             Target::Slots { .. } => false,
         }
     }
 
-    /// Returns `true` if it affects elements below the one at up-path `way`.
-    pub(crate) fn reaches(&self, way: &[usize]) -> bool
-        ensures { result ≡ reaches way.now self.now }
+    /// Returns `true` if it replaces the element at `path`.
+    pub(crate) fn sets_slot(&self, path: &[usize]) -> bool
+        ensures { result ≡ sets self.now (slot (reverse path.now)) }
     {
         match &self.target {
-            Target::Gap { parent, .. } => is_within(way, 0, parent),
-            Target::Slots { first, .. } => match first.split_first() {
-                Some((_, above)) => is_within(way, 0, above),
-                None => false,
-            },
+            Target::Gap { .. } => false,
+            Target::Slots { first, more, .. } => covers_path(first, *more, path),
         }
     }
 
-    /// Returns `true` if `way` is the up-path of the first element that it replaces; for an
-    /// insertion, if `way` is the root's.
-    pub(crate) fn begins_at(&self, way: &[usize]) -> bool
-        ensures { result ≡ same_way (first_way self.now) way.now }
+    /// Returns `true` if it affects children of an element at depth `depth`, or elements below
+    /// these.
+    pub(crate) fn is_deep(&self, depth: usize) -> bool
+        ensures { result ≡ is_deep depth self.now }
     {
         match &self.target {
-            Target::Gap { .. } => way.is_empty(),
-            Target::Slots { first, .. } => first.as_slice() == way,
+            Target::Gap { parent, .. } => depth <= parent.len(),
+            Target::Slots { first, .. } => depth < first.len(),
+        }
+    }
+
+    /// Returns `true` if `path` leads to the first element that it replaces; for an insertion, if
+    /// `path` leads to the root.
+    pub(crate) fn begins_at(&self, path: &[usize]) -> bool
+        ensures { result ≡ same_way (first_way self.now) (reverse path.now) }
+    {
+        match &self.target {
+            Target::Gap { .. } => path.is_empty(),
+            Target::Slots { first, .. } => has_path(first, path),
         }
     }
 

@@ -1,6 +1,8 @@
 //! Up-paths: child indices from an element up to the root, innermost first; and ranges of siblings,
-//! given by the up-path of the first and the number of further ones.
-ghost use Rattle.std.specs.Prelude.{◌≡◌};
+//! given by the up-path of the first and the number of further ones. A path is the list of the same
+//! indices from the root down.
+ghost use Rattle.std.specs.Prelude.{◌≡◌, reverse};
+ghost use Rattle.syntax_tree.specs.Element.{same_way};
 ghost use Rattle.tree_rewrite.specs.Change.{covers, is_within, is_between};
 
 /// Returns `true` if `way` is the up-path of the element at `first` or of one of the `more`
@@ -32,6 +34,42 @@ pub fn is_within(first: &[usize], more: usize, way: &[usize]) -> bool
         };
         rest = up;
     }
+}
+
+/// Returns `true` if `way` is the up-path of the element at `path`. Paths of other lengths are not
+/// examined.
+pub fn has_path(way: &[usize], path: &[usize]) -> bool
+    ensures { result ≡ same_way way.now (reverse path.now) }
+{
+    if way.len() != path.len() {
+        return false;
+    }
+    let mut below = way;
+    let mut rest = path;
+    while let Some((last, up)) = rest.split_last() {
+        let Some((first, above)) = below.split_first() else {
+            return false;
+        };
+        if *first != *last {
+            return false;
+        }
+        below = above;
+        rest = up;
+    }
+    below.is_empty()
+}
+
+/// Variant of `covers` for an element at `path`.
+pub fn covers_path(first: &[usize], more: usize, path: &[usize]) -> bool
+    ensures { result ≡ covers first.now more (reverse path.now) }
+{
+    let Some((start, above)) = first.split_first() else {
+        return path.is_empty();
+    };
+    let Some((index, up)) = path.split_last() else {
+        return false;
+    };
+    has_path(above, up) && *start <= *index && *index - *start <= more
 }
 
 /// Returns `true` if gap `index` of the node at up-path `parent` is between two elements of the

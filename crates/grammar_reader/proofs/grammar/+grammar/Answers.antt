@@ -1244,11 +1244,17 @@ expressions::operand::ref_expr-complete-requires = operand.expressions::operand:
 pub expressions::operand::ref_expr-returns-clause-reads : goal.expressions::operand::ref_expr-returns-clause-reads
 expressions::operand::ref_expr-returns-clause-reads = operand.expressions::operand::ref_expr-returns-clause-reads
 
-pub expressions::operand::operand-inside-frame-requires : goal.expressions::operand::operand-inside-frame-requires
-expressions::operand::operand-inside-frame-requires = operand.expressions::operand::operand-inside-frame-requires
+pub expressions::operand::operand-framed_operand-requires : goal.expressions::operand::operand-framed_operand-requires
+expressions::operand::operand-framed_operand-requires = operand.expressions::operand::operand-framed_operand-requires
 
-pub expressions::operand::operand-postfixes-frame-requires : goal.expressions::operand::operand-postfixes-frame-requires
-expressions::operand::operand-postfixes-frame-requires = operand.expressions::operand::operand-postfixes-frame-requires
+pub expressions::operand::framed_operand-inside-frame-requires : goal.expressions::operand::framed_operand-inside-frame-requires
+expressions::operand::framed_operand-inside-frame-requires = operand.expressions::operand::framed_operand-inside-frame-requires
+
+pub expressions::operand::framed_operand-postfixes-frame-requires : goal.expressions::operand::framed_operand-postfixes-frame-requires
+expressions::operand::framed_operand-postfixes-frame-requires = operand.expressions::operand::framed_operand-postfixes-frame-requires
+
+pub expressions::operand::framed_operand-returns-clause-completes : goal.expressions::operand::framed_operand-returns-clause-completes
+expressions::operand::framed_operand-returns-clause-completes = operand.expressions::operand::framed_operand-returns-clause-completes
 
 pub expressions::operand::operand-returns-clause-anew : goal.expressions::operand::operand-returns-clause-anew
 expressions::operand::operand-returns-clause-anew = operand.expressions::operand::operand-returns-clause-anew

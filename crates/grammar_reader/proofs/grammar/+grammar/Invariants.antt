@@ -348,6 +348,9 @@ decreases-expressions::atom::inside l = 512 * tokens l.p.now + 30
 abbrev pub decreases-expressions::operand::operand : goal.decreases-expressions::operand::operand
 decreases-expressions::operand::operand l = 512 * tokens l.p.now + 32
 
+abbrev pub decreases-expressions::operand::framed_operand : goal.decreases-expressions::operand::framed_operand
+decreases-expressions::operand::framed_operand l = 512 * tokens l.p.now + 31
+
 abbrev pub decreases-expressions::operand::prefixed : goal.decreases-expressions::operand::prefixed
 decreases-expressions::operand::prefixed l = 512 * tokens l.p.now + 33
 

@@ -9,6 +9,7 @@ ghost use Rattle.rust_grammar.specs.Notation.{◌▸◌, ◌*, ◌!, ◌⟨◌�
 ghost use Rattle.rust_grammar.specs.Rule as rules;
 ghost use Rattle.rust_grammar.specs.Rule.{Kind, One, Split};
 ghost use Rattle.rust_grammar.specs.Words.{one};
+ghost use Rattle.rust_grammar.specs.Whole.{rule};
 ghost use Rattle.rust_grammar.specs.Expressions as rows;
 ghost use Rattle.rust_grammar.specs.Shared.{attributed};
 ghost use Rattle.rust_productions.specs.Looks.{tokens, Asks, Takes, Peeks, TakesIn, TakesOneIn, AsksIn};
@@ -174,7 +175,6 @@ fn raw_ref_expr(p: &mut Parser<'_>, condition: bool)
 
 /// Parses an expression without operators, with its postfix operators.
 // a.b(c)?
-#[inline(never)]
 #[cycle(grammar)]
 fn operand(p: &mut Parser<'_>, condition: bool)
     requires begins { Saw condition (looks rules.atom) p.old true }
@@ -183,6 +183,20 @@ fn operand(p: &mut Parser<'_>, condition: bool)
     ensures takes { Takes 2880 p.old p.new }
 {
     let frame = start(p);
+    framed_operand(p, frame, condition);
+}
+
+/// Parses an expression without operators, with its postfix operators, within `frame`, which it
+/// abandons.
+// a.b(c)?
+#[inline(never)]
+#[cycle(grammar)]
+fn framed_operand(p: &mut Parser<'_>, frame: Marker, condition: bool)
+    requires begins { StartsIn condition (looks rules.atom) p.old }
+    requires innermost { IsInnermost frame p.old.nodes }
+    ensures completes { Completes condition (rule rules.atom ▸ (more rules.postfix) *) p.old p.new }
+    ensures takes { Takes 2880 p.old p.new }
+{
     let frame = inside(p, frame, condition);
     let frame = postfixes(p, frame);
     abandon(p, frame);

@@ -1,13 +1,15 @@
 use Rattle.std.proofs.Common.{◌≡◌, List, length}
 use Rattle.std.specs.List.{list_any}
+use Rattle.syntax_tree.specs.Element.{Way}
 use Rattle.tree_rewrite.specs.Recorded.{way_of}
-use Rattle.tree_rewrite.specs.Fill.{Given, HaveGiven, touches}
+use Rattle.tree_rewrite.specs.Fill.{Given, HaveGiven, is_deep_on}
 use Rattle.tree_rewrite.proofs.SheetLemmas.{SameBelow}
 use Rattle.tree_rewrite.proofs.sheet.is_touched.Given as goal
 
 abbrev pub invariant-loop-number : goal.invariant-loop-number
-invariant-loop-number l = (gs : List Given) → HaveGiven l.jobs l.made l.numbers gs → (is : List Given) × HaveGiven l.jobs l.made l.rest is × SameBelow gs is (way_of l.sheet) l.way
-    × (list_any (touches (way_of l.sheet) l.way) gs ≡ list_any (touches (way_of l.sheet) l.way) is)
+invariant-loop-number l = (gs : List Given) → HaveGiven l.jobs l.made l.numbers gs → (is : List Given) × HaveGiven l.jobs l.made l.rest is
+    × ((w : Way) → length w ≡ l.depth → SameBelow gs is (way_of l.sheet) w)
+    × (list_any (is_deep_on (way_of l.sheet) l.depth) gs ≡ list_any (is_deep_on (way_of l.sheet) l.depth) is)
 
 abbrev pub decreases-loop-number : goal.decreases-loop-number
 decreases-loop-number l = length l.rest

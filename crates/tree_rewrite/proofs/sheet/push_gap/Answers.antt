@@ -1,4 +1,4 @@
-use Rattle.std.proofs.Common.{cond, refl}
+use Rattle.std.proofs.Common.{reverse, cond, refl}
 use Rattle.tree_rewrite.specs.Marked.{nothing, join}
 use Rattle.tree_rewrite.specs.Recorded.{way_of}
 use Rattle.tree_rewrite.specs.Fill.{at_gap}
@@ -19,7 +19,7 @@ loop-number-preserved c = λ gs h.
       join old.1 more,
       s.have,
       adds-join _ _ _ old.1 more old.3 (c.in_ok-push_if.ensures c.args.jobs.now s.given s.numbered),
-      gap_next s.given old.0 s.rest n c.args.way.now c.args.index old.1 (at_gap gs n c.args.way.now c.args.index) c.sets_gap-is_there.result (c.sets_gap-is_there.ensures s.given s.numbered) s.is old.4,
+      gap_next s.given old.0 s.rest n (reverse c.args.path.now) c.args.index old.1 (at_gap gs n (reverse c.args.path.now) c.args.index) c.sets_gap-is_there.result (c.sets_gap-is_there.ensures s.given s.numbered) s.is old.4,
     )
 
 pub returns : goal.returns
@@ -27,5 +27,5 @@ returns c = λ gs h.
     let old = c.loop-number.invariant gs h in
     let none = none_given c.args.jobs.now c.args.made.now c.loop-number.rest.now old.0 c.in_default.ensures.cases old.2 in
     let n = way_of c.args.sheet.now in
-    let whole = at_gap gs n c.args.way.now c.args.index in
-    adds-same _ _ old.1 whole (gap_end old.0 n c.args.way.now c.args.index old.1 whole none old.4) old.3
+    let whole = at_gap gs n (reverse c.args.path.now) c.args.index in
+    adds-same _ _ old.1 whole (gap_end old.0 n (reverse c.args.path.now) c.args.index old.1 whole none old.4) old.3

@@ -1,4 +1,4 @@
-use Rattle.std.proofs.Common.{◌≡◌, List, length}
+use Rattle.std.proofs.Common.{◌≡◌, List, length, reverse}
 use Rattle.tree_rewrite.specs.Marked.{Marked, join}
 use Rattle.tree_rewrite.specs.Recorded.{way_of}
 use Rattle.tree_rewrite.specs.Fill.{Given, HaveGiven, at_gap}
@@ -9,7 +9,7 @@ abbrev pub invariant-loop-number : goal.invariant-loop-number
 invariant-loop-number l = (gs : List Given) → HaveGiven l.jobs l.made l.numbers gs →
     (is : List Given) × (m : Marked) × HaveGiven l.jobs l.made l.rest is
     × Adds l.initial.pieces.items l.pieces.items m
-    × (at_gap gs (way_of l.sheet) l.way l.index ≡ join m (at_gap is (way_of l.sheet) l.way l.index))
+    × (at_gap gs (way_of l.sheet) (reverse l.path) l.index ≡ join m (at_gap is (way_of l.sheet) (reverse l.path) l.index))
 
 abbrev pub decreases-loop-number : goal.decreases-loop-number
 decreases-loop-number l = length l.rest

@@ -38,14 +38,20 @@ expressions::operand::ref_expr-complete-requires t c = c.expect_expression.ensur
 pub expressions::operand::ref_expr-returns-clause-reads : goal.expressions::operand::ref_expr-returns-clause-reads
 expressions::operand::ref_expr-returns-clause-reads t c = reads-node _ c.start-node.ensures.opens (reads-then _ (c.take.ensures.reads c.args.condition) (reads-then _ (c.eat.ensures.reads c.args.condition) c.expect_expression.ensures.reads)) c.complete.ensures.closes
 
-pub expressions::operand::operand-inside-frame-requires : goal.expressions::operand::operand-inside-frame-requires
-expressions::operand::operand-inside-frame-requires t c = (omega arith, (record { sees = saw-inside c.start-frame.ensures.opens c.requires.begins; some = omega arith }, c.start-frame.ensures.marker))
-
-pub expressions::operand::operand-postfixes-frame-requires : goal.expressions::operand::operand-postfixes-frame-requires
-expressions::operand::operand-postfixes-frame-requires t c = (omega arith, c.inside-frame.ensures.takes.marker)
+pub expressions::operand::operand-framed_operand-requires : goal.expressions::operand::operand-framed_operand-requires
+expressions::operand::operand-framed_operand-requires t c = (omega arith, (record { sees = saw-inside c.start-frame.ensures.opens c.requires.begins; some = omega arith }, c.start-frame.ensures.marker))
 
 pub expressions::operand::operand-returns-clause-anew : goal.expressions::operand::operand-returns-clause-anew
-expressions::operand::operand-returns-clause-anew t c = anew-first c.start-frame.ensures.opens (completes-leave (reads-then _ c.inside-frame.ensures.reads (c.postfixes-frame.ensures.reads c.args.condition)) c.abandon.ensures.leaves)
+expressions::operand::operand-returns-clause-anew t c = anew-first c.start-frame.ensures.opens c.framed_operand.ensures.completes
+
+pub expressions::operand::framed_operand-inside-frame-requires : goal.expressions::operand::framed_operand-inside-frame-requires
+expressions::operand::framed_operand-inside-frame-requires t c = (omega arith, (c.requires.begins, c.requires.innermost))
+
+pub expressions::operand::framed_operand-postfixes-frame-requires : goal.expressions::operand::framed_operand-postfixes-frame-requires
+expressions::operand::framed_operand-postfixes-frame-requires t c = (omega arith, c.inside-frame.ensures.takes.marker)
+
+pub expressions::operand::framed_operand-returns-clause-completes : goal.expressions::operand::framed_operand-returns-clause-completes
+expressions::operand::framed_operand-returns-clause-completes t c = completes-leave (reads-then _ c.inside-frame.ensures.reads (c.postfixes-frame.ensures.reads c.args.condition)) c.abandon.ensures.leaves
 
 pub expressions::operand::postfixes-turns-preserved : goal.expressions::operand::postfixes-turns-preserved
 unfolding tokens look_of begins_below whole rule items statements expressions patterns types paths there_at shift passes is_silent begins in_mode anew row one_of any_of no_longer longest is_longer

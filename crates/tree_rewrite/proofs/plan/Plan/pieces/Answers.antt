@@ -1,13 +1,14 @@
 -- The planned changes are executed one at a time, and every admitted order leads to the rewritten element.
-use Rattle.std.proofs.Common.{[], None, reverse, refl, subst, sym, ap, ◌∙◌}
+use Rattle.std.proofs.Common.{[], None, reverse, subst, sym, ap, ◌∙◌}
 use Rattle.rowan_green.specs.Forest.{Tree}
 use Rattle.rowan.specs.Place.{term_at}
-use Rattle.syntax_tree.specs.Element.{term_of, is_node}
-use Rattle.tree_rewrite.specs.Rewrite.{puts, rewritten}
+use Rattle.syntax_tree.specs.Element.{is_node}
+use Rattle.tree_rewrite.specs.Marked.{reading_of}
+use Rattle.tree_rewrite.specs.Rewrite.{rewritten}
 use Rattle.tree_rewrite.specs.Orders.{picked, is_order}
-use Rattle.tree_rewrite.specs.Fill.{laid, HavePut, HaveGiven, standing}
+use Rattle.tree_rewrite.specs.Fill.{laid, HavePut, HaveGiven}
 use Rattle.tree_rewrite.proofs.SheetLemmas.{adds-from}
-use Rattle.tree_rewrite.proofs.ExecuteLemmas.{standing-top, any_order}
+use Rattle.tree_rewrite.proofs.ExecuteLemmas.{any_order}
 use Rattle.tree_rewrite.specs.Fits.{IsNode}
 use Rattle.tree_rewrite.proofs.RootLemmas.{root_node}
 use Rattle.tree_rewrite.proofs.plan.Plan.pieces.Goals as goal
@@ -18,17 +19,16 @@ returns-clause-says c =
     let os = c.args.order.now in
     let e = c.self.inside.top in
     let made = picked js os [] in
-    let s = puts made None in
     let have = subst (λ l. HavePut l c.in_ok-made.made.items (picked l os [])) c.deref.ensures.value c.in_ok-made.ensures in
     let given = subst (λ l. HavePut l c.deref-3.result.now made) (sym c.deref-2.ensures.value) (subst (λ v. HavePut js v made) (sym c.deref-3.ensures.value) have) in
     let same = c.in_ok-clone.ensures.cases in
     let order = any_order e js os c.self.invariant.0 c.self.invariant.1 (ap (λ p. is_order p.jobs os) c.self.view_is ∙ c.requires) in
     let on = c.in_ok-numbers.ensures made given in
-    let whole = ap (λ y. standing (laid on.0 None) e [] (term_of y)) same ∙ ap (λ x. standing x e [] (term_of e)) on.2 ∙ standing-top s e (term_of e) refl ∙ order ∙ ap (λ p. rewritten p.top (reverse p.jobs)) c.self.view_is in
+    let whole = ap (reading_of (laid on.0 None)) same ∙ ap (λ x. reading_of x e) on.2 ∙ order ∙ ap (λ p. rewritten p.top (reverse p.jobs)) c.self.view_is in
     let here = subst (λ l. HaveGiven l c.deref-5.result.now c.deref-6.result.now on.0) (c.deref-2.ensures.value ∙ sym c.deref-4.ensures.value)
     (subst (λ l. HaveGiven c.deref-2.result.now l c.deref-6.result.now on.0) (c.deref-3.ensures.value ∙ sym c.deref-5.ensures.value)
     (subst (λ l. HaveGiven c.deref-2.result.now c.deref-3.result.now l on.0) (sym c.deref-6.ensures.value) on.1)) in
-    adds-from _ _ _ _ (rewritten c.args.self.now.top (reverse c.args.self.now.jobs)) c.new-pieces.ensures.items whole (c.in_ok-push_standing.ensures on.0 e here same)
+    adds-from _ _ _ _ (rewritten c.args.self.now.top (reverse c.args.self.now.jobs)) c.new-pieces.ensures.items whole (c.in_ok-push_standing.ensures on.0 here)
 
 pub returns-clause-node : goal.returns-clause-node
 returns-clause-node c =

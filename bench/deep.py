@@ -1,0 +1,131 @@
+#!/usr/bin/env python3
+"""Runs a built document_tool on deeply nested texts with a stack of 8 MiB.
+
+    bench/deep.py [--measure] PROGRAM
+
+Each text is opened, edited before its first level, and the innermost element is replaced in a commit, which compares the rewritten
+tree with its reading; the old trees are dropped. Without a flag the texts have 100,000 levels, or what DEPTHS asks for, and the last
+line says how many kinds are answered; ./test runs this at its end. With --measure the greatest depth below LIMIT is found for each
+kind by halving, with the bytes of stack a level.
+"""
+import json
+import resource
+import subprocess
+import sys
+
+STACK = 8 << 20
+LIMIT = 140_000
+
+# The text before, that which opens a level, the text inside, that which closes a level, the text after; and what is replaced: the kind
+# of the inside, an entry and a text, or nothing.
+LITERAL = ("LITERAL", "expr", "2")
+IDENT = ("IDENT", "token", "z")
+KINDS = {
+    "((": ("fn f(){", "(", "1", ")", ";}", LITERAL),
+    "{{": ("fn f(){", "{", "1", "}", "}", LITERAL),
+    "--": ("fn f(){", "-", "1", "", ";}", LITERAL),
+    "type &&": ("type T=", "& ", "u", "", ";", IDENT),
+    "type ((": ("type T=", "(", "u", ")", ";", IDENT),
+    "pattern ((": ("fn f(){let ", "(", "a", ")", "=b;}", IDENT),
+    "m!{((": ("m!{", "(", "a", ")", "}", IDENT),
+    "use {{": ("use a::", "{", "b", "}", ";", IDENT),
+    "mod a{": ("", "mod a{", "", "}", "", None),
+    "a+a+": ("fn f(){", "a+", "1", "", ";}", LITERAL),
+    "a.b()": ("fn f(){", "", "a", ".b()", ";}", IDENT),
+    "else if": ("fn f(){if a{}", "else if a{}", "", "", "}", None),
+    "/*/*": ("", "/*", "a", "*/", "", None),
+    "f(f(": ("fn f(){", "f(", "1", ")", ";}", LITERAL),
+    "a[a[": ("fn f(){", "a[", "1", "]", ";}", LITERAL),
+    "S{a:": ("fn f(){", "S{a:", "1", "}", ";}", LITERAL),
+    "|x||x|": ("fn f(){", "|x|", "1", "", ";}", LITERAL),
+    "a=a=": ("fn f(){", "a=", "1", "", ";}", LITERAL),
+    "match": ("fn f(){", "match a{_=>", "1", "}", "}", LITERAL),
+    "pattern [[": ("fn f(){let ", "[", "a", "]", "=b;}", IDENT),
+    "type A<A<": ("type T=", "A<", "u", ">", ";", IDENT),
+    "dyn A<": ("type T=", "dyn A<", "u", ">", ";", IDENT),
+    "move|x|{": ("fn f(){", "move|x|{", "1", "}", ";}", LITERAL),
+}
+# Kinds that take several nodes a level, or whose reading takes more of the stack, have fewer levels.
+DEPTHS = {
+    "{{": 50_000,
+    "use {{": 50_000,
+    "f(f(": 50_000,
+    "a[a[": 50_000,
+    "|x||x|": 50_000,
+    "a=a=": 50_000,
+    "pattern [[": 50_000,
+    "S{a:": 30_000,
+    "match": 30_000,
+    "move|x|{": 30_000,
+    "type A<A<": 20_000,
+    "dyn A<": 12_000,
+}
+
+
+def request(kind, depth):
+    """Returns the request on a text of this kind and depth, and the text that it ends with."""
+    before, opening, inside, closing, after, replaced = KINDS[kind]
+    front, back = before + opening * depth, closing * depth + after
+    commands = [{"do": "edit", "start": len(before), "end": len(before), "text": " "}]
+    new = inside
+    if replaced:
+        name, entry, new = replaced
+        start = len(front) + 1
+        change = {"op": "replace", "at": [name, start, start + len(inside)], "with": [entry, new]}
+        commands.append({"do": "commit", "changes": [change]})
+    asked = {"edition": "2021", "text": front + inside + back, "commands": commands}
+    return json.dumps(asked), before + " " + opening * depth + new + back
+
+
+def limit_stack():
+    """Limits the stack of the process that is about to start."""
+    resource.setrlimit(resource.RLIMIT_STACK, (STACK, STACK))
+
+
+def is_answered(program, kind, depth):
+    """Returns whether the program answers the request, with the text that it has to end with and nothing refused."""
+    asked, wanted = request(kind, depth)
+    ran = subprocess.run([program], input=asked.encode(), stdout=subprocess.PIPE, stderr=subprocess.DEVNULL, preexec_fn=limit_stack)
+    if ran.returncode != 0:
+        return False
+    # (a line for each command, and the text)
+    *replies, text = ran.stdout.decode().split("\n", 2 if KINDS[kind][-1] else 1)
+    return all("ok" in json.loads(reply) for reply in replies) and text == wanted
+
+
+def deepest(program, kind):
+    """Returns the greatest depth below LIMIT that is answered, or None if LIMIT is answered too."""
+    if is_answered(program, kind, LIMIT):
+        return None
+    low, high = 0, LIMIT
+    while high - low > 100:
+        middle = (low + high) // 2
+        if is_answered(program, kind, middle):
+            low = middle
+        else:
+            high = middle
+    return low
+
+
+def measure(program):
+    """Prints the greatest depth of each kind."""
+    for kind in KINDS:
+        depth = deepest(program, kind)
+        print(f"{kind:12} {'at least ' + str(LIMIT) if depth is None else f'{depth:7} {STACK / max(depth, 1):5.0f}'}", flush=True)
+
+
+def unanswered(program):
+    """Returns the kinds that are not answered at the depth that is asked for."""
+    return [kind for kind in KINDS if not is_answered(program, kind, DEPTHS.get(kind, 100_000))]
+
+
+if __name__ == "__main__":
+    *flags, tool = sys.argv[1:]
+    if flags == ["--measure"]:
+        measure(tool)
+        sys.exit(0)
+    left = unanswered(tool)
+    for name in left:
+        print(f"{name}: {DEPTHS.get(name, 100_000)} levels are not answered")
+    print(f"{len(KINDS) - len(left)} of {len(KINDS)} kinds answered")
+    sys.exit(1 if left else 0)
