@@ -45,20 +45,18 @@ KINDS = {
     "dyn A<": ("type T=", "dyn A<", "u", ">", ";", IDENT),
     "move|x|{": ("fn f(){", "move|x|{", "1", "}", ";}", LITERAL),
 }
-# Kinds that take several nodes a level, or whose reading takes more of the stack, have fewer levels.
+# Kinds whose reading takes more of the stack have fewer levels.
 DEPTHS = {
-    "{{": 50_000,
-    "use {{": 50_000,
     "f(f(": 50_000,
     "a[a[": 50_000,
+    "S{a:": 50_000,
     "|x||x|": 50_000,
     "a=a=": 50_000,
+    "match": 50_000,
     "pattern [[": 50_000,
-    "S{a:": 30_000,
-    "match": 30_000,
+    "type A<A<": 50_000,
+    "dyn A<": 30_000,
     "move|x|{": 30_000,
-    "type A<A<": 20_000,
-    "dyn A<": 12_000,
 }
 
 

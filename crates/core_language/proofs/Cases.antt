@@ -4,7 +4,7 @@ use Rattle.std.proofs.Common.{◌≡◌, ℕ, Bool, true, false, List, [], ◌�
 use Rattle.parser_input.specs.Kinds.{AMP, AMP2, AMPEQ, ARG_LIST, BANG, BIN_EXPR, BLOCK_EXPR, BYTE_STRING, CALL_EXPR, CARET, CARETEQ, CHAR, COLON, COLON2, COMMA, DOT, EOF, EQ, EQ2, EXPR_STMT, FIELD_EXPR, FLOAT_NUMBER, FN, FN_KW, GTEQ, IDENT, IDENT_PAT, INT_NUMBER, ITEM_LIST, LET_KW, LET_STMT, LITERAL, LTEQ, L_ANGLE, L_BRACK, L_CURLY, L_PAREN, METHOD_CALL_EXPR, MINUS, MINUSEQ, MODULE, MOD_KW, MUT_KW, NAME, NAME_REF, NEQ, PARAM, PARAM_LIST, PAREN_EXPR, PATH, PATH_EXPR, PATH_SEGMENT, PATH_TYPE, PERCENT, PERCENTEQ, PIPE, PIPE2, PIPEEQ, PLUS, PLUSEQ, PREFIX_EXPR, PUB_KW, RECORD_FIELD, RECORD_FIELD_LIST, REF_EXPR, REF_TYPE, RET_TYPE, R_ANGLE, R_BRACK, R_CURLY, R_PAREN, SEMICOLON, SHL, SHLEQ, SHR, SHREQ, SLASH, SLASHEQ, SLICE_TYPE, SOURCE_FILE, STAR, STAREQ, STMT_LIST, STRING, STRUCT, STRUCT_KW, THIN_ARROW, TRUE_KW, VISIBILITY}
 use Rattle.parser_input.specs.Input.{Token}
 use Rattle.parser_events.specs.Forest.{Forest, End, Leaf, Node}
-use Rattle.rust_grammar.specs.Rule.{begins, passes, is_silent, shift, in_mode, anew, there_at}
+use Rattle.rust_grammar.specs.Rule.{begins, passes, is_silent, shift, in_mode, from_start, there_at}
 use Rattle.rust_grammar.specs.Notation.{row, any_of, one_of, is_longer, no_longer, longest}
 use Rattle.rust_grammar.specs.Meaning.{meaning, by_length, by_rank, follow, look_of, begins_below, read, turns, leaf, say, skip, split, fresh, node, wrapped, after, sees, ahead, is_end}
 use Rattle.rust_grammar.specs.Paths.{paths}
@@ -48,7 +48,7 @@ abbrev tree14 : Forest
 tree14 = (Node SOURCE_FILE (Node FN (Leaf FN_KW 1 (Node NAME (Leaf IDENT 1 End) (Node PARAM_LIST (Leaf L_PAREN 1 (Leaf R_PAREN 1 End)) (Node RET_TYPE (Leaf THIN_ARROW 2 (Node PATH_TYPE (Node PATH (Node PATH_SEGMENT (Node NAME_REF (Leaf IDENT 1 End) End) End) End) End)) (Node BLOCK_EXPR (Node STMT_LIST (Leaf L_CURLY 1 (Node EXPR_STMT (Node PATH_EXPR (Node PATH (Node PATH_SEGMENT (Node NAME_REF (Leaf IDENT 1 End) End) End) End) (Leaf SEMICOLON 1 End)) (Node EXPR_STMT (Node BIN_EXPR (Node PATH_EXPR (Node PATH (Node PATH_SEGMENT (Node NAME_REF (Leaf IDENT 1 End) End) End) End) (Leaf AMP 1 (Node PATH_EXPR (Node PATH (Node PATH (Node PATH_SEGMENT (Node NAME_REF (Leaf IDENT 1 End) End) End) (Node PATH_SEGMENT (Node NAME_REF (Leaf IDENT 1 End) End) End)) End) End))) (Leaf SEMICOLON 1 End)) (Node PATH_EXPR (Node PATH (Node PATH_SEGMENT (Node NAME_REF (Leaf IDENT 1 End) End) End) End) (Leaf R_CURLY 1 End))))) End) End))))) End) End)
 
 other14 : IsCoreFile tokens14 tree14 → ⊥
-unfolding meaning by_length by_rank follow look_of begins_below read turns leaf say skip split fresh node wrapped after sees ahead is_end begins passes is_silent shift in_mode anew there_at rule rank whole row any_of one_of is_longer no_longer longest paths types patterns expressions statements items leaves is_used_up takes_all entry
+unfolding meaning by_length by_rank follow look_of begins_below read turns leaf say skip split fresh node wrapped after sees ahead is_end begins passes is_silent shift in_mode from_start there_at rule rank whole row any_of one_of is_longer no_longer longest paths types patterns expressions statements items leaves is_used_up takes_all entry
 other14 = read-otherwise tokens14 tree14 refl
 
 spaced14 : spaced tree14 ([]) ≡ tokens14
@@ -88,7 +88,7 @@ abbrev tree49 : Forest
 tree49 = (Node SOURCE_FILE (Node FN (Leaf FN_KW 1 (Node NAME (Leaf IDENT 1 End) (Node PARAM_LIST (Leaf L_PAREN 1 (Node PARAM (Node IDENT_PAT (Leaf MUT_KW 1 (Node NAME (Leaf IDENT 1 End) End)) (Node PATH_TYPE (Node PATH (Node PATH_SEGMENT (Node NAME_REF (Leaf IDENT 1 End) End) End) End) End)) (Leaf COMMA 1 (Leaf R_PAREN 1 End)))) (Node BLOCK_EXPR (Node STMT_LIST (Leaf L_CURLY 1 (Node EXPR_STMT (Node LITERAL (Leaf STRING 1 End) (Leaf SEMICOLON 1 End)) (Node FIELD_EXPR (Node LITERAL (Leaf STRING 1 End) (Leaf DOT 1 (Node NAME_REF (Leaf IDENT 1 End) End))) (Leaf R_CURLY 1 End)))) End) End)))) End) End)
 
 other49 : IsCoreFile tokens49 tree49 → ⊥
-unfolding meaning by_length by_rank follow look_of begins_below read turns leaf say skip split fresh node wrapped after sees ahead is_end begins passes is_silent shift in_mode anew there_at rule rank whole row any_of one_of is_longer no_longer longest paths types patterns expressions statements items leaves is_used_up takes_all entry
+unfolding meaning by_length by_rank follow look_of begins_below read turns leaf say skip split fresh node wrapped after sees ahead is_end begins passes is_silent shift in_mode from_start there_at rule rank whole row any_of one_of is_longer no_longer longest paths types patterns expressions statements items leaves is_used_up takes_all entry
 other49 = read-otherwise tokens49 tree49 refl
 
 spaced49 : spaced tree49 ([]) ≡ tokens49
@@ -115,7 +115,7 @@ abbrev tree93 : Forest
 tree93 = (Node SOURCE_FILE (Node FN (Leaf FN_KW 1 (Node NAME (Leaf IDENT 1 End) (Node PARAM_LIST (Leaf L_PAREN 1 (Node PARAM (Node IDENT_PAT (Leaf MUT_KW 1 (Node NAME (Leaf IDENT 1 End) End)) (Leaf COLON 1 (Node PATH_TYPE (Node PATH (Node PATH_SEGMENT (Node NAME_REF (Leaf IDENT 1 End) End) End) End) End))) (Leaf COMMA 1 (Node PARAM (Node IDENT_PAT (Node NAME (Leaf IDENT 1 End) End) (Leaf COLON 1 (Node PATH_TYPE (Node PATH (Node PATH_SEGMENT (Node NAME_REF (Leaf IDENT 1 End) End) End) End) End))) (Leaf R_PAREN 1 End))))) (Node BLOCK_EXPR (Node STMT_LIST (Leaf L_CURLY 1 (Node EXPR_STMT (Node PATH_EXPR (Node PATH (Node PATH (Node PATH_SEGMENT (Node NAME_REF (Leaf IDENT 1 End) End) End) (Leaf COLON2 2 (Node PATH_SEGMENT (Node NAME_REF (Leaf IDENT 1 End) End) End))) End) (Leaf SEMICOLON 1 End)) (Node EXPR_STMT (Node BIN_EXPR (Node PAREN_EXPR (Leaf L_PAREN 1 (Node METHOD_CALL_EXPR (Node PATH_EXPR (Node PATH (Node PATH (Node PATH_SEGMENT (Node NAME_REF (Leaf IDENT 1 End) End) End) (Leaf COLON2 2 (Node PATH_SEGMENT (Node NAME_REF (Leaf IDENT 1 End) End) End))) End) (Leaf DOT 1 (Node NAME_REF (Leaf IDENT 1 End) (Node ARG_LIST (Leaf L_PAREN 1 (Node PATH_EXPR (Node PATH (Node PATH (Node PATH_SEGMENT (Node NAME_REF (Leaf IDENT 1 End) End) End) (Leaf COLON2 2 (Node PATH_SEGMENT (Node NAME_REF (Leaf IDENT 1 End) End) End))) End) (Leaf R_PAREN 1 End))) End)))) (Leaf R_PAREN 1 End))) (Leaf L_ANGLE 1 (Node BIN_EXPR (Node LITERAL (Leaf FLOAT_NUMBER 1 End) (Leaf EQ 1 (Node LITERAL (Leaf FLOAT_NUMBER 1 End) End))) End))) (Leaf SEMICOLON 1 End)) (Node LITERAL (Leaf STRING 1 End) (Leaf R_CURLY 1 End))))) End) End)))) End) End)
 
 other93 : IsCoreFile tokens93 tree93 → ⊥
-unfolding meaning by_length by_rank follow look_of begins_below read turns leaf say skip split fresh node wrapped after sees ahead is_end begins passes is_silent shift in_mode anew there_at rule rank whole row any_of one_of is_longer no_longer longest paths types patterns expressions statements items leaves is_used_up takes_all entry
+unfolding meaning by_length by_rank follow look_of begins_below read turns leaf say skip split fresh node wrapped after sees ahead is_end begins passes is_silent shift in_mode from_start there_at rule rank whole row any_of one_of is_longer no_longer longest paths types patterns expressions statements items leaves is_used_up takes_all entry
 other93 = read-otherwise tokens93 tree93 refl
 
 spaced93 : spaced tree93 (true ∷ false ∷ []) ≡ tokens93
@@ -220,7 +220,7 @@ abbrev tree306 : Forest
 tree306 = (Node SOURCE_FILE (Node FN (Leaf FN_KW 1 (Node NAME (Leaf IDENT 1 End) (Node PARAM_LIST (Leaf L_PAREN 1 (Leaf R_PAREN 1 End)) (Node BLOCK_EXPR (Node STMT_LIST (Leaf L_CURLY 1 (Node BIN_EXPR (Node REF_EXPR (Leaf AMP 1 (Leaf MUT_KW 1 (Node PATH_EXPR (Node PATH (Node PATH_SEGMENT (Node NAME_REF (Leaf IDENT 1 End) End) End) End) End))) (Leaf MINUSEQ 2 (Node PREFIX_EXPR (Leaf MINUS 1 (Node PATH_EXPR (Node PATH End End) End)) End))) (Leaf R_CURLY 1 End))) End) End)))) End) End)
 
 other306 : IsCoreFile tokens306 tree306 → ⊥
-unfolding meaning by_length by_rank follow look_of begins_below read turns leaf say skip split fresh node wrapped after sees ahead is_end begins passes is_silent shift in_mode anew there_at rule rank whole row any_of one_of is_longer no_longer longest paths types patterns expressions statements items leaves is_used_up takes_all entry
+unfolding meaning by_length by_rank follow look_of begins_below read turns leaf say skip split fresh node wrapped after sees ahead is_end begins passes is_silent shift in_mode from_start there_at rule rank whole row any_of one_of is_longer no_longer longest paths types patterns expressions statements items leaves is_used_up takes_all entry
 other306 = read-otherwise tokens306 tree306 refl
 
 spaced306 : spaced tree306 ([]) ≡ tokens306
@@ -273,7 +273,7 @@ abbrev tree361 : Forest
 tree361 = (Node SOURCE_FILE (Node FN (Node VISIBILITY (Leaf PUB_KW 1 End) (Leaf FN_KW 1 (Node NAME (Leaf IDENT 1 End) (Node PARAM_LIST (Leaf L_PAREN 1 (Node PARAM (Node IDENT_PAT (Node NAME (Leaf IDENT 1 End) End) (Leaf COLON 1 (Node REF_TYPE (Leaf AMP 1 (Leaf MUT_KW 1 (Node SLICE_TYPE (Leaf L_BRACK 1 (Node PATH_TYPE (Node PATH (Node PATH_SEGMENT (Node NAME_REF (Leaf IDENT 1 End) End) End) End) (Leaf R_BRACK 1 End))) End))) End))) (Leaf COMMA 1 End))) (Node BLOCK_EXPR (Node STMT_LIST (Leaf L_CURLY 1 (Node METHOD_CALL_EXPR (Node LITERAL (Leaf CHAR 1 End) (Leaf DOT 1 (Node NAME_REF (Leaf IDENT 1 End) (Node ARG_LIST (Leaf L_PAREN 1 (Node LITERAL (Leaf INT_NUMBER 1 End) (Leaf COMMA 1 (Leaf R_PAREN 1 End)))) End)))) (Leaf R_CURLY 1 End))) End) End))))) End) End)
 
 other361 : IsCoreFile tokens361 tree361 → ⊥
-unfolding meaning by_length by_rank follow look_of begins_below read turns leaf say skip split fresh node wrapped after sees ahead is_end begins passes is_silent shift in_mode anew there_at rule rank whole row any_of one_of is_longer no_longer longest paths types patterns expressions statements items leaves is_used_up takes_all entry
+unfolding meaning by_length by_rank follow look_of begins_below read turns leaf say skip split fresh node wrapped after sees ahead is_end begins passes is_silent shift in_mode from_start there_at rule rank whole row any_of one_of is_longer no_longer longest paths types patterns expressions statements items leaves is_used_up takes_all entry
 other361 = read-otherwise tokens361 tree361 refl
 
 spaced361 : spaced tree361 ([]) ≡ tokens361
@@ -287,7 +287,7 @@ abbrev tree384 : Forest
 tree384 = (Node SOURCE_FILE (Node STRUCT (Leaf STRUCT_KW 1 (Node NAME (Leaf IDENT 1 End) (Leaf SEMICOLON 1 End))) (Node FN (Leaf FN_KW 1 (Node NAME (Leaf IDENT 1 End) (Node PARAM_LIST (Leaf L_PAREN 1 (Node PARAM (Node IDENT_PAT (Node NAME (Leaf IDENT 1 End) End) (Leaf COLON 1 (Node PATH_TYPE (Node PATH (Node PATH_SEGMENT (Node NAME_REF (Leaf IDENT 1 End) End) End) End) End))) (Leaf R_PAREN 1 End))) (Node BLOCK_EXPR (Node STMT_LIST (Leaf L_CURLY 1 (Node EXPR_STMT (Node BIN_EXPR (Node REF_EXPR (Leaf AMP 1 (Leaf MUT_KW 1 (Node METHOD_CALL_EXPR (Node PATH_EXPR (Node PATH (Node PATH_SEGMENT (Node NAME_REF (Leaf IDENT 1 End) End) End) End) (Leaf DOT 1 (Node NAME_REF (Leaf IDENT 1 End) (Node ARG_LIST (Leaf L_PAREN 1 (Node LITERAL (Leaf INT_NUMBER 1 End) (Leaf R_PAREN 1 End))) End)))) End))) (Leaf CARET 1 (Node BIN_EXPR (Node PATH_EXPR (Node PATH (Node PATH_SEGMENT (Node NAME_REF (Leaf IDENT 1 End) End) End) End) (Leaf EQ 1 (Node PAREN_EXPR (Leaf L_PAREN 1 (Node LITERAL (Leaf INT_NUMBER 1 End) (Leaf R_PAREN 1 End))) End))) End))) (Leaf SEMICOLON 1 End)) (Leaf R_CURLY 1 End))) End) End)))) End)) End)
 
 other384 : IsCoreFile tokens384 tree384 → ⊥
-unfolding meaning by_length by_rank follow look_of begins_below read turns leaf say skip split fresh node wrapped after sees ahead is_end begins passes is_silent shift in_mode anew there_at rule rank whole row any_of one_of is_longer no_longer longest paths types patterns expressions statements items leaves is_used_up takes_all entry
+unfolding meaning by_length by_rank follow look_of begins_below read turns leaf say skip split fresh node wrapped after sees ahead is_end begins passes is_silent shift in_mode from_start there_at rule rank whole row any_of one_of is_longer no_longer longest paths types patterns expressions statements items leaves is_used_up takes_all entry
 other384 = read-otherwise tokens384 tree384 refl
 
 spaced384 : spaced tree384 ([]) ≡ tokens384
@@ -327,7 +327,7 @@ abbrev tree440 : Forest
 tree440 = (Node SOURCE_FILE (Node FN (Leaf FN_KW 1 (Node NAME (Leaf IDENT 1 End) (Node PARAM_LIST (Leaf L_PAREN 1 (Node PARAM (Node IDENT_PAT (Node NAME (Leaf IDENT 1 End) End) (Leaf COLON 1 (Node PATH_TYPE (Node PATH (Node PATH_SEGMENT (Node NAME_REF (Leaf IDENT 1 End) End) End) End) End))) (Leaf R_PAREN 1 End))) (Node BLOCK_EXPR (Node STMT_LIST (Leaf L_CURLY 1 (Node EXPR_STMT (Node PATH_EXPR (Node PATH (Node PATH_SEGMENT (Node NAME_REF (Leaf IDENT 1 End) End) End) End) (Leaf SEMICOLON 1 End)) (Node EXPR_STMT (Node BIN_EXPR (Node PREFIX_EXPR (Leaf MINUS 1 (Node PATH_EXPR (Node PATH (Node PATH_SEGMENT End End) End) End)) (Leaf EQ 1 (Node BIN_EXPR (Node PREFIX_EXPR (Leaf BANG 1 (Node LITERAL (Leaf TRUE_KW 1 End) End)) (Leaf STAR 1 (Node REF_EXPR (Leaf AMP 1 (Node LITERAL (Leaf FLOAT_NUMBER 1 End) End)) End))) End))) (Leaf SEMICOLON 1 End)) (Leaf R_CURLY 1 End)))) End) End)))) End) End)
 
 other440 : IsCoreFile tokens440 tree440 → ⊥
-unfolding meaning by_length by_rank follow look_of begins_below read turns leaf say skip split fresh node wrapped after sees ahead is_end begins passes is_silent shift in_mode anew there_at rule rank whole row any_of one_of is_longer no_longer longest paths types patterns expressions statements items leaves is_used_up takes_all entry
+unfolding meaning by_length by_rank follow look_of begins_below read turns leaf say skip split fresh node wrapped after sees ahead is_end begins passes is_silent shift in_mode from_start there_at rule rank whole row any_of one_of is_longer no_longer longest paths types patterns expressions statements items leaves is_used_up takes_all entry
 other440 = read-otherwise tokens440 tree440 refl
 
 spaced440 : spaced tree440 (false ∷ []) ≡ tokens440
@@ -380,7 +380,7 @@ abbrev tree504 : Forest
 tree504 = (Node SOURCE_FILE (Node FN (Leaf FN_KW 1 (Node NAME End (Node PARAM_LIST (Leaf L_PAREN 1 (Leaf R_PAREN 1 End)) (Node BLOCK_EXPR (Node STMT_LIST (Leaf L_CURLY 1 (Node BIN_EXPR (Node PATH_EXPR (Node PATH (Node PATH_SEGMENT (Node NAME_REF (Leaf IDENT 1 End) End) End) End) (Leaf PERCENTEQ 2 (Node PATH_EXPR (Node PATH (Node PATH_SEGMENT (Node NAME_REF (Leaf IDENT 1 End) End) End) End) End))) (Leaf R_CURLY 1 End))) End) End)))) End) End)
 
 other504 : IsCoreFile tokens504 tree504 → ⊥
-unfolding meaning by_length by_rank follow look_of begins_below read turns leaf say skip split fresh node wrapped after sees ahead is_end begins passes is_silent shift in_mode anew there_at rule rank whole row any_of one_of is_longer no_longer longest paths types patterns expressions statements items leaves is_used_up takes_all entry
+unfolding meaning by_length by_rank follow look_of begins_below read turns leaf say skip split fresh node wrapped after sees ahead is_end begins passes is_silent shift in_mode from_start there_at rule rank whole row any_of one_of is_longer no_longer longest paths types patterns expressions statements items leaves is_used_up takes_all entry
 other504 = read-otherwise tokens504 tree504 refl
 
 spaced504 : spaced tree504 ([]) ≡ tokens504
@@ -433,7 +433,7 @@ abbrev tree597 : Forest
 tree597 = (Node SOURCE_FILE (Node FN (Leaf FN_KW 1 (Node NAME (Leaf IDENT 1 End) (Node PARAM_LIST (Leaf L_PAREN 1 (Node PARAM (Node IDENT_PAT (Node NAME (Leaf IDENT 1 End) End) (Leaf COLON 1 (Node PATH_TYPE (Node PATH (Node PATH_SEGMENT (Node NAME_REF (Leaf IDENT 1 End) End) End) End) End))) End)) (Node RET_TYPE (Leaf THIN_ARROW 2 (Node PATH_TYPE (Node PATH (Node PATH_SEGMENT (Node NAME_REF (Leaf IDENT 1 End) End) End) End) End)) (Node BLOCK_EXPR (Node STMT_LIST (Leaf L_CURLY 1 (Node LET_STMT (Leaf LET_KW 1 (Node IDENT_PAT (Node NAME (Leaf IDENT 1 End) End) (Leaf SEMICOLON 1 End))) (Node FIELD_EXPR (Node LITERAL (Leaf STRING 1 End) (Leaf DOT 1 (Node NAME_REF (Leaf IDENT 1 End) End))) (Leaf R_CURLY 1 End)))) End) End))))) End) End)
 
 other597 : IsCoreFile tokens597 tree597 → ⊥
-unfolding meaning by_length by_rank follow look_of begins_below read turns leaf say skip split fresh node wrapped after sees ahead is_end begins passes is_silent shift in_mode anew there_at rule rank whole row any_of one_of is_longer no_longer longest paths types patterns expressions statements items leaves is_used_up takes_all entry
+unfolding meaning by_length by_rank follow look_of begins_below read turns leaf say skip split fresh node wrapped after sees ahead is_end begins passes is_silent shift in_mode from_start there_at rule rank whole row any_of one_of is_longer no_longer longest paths types patterns expressions statements items leaves is_used_up takes_all entry
 other597 = read-otherwise tokens597 tree597 refl
 
 spaced597 : spaced tree597 ([]) ≡ tokens597

@@ -5,7 +5,7 @@ use Rattle.std.proofs.Common.{◌≡◌, ℕ, Bool, true, false, List, [], ◌�
 use Rattle.parser_input.specs.Kinds.{AMP, AMP2, ARG_LIST, BANG, BIN_EXPR, BLOCK_EXPR, BYTE_STRING, CALL_EXPR, CARET, CHAR, COLON, COLON2, COMMA, DEFER_KW, DEFER_STMT, DOT, EOF, EQ, EXPR_STMT, FIELD_EXPR, FLOAT_NUMBER, FN, FN_KW, IDENT, IDENT_PAT, INT_NUMBER, ITEM_LIST, LET_KW, LET_STMT, LITERAL, L_BRACK, L_CURLY, L_PAREN, METHOD_CALL_EXPR, MINUS, MODULE, MOD_KW, MUT_KW, NAME, NAME_REF, PARAM, PARAM_LIST, PAREN_EXPR, PATH, PATH_EXPR, PATH_SEGMENT, PATH_TYPE, PERCENT, PERCENTEQ, PIPE, PIPE_GT, PREFIX_EXPR, PUB_KW, RECORD_FIELD, RECORD_FIELD_LIST, REF_EXPR, REF_TYPE, RET_TYPE, R_ANGLE, R_BRACK, R_CURLY, R_PAREN, SEMICOLON, SLASH, SLICE_TYPE, SOURCE_FILE, STAR, STMT_LIST, STRING, STRUCT, STRUCT_KW, THIN_ARROW, TRUE_KW, VISIBILITY}
 use Rattle.parser_input.specs.Input.{Token}
 use Rattle.parser_events.specs.Forest.{Forest, End, Leaf, Node}
-use Rattle.rust_grammar.specs.Rule.{begins, passes, is_silent, shift, in_mode, anew, there_at}
+use Rattle.rust_grammar.specs.Rule.{begins, passes, is_silent, shift, in_mode, from_start, there_at}
 use Rattle.rust_grammar.specs.Notation.{row, any_of, one_of, is_longer, no_longer, longest}
 use Rattle.rust_grammar.specs.Meaning.{meaning, by_length, by_rank, follow, look_of, begins_below, read, turns, leaf, say, skip, split, fresh, node, wrapped, after, sees, ahead, is_end}
 use Rattle.rust_grammar.specs.Paths.{paths}
@@ -62,7 +62,7 @@ abbrev tree35 : Forest
 tree35 = (Node SOURCE_FILE (Node FN (Leaf FN_KW 1 (Node NAME (Leaf IDENT 1 End) (Node PARAM_LIST (Leaf L_PAREN 1 (Leaf R_PAREN 1 End)) (Node BLOCK_EXPR (Node STMT_LIST (Leaf L_CURLY 1 (Node BIN_EXPR (Node PATH_EXPR (Node PATH (Node PATH_SEGMENT (Node NAME_REF (Leaf IDENT 1 End) End) End) End) (Leaf AMP2 2 (Node PAREN_EXPR (Leaf L_PAREN 1 (Node BIN_EXPR (Node LITERAL (Leaf CHAR 1 End) (Leaf PIPE_GT 2 (Node PATH_EXPR (Node PATH (Node PATH (Node PATH_SEGMENT (Node NAME_REF (Leaf IDENT 1 End) End) End) (Leaf COLON2 2 (Node PATH_SEGMENT (Node NAME_REF (Leaf IDENT 1 End) End) End))) End) End))) (Leaf R_PAREN 1 End))) End))) (Leaf R_CURLY 1 End))) End) End)))) (Node STRUCT (Leaf STRUCT_KW 1 (Node NAME End (Node RECORD_FIELD_LIST (Leaf L_CURLY 1 (Leaf R_CURLY 1 End)) End))) End)) End)
 
 other35 : IsCoreFile tokens35 tree35 → ⊥
-unfolding meaning by_length by_rank follow look_of begins_below read turns leaf say skip split fresh node wrapped after sees ahead is_end begins passes is_silent shift in_mode anew there_at rule rank whole row any_of one_of is_longer no_longer longest paths types patterns expressions statements items leaves is_used_up takes_all entry
+unfolding meaning by_length by_rank follow look_of begins_below read turns leaf say skip split fresh node wrapped after sees ahead is_end begins passes is_silent shift in_mode from_start there_at rule rank whole row any_of one_of is_longer no_longer longest paths types patterns expressions statements items leaves is_used_up takes_all entry
 other35 = read-otherwise tokens35 tree35 refl
 
 spaced35 : spaced tree35 ([]) ≡ tokens35
@@ -76,7 +76,7 @@ abbrev tree80 : Forest
 tree80 = (Node SOURCE_FILE (Node MODULE (Node VISIBILITY (Leaf PUB_KW 1 End) (Leaf MOD_KW 1 (Node NAME (Leaf IDENT 1 End) (Node ITEM_LIST (Leaf L_CURLY 1 (Leaf R_CURLY 1 End)) End)))) (Node FN (Node VISIBILITY (Leaf PUB_KW 1 End) (Leaf FN_KW 1 (Node NAME (Leaf IDENT 1 End) (Node PARAM_LIST (Leaf L_PAREN 1 (Leaf R_PAREN 1 End)) (Node RET_TYPE (Leaf THIN_ARROW 2 (Node PATH_TYPE (Node PATH (Node PATH_SEGMENT (Node NAME_REF End End) End) End) End)) (Node BLOCK_EXPR (Node STMT_LIST (Leaf L_CURLY 1 (Node LET_STMT (Leaf LET_KW 1 (Node IDENT_PAT (Node NAME (Leaf IDENT 1 End) End) (Leaf COLON 1 (Node PATH_TYPE (Node PATH (Node PATH_SEGMENT (Node NAME_REF (Leaf IDENT 1 End) End) End) End) (Leaf SEMICOLON 1 End))))) (Node DEFER_STMT (Leaf DEFER_KW 1 (Node BLOCK_EXPR (Node STMT_LIST (Leaf L_CURLY 1 (Node EXPR_STMT (Node LITERAL (Leaf TRUE_KW 1 End) (Leaf SEMICOLON 1 End)) (Node EXPR_STMT (Node PATH_EXPR (Node PATH (Node PATH_SEGMENT (Node NAME_REF (Leaf IDENT 1 End) End) End) End) (Leaf SEMICOLON 1 End)) (Leaf R_CURLY 1 End)))) End) End)) (Leaf R_CURLY 1 End)))) End) End)))))) End)) End)
 
 other80 : IsCoreFile tokens80 tree80 → ⊥
-unfolding meaning by_length by_rank follow look_of begins_below read turns leaf say skip split fresh node wrapped after sees ahead is_end begins passes is_silent shift in_mode anew there_at rule rank whole row any_of one_of is_longer no_longer longest paths types patterns expressions statements items leaves is_used_up takes_all entry
+unfolding meaning by_length by_rank follow look_of begins_below read turns leaf say skip split fresh node wrapped after sees ahead is_end begins passes is_silent shift in_mode from_start there_at rule rank whole row any_of one_of is_longer no_longer longest paths types patterns expressions statements items leaves is_used_up takes_all entry
 other80 = read-otherwise tokens80 tree80 refl
 
 spaced80 : spaced tree80 ([]) ≡ tokens80
@@ -90,7 +90,7 @@ abbrev tree86 : Forest
 tree86 = (Node SOURCE_FILE (Node FN (Leaf FN_KW 1 (Node NAME (Leaf IDENT 1 End) (Node PARAM_LIST (Leaf L_PAREN 1 (Node PARAM (Node IDENT_PAT (Leaf MUT_KW 1 (Node NAME (Leaf IDENT 1 End) End)) (Leaf COLON 1 (Node PATH_TYPE (Node PATH (Node PATH_SEGMENT (Node NAME_REF (Leaf IDENT 1 End) End) End) End) End))) (Leaf R_PAREN 1 End))) (Node RET_TYPE (Leaf THIN_ARROW 2 (Node PATH_TYPE (Node PATH (Node PATH_SEGMENT End End) End) End)) (Node BLOCK_EXPR (Node STMT_LIST (Leaf L_CURLY 1 (Node BIN_EXPR (Node PATH_EXPR (Node PATH (Node PATH_SEGMENT (Node NAME_REF (Leaf IDENT 1 End) End) End) End) (Leaf PIPE_GT 2 (Node LITERAL (Leaf TRUE_KW 1 End) End))) (Leaf R_CURLY 1 End))) End) End))))) End) End)
 
 other86 : IsCoreFile tokens86 tree86 → ⊥
-unfolding meaning by_length by_rank follow look_of begins_below read turns leaf say skip split fresh node wrapped after sees ahead is_end begins passes is_silent shift in_mode anew there_at rule rank whole row any_of one_of is_longer no_longer longest paths types patterns expressions statements items leaves is_used_up takes_all entry
+unfolding meaning by_length by_rank follow look_of begins_below read turns leaf say skip split fresh node wrapped after sees ahead is_end begins passes is_silent shift in_mode from_start there_at rule rank whole row any_of one_of is_longer no_longer longest paths types patterns expressions statements items leaves is_used_up takes_all entry
 other86 = read-otherwise tokens86 tree86 refl
 
 spaced86 : spaced tree86 ([]) ≡ tokens86
@@ -104,7 +104,7 @@ abbrev tree122 : Forest
 tree122 = (Node SOURCE_FILE (Node FN (Leaf FN_KW 1 (Node NAME (Leaf IDENT 1 End) (Node PARAM_LIST (Leaf L_PAREN 1 (Leaf R_PAREN 1 End)) (Node BLOCK_EXPR (Node STMT_LIST (Leaf L_CURLY 1 (Node BIN_EXPR (Node PAREN_EXPR (Leaf L_PAREN 1 (Node PREFIX_EXPR (Leaf MINUS 1 (Node PATH_EXPR End End)) (Leaf R_PAREN 1 End))) (Leaf PIPE_GT 2 (Node REF_EXPR (Leaf AMP 1 (Node REF_EXPR (Leaf AMP 1 (Node PATH_EXPR (Node PATH (Node PATH_SEGMENT (Node NAME_REF (Leaf IDENT 1 End) End) End) End) End)) End)) End))) (Leaf R_CURLY 1 End))) End) End)))) (Node FN (Leaf FN_KW 1 (Node NAME (Leaf IDENT 1 End) (Node PARAM_LIST (Leaf L_PAREN 1 (Leaf R_PAREN 1 End)) (Node BLOCK_EXPR (Node STMT_LIST (Leaf L_CURLY 1 (Node EXPR_STMT (Node REF_EXPR (Leaf AMP 1 (Node LITERAL (Leaf STRING 1 End) End)) (Leaf SEMICOLON 1 End)) (Node LET_STMT (Leaf LET_KW 1 (Node IDENT_PAT (Node NAME (Leaf IDENT 1 End) End) (Leaf COLON 1 (Node PATH_TYPE (Node PATH (Node PATH_SEGMENT (Node NAME_REF (Leaf IDENT 1 End) End) End) End) (Leaf EQ 1 (Node PATH_EXPR (Node PATH (Node PATH_SEGMENT (Node NAME_REF (Leaf IDENT 1 End) End) End) End) (Leaf SEMICOLON 1 End))))))) (Leaf R_CURLY 1 End)))) End) End)))) End)) End)
 
 other122 : IsCoreFile tokens122 tree122 → ⊥
-unfolding meaning by_length by_rank follow look_of begins_below read turns leaf say skip split fresh node wrapped after sees ahead is_end begins passes is_silent shift in_mode anew there_at rule rank whole row any_of one_of is_longer no_longer longest paths types patterns expressions statements items leaves is_used_up takes_all entry
+unfolding meaning by_length by_rank follow look_of begins_below read turns leaf say skip split fresh node wrapped after sees ahead is_end begins passes is_silent shift in_mode from_start there_at rule rank whole row any_of one_of is_longer no_longer longest paths types patterns expressions statements items leaves is_used_up takes_all entry
 other122 = read-otherwise tokens122 tree122 refl
 
 spaced122 : spaced tree122 ([]) ≡ tokens122
@@ -209,7 +209,7 @@ abbrev tree294 : Forest
 tree294 = (Node SOURCE_FILE (Node FN (Node VISIBILITY (Leaf PUB_KW 1 End) (Leaf FN_KW 1 (Node NAME (Leaf IDENT 1 End) (Node PARAM_LIST (Leaf L_PAREN 1 (Node PARAM (Node IDENT_PAT (Node NAME (Leaf IDENT 1 End) End) (Leaf COLON 1 (Node PATH_TYPE (Node PATH (Node PATH_SEGMENT (Node NAME_REF End End) End) End) End))) (Leaf COMMA 1 (Leaf R_PAREN 1 End)))) (Node RET_TYPE (Leaf THIN_ARROW 2 (Node PATH_TYPE (Node PATH (Node PATH (Node PATH_SEGMENT (Node NAME_REF (Leaf IDENT 1 End) End) End) (Leaf COLON2 2 (Node PATH_SEGMENT (Node NAME_REF (Leaf IDENT 1 End) End) End))) End) End)) (Node BLOCK_EXPR (Node STMT_LIST (Leaf L_CURLY 1 (Node DEFER_STMT (Leaf DEFER_KW 1 (Node BLOCK_EXPR (Node STMT_LIST (Leaf L_CURLY 1 (Node LET_STMT (Leaf LET_KW 1 (Node IDENT_PAT (Node NAME (Leaf IDENT 1 End) End) (Leaf EQ 1 (Node LITERAL (Leaf TRUE_KW 1 End) (Leaf SEMICOLON 1 End))))) (Leaf R_CURLY 1 End))) End) End)) (Leaf R_CURLY 1 End))) End) End)))))) End) End)
 
 other294 : IsCoreFile tokens294 tree294 → ⊥
-unfolding meaning by_length by_rank follow look_of begins_below read turns leaf say skip split fresh node wrapped after sees ahead is_end begins passes is_silent shift in_mode anew there_at rule rank whole row any_of one_of is_longer no_longer longest paths types patterns expressions statements items leaves is_used_up takes_all entry
+unfolding meaning by_length by_rank follow look_of begins_below read turns leaf say skip split fresh node wrapped after sees ahead is_end begins passes is_silent shift in_mode from_start there_at rule rank whole row any_of one_of is_longer no_longer longest paths types patterns expressions statements items leaves is_used_up takes_all entry
 other294 = read-otherwise tokens294 tree294 refl
 
 spaced294 : spaced tree294 ([]) ≡ tokens294

@@ -1,9 +1,9 @@
 -- Tokens and tree together determine the derivation of patterns, statements and blocks.
-use Rattle.std.proofs.Common.{◌≡◌, ℕ, Bool, true, false, List, ◌∷◌, refl, ap, sym, arith, ◌==◌}
+use Rattle.std.proofs.Common.{◌≡◌, ℕ, Bool, true, false, List, ◌∷◌, refl, ap, sym, ◌∙◌, arith, ◌==◌, ◌||◌}
 use Rattle.parser_input.specs.Input.{Token}
 use Rattle.parser_input.specs.Kinds.{PUB_KW, LET_KW, COLON, EQ, SEMICOLON, L_CURLY, R_CURLY, MUT_KW, LET_STMT, EXPR_STMT, DEFER_KW, DEFER_STMT}
 use Rattle.parser_events.specs.Forest.{Forest, End, Leaf, Node}
-use Rattle.core_language.specs.Expressions.{Assignment, Binary, Borrow, Expression, FieldAccess, FunctionCall, Literal, MethodCall, Named, Parenthesized, Prefixed, expression_kind, expression_tokens, expression_tree, inside_expression}
+use Rattle.core_language.specs.Expressions.{Expression, Literal, expression_kind, expression_tokens, expression_tree, inside_expression}
 use Rattle.core_language.specs.Items.{Private, Public, Visibility, visibility_tokens, visibility_tree}
 use Rattle.core_language.specs.Statements.{AnnotatedBy, Annotation, Block, Braces, Defer, InitializedBy, Initializer, LastExpression, Let, NamePattern, NoAnnotation, NoInitializer, NoStatement, Pattern, Run, Statement, StatementThen, Statements, annotation_tokens, annotation_tree, block_tokens, block_tree, initializer_tokens, initializer_tree, pattern_tokens, pattern_tree, statement_tokens, statement_tree, statements_tokens, statements_tree}
 use Rattle.core_language.specs.Tokens.{of_kind}
@@ -121,47 +121,28 @@ no-colon : (v : Initializer) → (first_leaf (initializer_tree v (Leaf SEMICOLON
 no-colon NoInitializer = refl
 no-colon (InitializedBy j e) = refl
 
+-- whether a statement's node has this kind
+abbrev is_statement_kind : ℕ → Bool
+is_statement_kind k = k == LET_STMT || k == DEFER_STMT || k == EXPR_STMT
+
+-- an expression's kind is no statement's
+expression-kinds : (e : Expression) → is_statement_kind (expression_kind e) ≡ false
+expression-kinds (Literal l j) = refl
+expression-kinds e = refl
+
+-- a statement's kind is one
+statement-kinds : (s : Statement) (f : Forest) → is_statement_kind (first_node (statement_tree s f)) ≡ true
+statement-kinds (Let j p a v k) f = refl
+statement-kinds s f = refl
+
 -- an expression's node is no statement's
 no-statement : (e : Expression) (s : Statement) (f g : Forest) → expression_tree e f ≡ statement_tree s g → ⊥
-no-statement e (Let j p a v k) f g h = no-let e (ap first_node h)
-  where
-    no-let : (e : Expression) → expression_kind e ≡ LET_STMT → ⊥
-    no-let (Literal l j) n = absurd (omega (arith, n))
-    no-let (Named p) n = absurd (omega (arith, n))
-    no-let (Parenthesized j e k) n = absurd (omega (arith, n))
-    no-let (FunctionCall e j es k) n = absurd (omega (arith, n))
-    no-let (MethodCall e d n2 j es k) n = absurd (omega (arith, n))
-    no-let (FieldAccess e d n2) n = absurd (omega (arith, n))
-    no-let (Prefixed s j e) n = absurd (omega (arith, n))
-    no-let (Borrow j m e) n = absurd (omega (arith, n))
-    no-let (Binary l o j r) n = absurd (omega (arith, n))
-    no-let (Assignment l o j r) n = absurd (omega (arith, n))
-no-statement e (Defer k b) f g h = no-defer e (ap first_node h)
-  where
-    no-defer : (e : Expression) → expression_kind e ≡ DEFER_STMT → ⊥
-    no-defer (Literal l j) n = absurd (omega (arith, n))
-    no-defer (Named p) n = absurd (omega (arith, n))
-    no-defer (Parenthesized j e k) n = absurd (omega (arith, n))
-    no-defer (FunctionCall e j es k) n = absurd (omega (arith, n))
-    no-defer (MethodCall e d n2 j es k) n = absurd (omega (arith, n))
-    no-defer (FieldAccess e d n2) n = absurd (omega (arith, n))
-    no-defer (Prefixed s j e) n = absurd (omega (arith, n))
-    no-defer (Borrow j m e) n = absurd (omega (arith, n))
-    no-defer (Binary l o j r) n = absurd (omega (arith, n))
-    no-defer (Assignment l o j r) n = absurd (omega (arith, n))
-no-statement e (Run b k) f g h = no-run e (ap first_node h)
-  where
-    no-run : (e : Expression) → expression_kind e ≡ EXPR_STMT → ⊥
-    no-run (Literal l j) n = absurd (omega (arith, n))
-    no-run (Named p) n = absurd (omega (arith, n))
-    no-run (Parenthesized j e k) n = absurd (omega (arith, n))
-    no-run (FunctionCall e j es k) n = absurd (omega (arith, n))
-    no-run (MethodCall e d n2 j es k) n = absurd (omega (arith, n))
-    no-run (FieldAccess e d n2) n = absurd (omega (arith, n))
-    no-run (Prefixed s j e) n = absurd (omega (arith, n))
-    no-run (Borrow j m e) n = absurd (omega (arith, n))
-    no-run (Binary l o j r) n = absurd (omega (arith, n))
-    no-run (Assignment l o j r) n = absurd (omega (arith, n))
+no-statement e s f g h = differ (is_statement_kind (expression_kind e)) (ap (λ (x : Forest). is_statement_kind (first_node x)) h ∙ statement-kinds s g) (expression-kinds e)
+
+-- a statement is a node
+statement-node : (s : Statement) (f : Forest) → is_node (statement_tree s f) ≡ true
+statement-node (Let j p a v k) f = refl
+statement-node s f = refl
 
 mutual
   statement-one : (s t : Statement) (f g : Forest) (more other : List Token) → statement_tree s f ≡ statement_tree t g
@@ -196,12 +177,7 @@ mutual
       let e1 : j ≡ k = first.0 in
       let e2 : b ≡ c = x.part in
       record { part = cc; trees = same; tokens = x.tokens }
-  statement-one (Let j p a v k) (Defer m b) f g more other e h = let n : LET_STMT ≡ DEFER_STMT = ap first_node e in absurd (omega (arith, n))
-  statement-one (Defer m b) (Let j p a v k) f g more other e h = let n : DEFER_STMT ≡ LET_STMT = ap first_node e in absurd (omega (arith, n))
-  statement-one (Run a k) (Defer m b) f g more other e h = let n : EXPR_STMT ≡ DEFER_STMT = ap first_node e in absurd (omega (arith, n))
-  statement-one (Defer m b) (Run a k) f g more other e h = let n : DEFER_STMT ≡ EXPR_STMT = ap first_node e in absurd (omega (arith, n))
-  statement-one (Let j p a v k) (Run b m) f g more other e h = let n : LET_STMT ≡ EXPR_STMT = ap first_node e in absurd (omega (arith, n))
-  statement-one (Run b m) (Let j p a v k) f g more other e h = let n : EXPR_STMT ≡ LET_STMT = ap first_node e in absurd (omega (arith, n))
+  statement-one _ _ f g more other e h = absurd (omega (arith, ap first_node e))
 
   statements-one : (ss us : Statements) (f g : Forest) (more other : List Token) → is_node f ≡ false → is_node g ≡ false
       → statements_tree ss f ≡ statements_tree us g → statements_tokens ss more ≡ statements_tokens us other → Same ss us f g more other
@@ -218,13 +194,9 @@ mutual
   statements-one (LastExpression a) (StatementThen s us) f g more other p q e h = absurd (no-statement a s f _ e)
   statements-one (StatementThen s us) (LastExpression a) f g more other p q e h = absurd (no-statement a s g _ (sym e))
   statements-one NoStatement (LastExpression b) f g more other p q e h = absurd (differ (is_node f) (ap is_node e) p)
-  statements-one NoStatement (StatementThen (Let j x a v k) us) f g more other p q e h = absurd (differ (is_node f) (ap is_node e) p)
-  statements-one NoStatement (StatementThen (Defer k b) us) f g more other p q e h = absurd (differ (is_node f) (ap is_node e) p)
-  statements-one NoStatement (StatementThen (Run b k) us) f g more other p q e h = absurd (differ (is_node f) (ap is_node e) p)
+  statements-one NoStatement (StatementThen s us) f g more other p q e h = absurd (differ (is_node f) (ap is_node e ∙ statement-node s _) p)
   statements-one (LastExpression b) NoStatement f g more other p q e h = absurd (differ (is_node g) (ap is_node (sym e)) q)
-  statements-one (StatementThen (Let j x a v k) us) NoStatement f g more other p q e h = absurd (differ (is_node g) (ap is_node (sym e)) q)
-  statements-one (StatementThen (Defer k b) us) NoStatement f g more other p q e h = absurd (differ (is_node g) (ap is_node (sym e)) q)
-  statements-one (StatementThen (Run b k) us) NoStatement f g more other p q e h = absurd (differ (is_node g) (ap is_node (sym e)) q)
+  statements-one (StatementThen s us) NoStatement f g more other p q e h = absurd (differ (is_node g) (ap is_node (sym e) ∙ statement-node s _) q)
 
   pub block-one : (b c : Block) (f g : Forest) (more other : List Token) → block_tree b f ≡ block_tree c g
       → block_tokens b more ≡ block_tokens c other → Same b c f g more other

@@ -3,7 +3,7 @@ use Rattle.std.proofs.Common.{◌≡◌, ℕ, zero, suc, ◌<◌, ◌≤◌, Boo
 use Rattle.std.proofs.lemmas.Bool.{lt-ltb}
 use Rattle.parser_input.specs.Input.{Token}
 use Rattle.parser_events.specs.Forest.{Message, Forest, End}
-use Rattle.rust_grammar.specs.Rule.{Production, Rule, Then, Or, Opt, Star, Want, Call, begins, passes, is_silent, shift, in_mode, anew, there_at}
+use Rattle.rust_grammar.specs.Rule.{Production, Rule, Then, Or, Opt, Star, Want, Call, begins, passes, is_silent, shift, in_mode, from_start, there_at}
 use Rattle.rust_grammar.specs.Meaning.{Reading, turns, read, leaf, node, wrapped, after, fresh, sees, ahead, is_end, look_of, begins_below, meaning}
 use Rattle.rust_grammar.specs.Notation.{row, one_of, any_of, is_longer, no_longer, longest}
 use Rattle.rust_grammar.specs.Paths.{paths}
@@ -13,7 +13,7 @@ use Rattle.rust_grammar.specs.Expressions.{expressions}
 use Rattle.rust_grammar.specs.Statements.{statements}
 use Rattle.rust_grammar.specs.Items.{items}
 use Rattle.rust_grammar.specs.Whole.{rule, rank, whole}
-use Rattle.rust_grammar.proofs.Elsewhere.{anew-seen}
+use Rattle.rust_grammar.proofs.Elsewhere.{from_start-seen}
 
 -- these trees given, and these tokens left
 abbrev pub at : Forest → List Token → Reading
@@ -76,12 +76,12 @@ or-second a b s e = rw e refl
 -- where a production begins with nothing given, it begins when it is called
 pub call-there : (x : Production) (g : Forest) (ts : List Token) → sees false (at End ts) (look_of whole x) ≡ true → begins_at (Call x) (at g ts) ≡ true
 unfolding begins fresh
-call-there x g ts e = anew-seen false (at g ts) (look_of whole x) ∙ e
+call-there x g ts e = from_start-seen false (at g ts) (look_of whole x) ∙ e
 
 -- and the other way round
 pub there-called : (x : Production) (ts : List Token) → begins_at (Call x) (at End ts) ≡ true → sees false (at End ts) (look_of whole x) ≡ true
 unfolding begins fresh
-there-called x ts e = sym (anew-seen false (at End ts) (look_of whole x)) ∙ e
+there-called x ts e = sym (from_start-seen false (at End ts) (look_of whole x)) ∙ e
 
 pub call-reads : (x : Production) (ts : List Token) (g : Forest) (more : List Token) → gives x (at End ts) ≡ at g more
     → reads (Call x) (at End ts) ≡ at g more
@@ -99,12 +99,12 @@ either false = refl
 
 -- everything that a rule, a look or the table is computed with
 unfoldable pub table : Unit {0}
-unfolding read leaf node wrapped after fresh sees ahead is_end begins passes is_silent shift in_mode anew there_at look_of begins_below rule rank whole paths types patterns expressions statements items row one_of any_of is_longer no_longer longest
+unfolding read leaf node wrapped after fresh sees ahead is_end begins passes is_silent shift in_mode from_start there_at look_of begins_below rule rank whole paths types patterns expressions statements items row one_of any_of is_longer no_longer longest
 table = tt
 
 -- `table` without the rules of the productions: where a production begins is not computed
 unfoldable pub forms : Unit {0}
-unfolding read leaf node wrapped after fresh sees ahead is_end begins passes is_silent shift in_mode anew there_at row one_of any_of is_longer no_longer longest
+unfolding read leaf node wrapped after fresh sees ahead is_end begins passes is_silent shift in_mode from_start there_at row one_of any_of is_longer no_longer longest
 forms = tt
 
 -- the rows of the table alone

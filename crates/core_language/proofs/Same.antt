@@ -38,39 +38,15 @@ same-type t f g e = node-of (same-type_kind t) (same-inside_type t) e
 
 same-kind : (e : Expression) (floats : List Bool) → expression_kind (apart e floats) ≡ expression_kind e
 same-kind (Literal l j) floats = refl
-same-kind (Named p) floats = refl
-same-kind (Parenthesized j e k) floats = refl
-same-kind (FunctionCall e j es k) floats = refl
-same-kind (MethodCall e d n j es k) floats = refl
-same-kind (FieldAccess e d n) floats = refl
-same-kind (Prefixed s j e) floats = refl
-same-kind (Borrow j m e) floats = refl
-same-kind (Binary l o j r) floats = refl
-same-kind (Assignment l o j r) floats = refl
+same-kind e floats = refl
 
 same-level : (e : Expression) (floats : List Bool) → level (apart e floats) ≡ level e
 same-level (Literal l j) floats = refl
-same-level (Named p) floats = refl
-same-level (Parenthesized j e k) floats = refl
-same-level (FunctionCall e j es k) floats = refl
-same-level (MethodCall e d n j es k) floats = refl
-same-level (FieldAccess e d n) floats = refl
-same-level (Prefixed s j e) floats = refl
-same-level (Borrow j m e) floats = refl
-same-level (Binary l o j r) floats = refl
-same-level (Assignment l o j r) floats = refl
+same-level e floats = refl
 
 same-access : (e : Expression) (floats : List Bool) → is_field_access (apart e floats) ≡ is_field_access e
 same-access (Literal l j) floats = refl
-same-access (Named p) floats = refl
-same-access (Parenthesized j e k) floats = refl
-same-access (FunctionCall e j es k) floats = refl
-same-access (MethodCall e d n j es k) floats = refl
-same-access (FieldAccess e d n) floats = refl
-same-access (Prefixed s j e) floats = refl
-same-access (Borrow j m e) floats = refl
-same-access (Binary l o j r) floats = refl
-same-access (Assignment l o j r) floats = refl
+same-access e floats = refl
 
 mutual
   same-inside : (e : Expression) (floats : List Bool) → inside_expression (apart e floats) ≡ inside_expression e

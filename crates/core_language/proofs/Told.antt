@@ -1,86 +1,65 @@
 -- Literals and operators are determined by the kinds of their leaves, and the bit of an operator by its tokens.
-use Rattle.std.proofs.Common.{◌≡◌, ℕ, Bool, true, false, List, ◌∷◌, refl, ap, sym, ◌∙◌, ◌==◌, if◌then◌else◌}
+use Rattle.std.proofs.Common.{◌≡◌, ◌⊎◌, ◌<◌, inl, inr, ℕ, Bool, List, [], ◌∷◌, length, refl, ap, sym, ◌∙◌, ◌==◌, if◌then◌else◌, arith}
 use Rattle.parser_input.specs.Input.{Token}
-use Rattle.parser_input.specs.Kinds.{AMP, AMP2, AMPEQ, BANG, BYTE, BYTE_STRING, CARET, CARETEQ, CHAR, C_STRING, EQ, EQ2, FLOAT_NUMBER, GTEQ, INT_NUMBER, LTEQ, L_ANGLE, MINUS, MINUSEQ, NEQ, PERCENTEQ, PIPE, PIPE2, PIPE_GT, PIPEEQ, PLUS, PLUSEQ, R_ANGLE, SHL, SHLEQ, SHR, SHREQ, SLASH, SLASHEQ, STAR, STAREQ, STRING, TRUE_KW}
-use Rattle.core_language.specs.Operators.{Assign, AssignBitAnd, AssignBitOr, AssignBitXor, AssignDivide, AssignMinus, AssignPlus, AssignRemainder, AssignShiftLeft, AssignShiftRight, AssignTimes, Assigner, BitAnd, BitOr, BitXor, Byte, ByteText, CText, Character, Dereference, Divide, Equal, FalseWord, FloatNumber, Greater, GreaterOrEqual, Integer, Invert, Less, LessOrEqual, LiteralForm, LogicalAnd, LogicalOr, Minus, Negate, NotEqual, Operator, Pipe, Plus, PrefixOperator, Remainder, ShiftLeft, ShiftRight, Text, Times, TrueWord, assigner_kind, assigner_tokens, literal_kind, operator_kind, operator_tokens, prefix_kind}
+use Rattle.parser_input.specs.Kinds.{AMP, AMP2, AMPEQ, BANG, BYTE, BYTE_STRING, CARET, CARETEQ, CHAR, C_STRING, EQ, EQ2, FLOAT_NUMBER, GTEQ, INT_NUMBER, LTEQ, L_ANGLE, MINUS, MINUSEQ, NEQ, PERCENT, PERCENTEQ, PIPE, PIPE2, PIPE_GT, PIPEEQ, PLUS, PLUSEQ, R_ANGLE, SHL, SHLEQ, SHR, SLASH, SLASHEQ, STAR, STAREQ, STRING, TRUE_KW}
+use Rattle.core_language.specs.Operators.{Assign, AssignBitAnd, AssignBitOr, AssignBitXor, AssignDivide, AssignMinus, AssignPlus, AssignRemainder, AssignShiftLeft, AssignShiftRight, AssignTimes, Assigner, BitAnd, BitOr, BitXor, Byte, ByteText, CText, Character, Dereference, Divide, Equal, FalseWord, FloatNumber, Greater, GreaterOrEqual, Integer, Invert, Less, LessOrEqual, LiteralForm, LogicalAnd, LogicalOr, Minus, Negate, NotEqual, Operator, Pipe, Plus, PrefixOperator, Remainder, ShiftLeft, ShiftRight, Text, Times, TrueWord, assigner_characters, assigner_kind, assigner_tokens, literal_kind, operator_characters, operator_kind, operator_tokens, prefix_kind}
+use Rattle.core_language.specs.Tokens.{joint_tokens}
 
--- the operator with a leaf of this kind
-abbrev operator_of : ℕ → Operator
-operator_of k =
-    if k == PIPE_GT then Pipe
-    else if k == PIPE2 then LogicalOr
-    else if k == AMP2 then LogicalAnd
-    else if k == EQ2 then Equal
-    else if k == NEQ then NotEqual
-    else if k == L_ANGLE then Less
-    else if k == R_ANGLE then Greater
-    else if k == LTEQ then LessOrEqual
-    else if k == GTEQ then GreaterOrEqual
-    else if k == PIPE then BitOr
-    else if k == CARET then BitXor
-    else if k == AMP then BitAnd
-    else if k == SHL then ShiftLeft
-    else if k == SHR then ShiftRight
-    else if k == PLUS then Plus
-    else if k == MINUS then Minus
-    else if k == STAR then Times
-    else if k == SLASH then Divide
-    else Remainder
+-- the operator or the assignment with a leaf of this kind
+abbrev binary_of : ℕ → Operator ⊎ Assigner
+binary_of k =
+    if k == PIPE_GT then inl Pipe
+    else if k == PIPE2 then inl LogicalOr
+    else if k == AMP2 then inl LogicalAnd
+    else if k == EQ2 then inl Equal
+    else if k == NEQ then inl NotEqual
+    else if k == L_ANGLE then inl Less
+    else if k == R_ANGLE then inl Greater
+    else if k == LTEQ then inl LessOrEqual
+    else if k == GTEQ then inl GreaterOrEqual
+    else if k == PIPE then inl BitOr
+    else if k == CARET then inl BitXor
+    else if k == AMP then inl BitAnd
+    else if k == SHL then inl ShiftLeft
+    else if k == SHR then inl ShiftRight
+    else if k == PLUS then inl Plus
+    else if k == MINUS then inl Minus
+    else if k == STAR then inl Times
+    else if k == SLASH then inl Divide
+    else if k == PERCENT then inl Remainder
+    else if k == EQ then inr Assign
+    else if k == PLUSEQ then inr AssignPlus
+    else if k == MINUSEQ then inr AssignMinus
+    else if k == STAREQ then inr AssignTimes
+    else if k == SLASHEQ then inr AssignDivide
+    else if k == PERCENTEQ then inr AssignRemainder
+    else if k == AMPEQ then inr AssignBitAnd
+    else if k == PIPEEQ then inr AssignBitOr
+    else if k == CARETEQ then inr AssignBitXor
+    else if k == SHLEQ then inr AssignShiftLeft
+    else inr AssignShiftRight
 
-operator-back : (o : Operator) → operator_of (operator_kind o) ≡ o
+-- an operator is that of its kind
+operator-back : (o : Operator) → binary_of (operator_kind o) ≡ inl o
 operator-back Pipe = refl
-operator-back LogicalOr = refl
-operator-back LogicalAnd = refl
-operator-back Equal = refl
-operator-back NotEqual = refl
-operator-back Less = refl
-operator-back Greater = refl
-operator-back LessOrEqual = refl
-operator-back GreaterOrEqual = refl
-operator-back BitOr = refl
-operator-back BitXor = refl
-operator-back BitAnd = refl
-operator-back ShiftLeft = refl
-operator-back ShiftRight = refl
-operator-back Plus = refl
-operator-back Minus = refl
-operator-back Times = refl
-operator-back Divide = refl
-operator-back Remainder = refl
+operator-back o = refl
 
-pub operator-same : (o p : Operator) → operator_kind o ≡ operator_kind p → o ≡ p
-operator-same o p e = sym (operator-back o) ∙ ap operator_of e ∙ operator-back p
-
--- the assignment with a leaf of this kind
-abbrev assigner_of : ℕ → Assigner
-assigner_of k =
-    if k == EQ then Assign
-    else if k == PLUSEQ then AssignPlus
-    else if k == MINUSEQ then AssignMinus
-    else if k == STAREQ then AssignTimes
-    else if k == SLASHEQ then AssignDivide
-    else if k == PERCENTEQ then AssignRemainder
-    else if k == AMPEQ then AssignBitAnd
-    else if k == PIPEEQ then AssignBitOr
-    else if k == CARETEQ then AssignBitXor
-    else if k == SHLEQ then AssignShiftLeft
-    else AssignShiftRight
-
-assigner-back : (o : Assigner) → assigner_of (assigner_kind o) ≡ o
+-- an assignment is that of its kind
+assigner-back : (o : Assigner) → binary_of (assigner_kind o) ≡ inr o
 assigner-back Assign = refl
-assigner-back AssignPlus = refl
-assigner-back AssignMinus = refl
-assigner-back AssignTimes = refl
-assigner-back AssignDivide = refl
-assigner-back AssignRemainder = refl
-assigner-back AssignBitAnd = refl
-assigner-back AssignBitOr = refl
-assigner-back AssignBitXor = refl
-assigner-back AssignShiftLeft = refl
-assigner-back AssignShiftRight = refl
+assigner-back o = refl
 
+-- operators of one kind are one
+pub operator-same : (o p : Operator) → operator_kind o ≡ operator_kind p → o ≡ p
+operator-same o p e = let t = sym (operator-back o) ∙ ap binary_of e ∙ operator-back p in cc
+
+-- assignments of one kind are one
 pub assigner-same : (o p : Assigner) → assigner_kind o ≡ assigner_kind p → o ≡ p
-assigner-same o p e = sym (assigner-back o) ∙ ap assigner_of e ∙ assigner-back p
+assigner-same o p e = let t = sym (assigner-back o) ∙ ap binary_of e ∙ assigner-back p in cc
+
+-- no operator has the kind of an assignment
+pub not-assigner : (o : Operator) (p : Assigner) → operator_kind o ≡ assigner_kind p → ⊥
+not-assigner o p e = let t = sym (operator-back o) ∙ ap binary_of e ∙ assigner-back p in absurd cc
 
 -- the literal of this kind
 abbrev literal_of : ℕ → LiteralForm
@@ -97,15 +76,9 @@ literal_of k =
 
 literal-back : (o : LiteralForm) → literal_of (literal_kind o) ≡ o
 literal-back Integer = refl
-literal-back FloatNumber = refl
-literal-back Character = refl
-literal-back Byte = refl
-literal-back Text = refl
-literal-back ByteText = refl
-literal-back CText = refl
-literal-back TrueWord = refl
-literal-back FalseWord = refl
+literal-back o = refl
 
+-- literals of one kind are one
 pub literal-same : (o p : LiteralForm) → literal_kind o ≡ literal_kind p → o ≡ p
 literal-same o p e = sym (literal-back o) ∙ ap literal_of e ∙ literal-back p
 
@@ -115,9 +88,9 @@ prefix_of k = if k == MINUS then Negate else if k == BANG then Invert else Deref
 
 prefix-back : (o : PrefixOperator) → prefix_of (prefix_kind o) ≡ o
 prefix-back Negate = refl
-prefix-back Invert = refl
-prefix-back Dereference = refl
+prefix-back o = refl
 
+-- prefixes of one kind are one
 pub prefix-same : (o p : PrefixOperator) → prefix_kind o ≡ prefix_kind p → o ≡ p
 prefix-same o p e = sym (prefix-back o) ∙ ap prefix_of e ∙ prefix-back p
 
@@ -125,89 +98,18 @@ prefix-same o p e = sym (prefix-back o) ∙ ap prefix_of e ∙ prefix-back p
 pub head-one : (t u : Token) (more other : List Token) → t ∷ more ≡ u ∷ other → (t.joint ≡ u.joint) × (more ≡ other)
 head-one t u more other e = let x : t ≡ u = cc in (ap (λ (y : Token). y.joint) x, cc)
 
-pub operator-one : (o : Operator) (j k : Bool) (ts us : List Token) → operator_tokens o j ts ≡ operator_tokens o k us → (j ≡ k) × (ts ≡ us)
-operator-one Pipe j k ts us e = let r = head-one _ _ _ _ e in head-one _ _ ts us r.1
-operator-one LogicalOr j k ts us e = let r = head-one _ _ _ _ e in head-one _ _ ts us r.1
-operator-one LogicalAnd j k ts us e = let r = head-one _ _ _ _ e in head-one _ _ ts us r.1
-operator-one Equal j k ts us e = let r = head-one _ _ _ _ e in head-one _ _ ts us r.1
-operator-one NotEqual j k ts us e = let r = head-one _ _ _ _ e in head-one _ _ ts us r.1
-operator-one Less j k ts us e = head-one _ _ ts us e
-operator-one Greater j k ts us e = head-one _ _ ts us e
-operator-one LessOrEqual j k ts us e = let r = head-one _ _ _ _ e in head-one _ _ ts us r.1
-operator-one GreaterOrEqual j k ts us e = let r = head-one _ _ _ _ e in head-one _ _ ts us r.1
-operator-one BitOr j k ts us e = head-one _ _ ts us e
-operator-one BitXor j k ts us e = head-one _ _ ts us e
-operator-one BitAnd j k ts us e = head-one _ _ ts us e
-operator-one ShiftLeft j k ts us e = let r = head-one _ _ _ _ e in head-one _ _ ts us r.1
-operator-one ShiftRight j k ts us e = let r = head-one _ _ _ _ e in head-one _ _ ts us r.1
-operator-one Plus j k ts us e = head-one _ _ ts us e
-operator-one Minus j k ts us e = head-one _ _ ts us e
-operator-one Times j k ts us e = head-one _ _ ts us e
-operator-one Divide j k ts us e = head-one _ _ ts us e
-operator-one Remainder j k ts us e = head-one _ _ ts us e
+-- the bit of the last token of punctuation, and the tokens after it
+joint-one : (kinds : List ℕ) → 0 < length kinds → (j k : Bool) (ts us : List Token) → joint_tokens kinds j ts ≡ joint_tokens kinds k us → (j ≡ k) × (ts ≡ us)
+joint-one [] some j k ts us e = absurd (omega arith)
+joint-one (kind ∷ []) some j k ts us e = head-one _ _ ts us e
+joint-one (kind ∷ next ∷ kinds) some j k ts us e = joint-one (next ∷ kinds) (omega arith) j k ts us (head-one _ _ _ _ e).1
 
+-- the bit of an operator, and the tokens after it
+pub operator-one : (o : Operator) (j k : Bool) (ts us : List Token) → operator_tokens o j ts ≡ operator_tokens o k us → (j ≡ k) × (ts ≡ us)
+operator-one Pipe j k ts us e = head-one _ _ ts us (head-one _ _ _ _ e).1
+operator-one o j k ts us e = joint-one (operator_characters o) (omega arith) j k ts us e
+
+-- the bit of an assignment, and the tokens after it
 pub assigner-one : (o : Assigner) (j k : Bool) (ts us : List Token) → assigner_tokens o j ts ≡ assigner_tokens o k us → (j ≡ k) × (ts ≡ us)
 assigner-one Assign j k ts us e = head-one _ _ ts us e
-assigner-one AssignPlus j k ts us e = let r = head-one _ _ _ _ e in head-one _ _ ts us r.1
-assigner-one AssignMinus j k ts us e = let r = head-one _ _ _ _ e in head-one _ _ ts us r.1
-assigner-one AssignTimes j k ts us e = let r = head-one _ _ _ _ e in head-one _ _ ts us r.1
-assigner-one AssignDivide j k ts us e = let r = head-one _ _ _ _ e in head-one _ _ ts us r.1
-assigner-one AssignRemainder j k ts us e = let r = head-one _ _ _ _ e in head-one _ _ ts us r.1
-assigner-one AssignBitAnd j k ts us e = let r = head-one _ _ _ _ e in head-one _ _ ts us r.1
-assigner-one AssignBitOr j k ts us e = let r = head-one _ _ _ _ e in head-one _ _ ts us r.1
-assigner-one AssignBitXor j k ts us e = let r = head-one _ _ _ _ e in head-one _ _ ts us r.1
-assigner-one AssignShiftLeft j k ts us e = let r = head-one _ _ _ _ e in let q = head-one _ _ _ _ r.1 in head-one _ _ ts us q.1
-assigner-one AssignShiftRight j k ts us e = let r = head-one _ _ _ _ e in let q = head-one _ _ _ _ r.1 in head-one _ _ ts us q.1
-
--- whether a leaf of this kind is an assignment
-abbrev is_assigner_kind : ℕ → Bool
-is_assigner_kind k =
-    if k == EQ then true
-    else if k == PLUSEQ then true
-    else if k == MINUSEQ then true
-    else if k == STAREQ then true
-    else if k == SLASHEQ then true
-    else if k == PERCENTEQ then true
-    else if k == AMPEQ then true
-    else if k == PIPEEQ then true
-    else if k == CARETEQ then true
-    else if k == SHLEQ then true
-    else if k == SHREQ then true
-    else false
-
-operator-assigns : (o : Operator) → is_assigner_kind (operator_kind o) ≡ false
-operator-assigns Pipe = refl
-operator-assigns LogicalOr = refl
-operator-assigns LogicalAnd = refl
-operator-assigns Equal = refl
-operator-assigns NotEqual = refl
-operator-assigns Less = refl
-operator-assigns Greater = refl
-operator-assigns LessOrEqual = refl
-operator-assigns GreaterOrEqual = refl
-operator-assigns BitOr = refl
-operator-assigns BitXor = refl
-operator-assigns BitAnd = refl
-operator-assigns ShiftLeft = refl
-operator-assigns ShiftRight = refl
-operator-assigns Plus = refl
-operator-assigns Minus = refl
-operator-assigns Times = refl
-operator-assigns Divide = refl
-operator-assigns Remainder = refl
-
-assigner-assigns : (o : Assigner) → is_assigner_kind (assigner_kind o) ≡ true
-assigner-assigns Assign = refl
-assigner-assigns AssignPlus = refl
-assigner-assigns AssignMinus = refl
-assigner-assigns AssignTimes = refl
-assigner-assigns AssignDivide = refl
-assigner-assigns AssignRemainder = refl
-assigner-assigns AssignBitAnd = refl
-assigner-assigns AssignBitOr = refl
-assigner-assigns AssignBitXor = refl
-assigner-assigns AssignShiftLeft = refl
-assigner-assigns AssignShiftRight = refl
-
-pub not-assigner : (o : Operator) (p : Assigner) → operator_kind o ≡ assigner_kind p → ⊥
-not-assigner o p e = let t : false ≡ true = sym (operator-assigns o) ∙ ap is_assigner_kind e ∙ assigner-assigns p in absurd cc
+assigner-one o j k ts us e = joint-one (assigner_characters o) (omega arith) j k ts us e

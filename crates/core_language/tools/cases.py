@@ -281,10 +281,10 @@ def lemmas(number, case):
 
 COMPUTING = (
     "meaning by_length by_rank follow look_of begins_below read turns leaf say skip split fresh node wrapped after sees ahead is_end begins passes"
-    " is_silent shift in_mode anew there_at rule rank whole row any_of one_of is_longer no_longer longest paths types patterns"
+    " is_silent shift in_mode from_start there_at rule rank whole row any_of one_of is_longer no_longer longest paths types patterns"
     " expressions statements items leaves is_used_up takes_all entry"
 )
-IMPORTS = """use Rattle.rust_grammar.specs.Rule.{begins, passes, is_silent, shift, in_mode, anew, there_at}
+IMPORTS = """use Rattle.rust_grammar.specs.Rule.{begins, passes, is_silent, shift, in_mode, from_start, there_at}
 use Rattle.rust_grammar.specs.Notation.{row, any_of, one_of, is_longer, no_longer, longest}
 use Rattle.rust_grammar.specs.Meaning.{meaning, by_length, by_rank, follow, look_of, begins_below, read, turns, leaf, say, skip, split, fresh, node, wrapped, after, sees, ahead, is_end}
 use Rattle.rust_grammar.specs.Paths.{paths}

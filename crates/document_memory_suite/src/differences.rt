@@ -1,9 +1,9 @@
-//! Differences of rewritten trees from their readings; commits that are tried; inputs of the whole language.
-use crate::documents::{Changes, read, recorded};
+//! Differences of rewritten trees from their readings; inputs of the whole language; ranges and payloads.
+use crate::documents::read;
 use parser_input::{Edition, LexedStr, SyntaxKind};
 use ra_parser::{Grammar, TopEntryPoint};
 use rowan_green::{TextRange, TextSize};
-use rust_document::Document;
+use rust_document::{Document, SyntaxEditor};
 use std::alloc::Global;
 use syntax_tree::TreeIds;
 
@@ -15,31 +15,18 @@ fn kind_name(kind: Option<SyntaxKind>) -> &'static str {
     }
 }
 
-/// Returns the first difference that changes make: its range and both kinds.
+/// Returns the first difference that recorded changes make: its range and both kinds.
 pub(crate) fn difference(
     alloc: Global,
     document: &Document,
-    changes: Changes,
-    ids: &mut TreeIds,
+    editor: &SyntaxEditor,
 ) -> anyhow::Result<String> {
-    let editor = recorded(alloc, changes, document, ids)?;
-    let Some(told) = document.difference(alloc, &editor)? else {
+    let Some(told) = document.difference(alloc, editor)? else {
         return Ok(String::from_str(alloc, "none")?);
     };
     let (start, end) = (told.range.start().0, told.range.end().0);
     let (wanted, read) = (kind_name(told.wanted), kind_name(told.read));
     Ok(format!(in alloc; "{start}..{end} {wanted} {read}")?)
-}
-
-/// Returns the text that a commit of changes would make.
-pub(crate) fn tried(
-    alloc: Global,
-    document: &Document,
-    changes: Changes,
-    ids: &mut TreeIds,
-) -> anyhow::Result<String> {
-    let editor = recorded(alloc, changes, document, ids)?;
-    Ok(document.try_commit(alloc, &editor)?)
 }
 
 /// Returns the number of tokens of a text that is read as the whole language.

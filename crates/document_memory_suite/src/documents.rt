@@ -1,5 +1,5 @@
 //! Documents that are opened, edited and committed.
-use crate::differences::{difference, payload_read, range, tried, whole_input};
+use crate::differences::{difference, payload_read, range, whole_input};
 use anyhow::bail;
 use memory_table::row::{Ask, Row};
 use memory_table::shown::all_shown;
@@ -244,7 +244,8 @@ fn arguments(
     replacing(alloc, editor, found(alloc, document, ONE)?, &new)
 }
 
-pub(crate) fn recorded(
+/// Returns an editor with changes recorded.
+fn recorded(
     alloc: Global,
     changes: Changes,
     document: &Document,
@@ -319,59 +320,68 @@ fn commit(
     bail!("refused twice")
 }
 
-/// What is asked of `struct S;`.
-fn asked(alloc: Global, call: DocumentCall, document: &Document) -> anyhow::Result<String> {
+impl DocumentCall {
+    /// Returns the edition and the text of the document that the call is made on.
+    fn source(self) -> (Edition, &'static str) {
+        match self {
+            DocumentCall::Open(edition, text) => (edition, text),
+            DocumentCall::Edit(text, _, _, _)
+            | DocumentCall::Commit(text, _)
+            | DocumentCall::CommitWithoutMessages(text, _)
+            | DocumentCall::Difference(text, _)
+            | DocumentCall::Try(text, _) => (Edition::Edition2021, text),
+            _ => (Edition::Edition2021, "struct S;"),
+        }
+    }
+}
+
+/// Returns the answer of an opened document.
+fn asked(
+    alloc: Global,
+    call: DocumentCall,
+    document: &mut Document,
+    ids: &mut TreeIds,
+    refused: &mut u32,
+) -> anyhow::Result<String> {
     match call {
+        DocumentCall::Edit(_, start, end, put) => {
+            edit(alloc, document, (range(start, end), put), ids, refused)
+        }
+        DocumentCall::Commit(_, changes) => {
+            commit(alloc, document, (true, changes), ids, refused)
+        }
+        DocumentCall::CommitWithoutMessages(_, changes) => {
+            commit(alloc, document, (false, changes), ids, refused)
+        }
+        DocumentCall::Difference(_, changes) => {
+            let editor = recorded(alloc, changes, document, ids)?;
+            difference(alloc, document, &editor)
+        }
+        DocumentCall::Try(_, changes) => {
+            let editor = recorded(alloc, changes, document, ids)?;
+            Ok(document.try_commit(alloc, &editor)?)
+        }
         DocumentCall::Find => {
             let name = found(alloc, document, (SyntaxKind::NAME, 7, 8))?;
             Ok(format!(in alloc; "{}", name.green()?)?)
         }
-        _ => Ok(format!(in alloc; "{}", document.editor(alloc)?.root().tree())?),
+        DocumentCall::Editor => {
+            Ok(format!(in alloc; "{}", document.editor(alloc)?.root().tree())?)
+        }
+        _ => Ok(state(alloc, document)?),
     }
 }
 
 impl Ask for DocumentCall {
     fn answer(self, alloc: Global, refused: &mut u32) -> anyhow::Result<String> {
         let mut ids = TreeIds::new();
-        let edition = Edition::Edition2021;
         match self {
             DocumentCall::Payload => payload_read(alloc),
             DocumentCall::WholeInput => whole_input(alloc),
-            DocumentCall::Open(edition, text) => {
-                let document = open(alloc, (edition, text), &mut ids, refused)?;
-                Ok(state(alloc, &document)?)
+            _ => {
+                let mut document = open(alloc, self.source(), &mut ids, refused)?;
+                asked(alloc, self, &mut document, &mut ids, refused)
             }
-            DocumentCall::Edit(text, start, end, put) => {
-                let mut document = open(alloc, (edition, text), &mut ids, refused)?;
-                edit(
-                    alloc,
-                    &mut document,
-                    (range(start, end), put),
-                    &mut ids,
-                    refused,
-                )
-            }
-            DocumentCall::Commit(text, changes) => {
-                let mut document = open(alloc, (edition, text), &mut ids, refused)?;
-                commit(alloc, &mut document, (true, changes), &mut ids, refused)
-            }
-            DocumentCall::CommitWithoutMessages(text, changes) => {
-                let mut document = open(alloc, (edition, text), &mut ids, refused)?;
-                commit(alloc, &mut document, (false, changes), &mut ids, refused)
-            }
-            DocumentCall::Difference(text, changes) => {
-                let document = open(alloc, (edition, text), &mut ids, refused)?;
-                difference(alloc, &document, changes, &mut ids)
-            }
-            DocumentCall::Try(text, changes) => {
-                let document = open(alloc, (edition, text), &mut ids, refused)?;
-                tried(alloc, &document, changes, &mut ids)
-            }
-            _ => asked(
-                alloc,
-                self,
-                &open(alloc, (edition, "struct S;"), &mut ids, refused)?,
-            ),
         }
     }
 }

@@ -25,8 +25,9 @@ mod without_messages;
 
 use parser_input::edition::Edition;
 use parser_input::syntax_kind::SyntaxKind;
+use ra_parser::TopEntryPoint;
 use rowan_green::{TextRange, TextSize};
-use rust_document::{Document, OpenError, SyntaxEditor};
+use rust_document::{Document, EditError, Edited, OpenError, PayloadEntry, SyntaxEditor, payload};
 use std::alloc::{AllocError, Global};
 use std::test::Fail;
 use syntax_tree::{SyntaxElement, TreeIds};
@@ -59,15 +60,56 @@ fn found(alloc: Global, document: &Document, place: Place) -> Result<SyntaxEleme
     }
 }
 
-/// The editor with one more replacement.
+/// Returns an editor that replaces the element at a place with a new one.
 fn replacing(
     alloc: Global,
-    mut editor: SyntaxEditor,
-    target: &SyntaxElement,
+    document: &Document,
+    place: Place,
     new: &SyntaxElement,
 ) -> Result<SyntaxEditor, Fail> {
-    editor.replace(alloc, target, new)?;
+    let target = found(alloc, document, place)?;
+    let mut editor = document.editor(alloc)?;
+    editor.replace(alloc, &target, new)?;
     Ok(editor)
+}
+
+/// Returns an editor that deletes an element.
+fn deleting(
+    alloc: Global,
+    document: &Document,
+    target: &SyntaxElement,
+) -> Result<SyntaxEditor, Fail> {
+    let mut editor = document.editor(alloc)?;
+    editor.delete(alloc, target)?;
+    Ok(editor)
+}
+
+/// Returns an editor with what two editors recorded.
+fn merging(mut editor: SyntaxEditor, second: SyntaxEditor) -> Result<SyntaxEditor, Fail> {
+    if editor.merge(second).is_err() {
+        return Err(Fail::new("not merged"));
+    }
+    Ok(editor)
+}
+
+/// Returns the expression that a text of edition 2021 is.
+fn expression(alloc: Global, text: &str, ids: &mut TreeIds) -> Result<SyntaxElement, Fail> {
+    let entry = PayloadEntry::Top(TopEntryPoint::Expr);
+    Ok(payload(alloc, entry, Edition::Edition2021, text, ids)?)
+}
+
+/// Returns what a document answers to an edit. A range that no edit may have fails the test.
+fn edit(
+    alloc: Global,
+    document: &mut Document,
+    at: TextRange,
+    text: &str,
+    ids: &mut TreeIds,
+) -> Result<Result<Edited, EditError>, Fail> {
+    if !document.can_edit(at) {
+        return Err(Fail::new("no range that can be edited"));
+    }
+    Ok(document.edit(alloc, at, text, ids))
 }
 
 /// Returns `count` spaces.
@@ -90,3 +132,13 @@ const SEMICOLON: Place = (SyntaxKind::SEMICOLON, 8, 9);
 
 /// The root of `struct S;`.
 const ROOT: Place = (SyntaxKind::SOURCE_FILE, 0, 9);
+
+/// The structs of `struct S; struct T;`, of which the first is that of `struct S;` too.
+const FIRST: Place = (SyntaxKind::STRUCT, 0, 9);
+
+const SECOND: Place = (SyntaxKind::STRUCT, 10, 19);
+
+/// The literals of `fn f() { g(1, 2); }`, and the only one of `fn f() { g(1); }`.
+const ONE: Place = (SyntaxKind::LITERAL, 11, 12);
+
+const TWO: Place = (SyntaxKind::LITERAL, 14, 15);

@@ -4,4 +4,6 @@
 #[cfg(test)]
 mod markers;
 #[cfg(test)]
+mod steps;
+#[cfg(test)]
 mod trivia;

@@ -4,6 +4,7 @@ ghost use Rattle.std.specs.Prelude.{◌≡◌, ◌∷◌, [], length, IfOk};
 ghost use Rattle.parser_input.specs.Kinds as kinds;
 ghost use Rattle.parser_input.specs.Recorded.{plain, identifier};
 
+use crate::steps::{enter, leaf, leaf_over};
 use parser_events::message::Message;
 use parser_events::output::Output;
 use parser_events::parser::Parser;
@@ -42,9 +43,10 @@ fn pound_word_and_float(alloc: Global) -> Result<Input, AllocError>
     Ok(input)
 }
 
-fn has_steps(output: &Output, want: &[Step]) -> bool {
+/// Returns `true` if the steps are exactly `wanted`.
+fn has_steps(output: &Output, wanted: &[Step]) -> bool {
     let mut steps = output.iter();
-    for step in want {
+    for step in wanted {
         if steps.next() != Some(*step) {
             return false;
         }
@@ -62,28 +64,16 @@ fn tokens_and_a_message_in_a_node(rt: HostRuntime) -> Result<(), AllocError> {
     parser.token(SyntaxKind::SHL, 2);
     let _path = path.complete(&mut parser, SyntaxKind::PATH);
     let output = parser.finish()?;
-    assert!(rt;
-        has_steps(
-            &output,
-            &[
-                Step::Enter {
-                    kind: SyntaxKind::PATH
-                },
-                Step::Token {
-                    kind: SyntaxKind::IDENT,
-                    n_input_tokens: 1
-                },
-                Step::Error {
-                    msg: Message::Expected(SyntaxKind::SEMICOLON)
-                },
-                Step::Token {
-                    kind: SyntaxKind::SHL,
-                    n_input_tokens: 2
-                },
-                Step::Exit,
-            ]
-        )
-    );
+    let wanted = [
+        enter(SyntaxKind::PATH),
+        leaf(SyntaxKind::IDENT),
+        Step::Error {
+            msg: Message::Expected(SyntaxKind::SEMICOLON),
+        },
+        leaf_over(SyntaxKind::SHL, 2),
+        Step::Exit,
+    ];
+    assert!(rt; has_steps(&output, &wanted));
     Ok(())
 }
 
@@ -97,11 +87,8 @@ fn leaf_over_300_tokens(rt: HostRuntime) -> Result<(), AllocError> {
     let mut parser = Parser::new(rt.alloc(), &input);
     parser.token(SyntaxKind::IDENT, 300);
     let output = parser.finish()?;
-    let leaf = Step::Token {
-        kind: SyntaxKind::IDENT,
-        n_input_tokens: 300,
-    };
-    assert!(rt; has_steps(&output, &[leaf]));
+    let wanted = [leaf_over(SyntaxKind::IDENT, 300)];
+    assert!(rt; has_steps(&output, &wanted));
     Ok(())
 }
 
@@ -117,25 +104,14 @@ fn an_empty_node_beside_an_abandoned_one(rt: HostRuntime) -> Result<(), AllocErr
     left_out.abandon(&mut parser);
     let _root = root.complete(&mut parser, SyntaxKind::SOURCE_FILE);
     let output = parser.finish()?;
-    assert!(rt;
-        has_steps(
-            &output,
-            &[
-                Step::Enter {
-                    kind: SyntaxKind::SOURCE_FILE
-                },
-                Step::Enter {
-                    kind: SyntaxKind::NAME
-                },
-                Step::Exit,
-                Step::Token {
-                    kind: SyntaxKind::IDENT,
-                    n_input_tokens: 1
-                },
-                Step::Exit,
-            ]
-        )
-    );
+    let wanted = [
+        enter(SyntaxKind::SOURCE_FILE),
+        enter(SyntaxKind::NAME),
+        Step::Exit,
+        leaf(SyntaxKind::IDENT),
+        Step::Exit,
+    ];
+    assert!(rt; has_steps(&output, &wanted));
     Ok(())
 }
 
@@ -176,29 +152,15 @@ fn a_node_around_a_closed_one(rt: HostRuntime) -> Result<(), AllocError> {
     parser.token(SyntaxKind::PLUS, 1);
     let _sum = sum.complete(&mut parser, SyntaxKind::BIN_EXPR);
     let output = parser.finish()?;
-    assert!(rt;
-        has_steps(
-            &output,
-            &[
-                Step::Enter {
-                    kind: SyntaxKind::BIN_EXPR
-                },
-                Step::Enter {
-                    kind: SyntaxKind::PATH_EXPR
-                },
-                Step::Token {
-                    kind: SyntaxKind::IDENT,
-                    n_input_tokens: 1
-                },
-                Step::Exit,
-                Step::Token {
-                    kind: SyntaxKind::PLUS,
-                    n_input_tokens: 1
-                },
-                Step::Exit,
-            ]
-        )
-    );
+    let wanted = [
+        enter(SyntaxKind::BIN_EXPR),
+        enter(SyntaxKind::PATH_EXPR),
+        leaf(SyntaxKind::IDENT),
+        Step::Exit,
+        leaf(SyntaxKind::PLUS),
+        Step::Exit,
+    ];
+    assert!(rt; has_steps(&output, &wanted));
     Ok(())
 }
 
@@ -211,25 +173,14 @@ fn a_float_ends_a_field_access(rt: HostRuntime) -> Result<(), AllocError> {
     let around = parser.split_float(access, false);
     let _around = around.complete(&mut parser, SyntaxKind::FIELD_EXPR);
     let output = parser.finish()?;
-    assert!(rt;
-        has_steps(
-            &output,
-            &[
-                Step::Enter {
-                    kind: SyntaxKind::FIELD_EXPR
-                },
-                Step::Enter {
-                    kind: SyntaxKind::FIELD_EXPR
-                },
-                Step::Token {
-                    kind: SyntaxKind::IDENT,
-                    n_input_tokens: 1
-                },
-                Step::FloatSplit { ends_in_dot: false },
-                Step::Exit,
-            ]
-        )
-    );
+    let wanted = [
+        enter(SyntaxKind::FIELD_EXPR),
+        enter(SyntaxKind::FIELD_EXPR),
+        leaf(SyntaxKind::IDENT),
+        Step::FloatSplit { ends_in_dot: false },
+        Step::Exit,
+    ];
+    assert!(rt; has_steps(&output, &wanted));
     Ok(())
 }
 
@@ -267,33 +218,16 @@ fn extend_left_moves_trees_into_a_node(rt: HostRuntime) -> Result<(), AllocError
     parser.token(SyntaxKind::SEMICOLON, 1);
     let _statement = statement.complete(&mut parser, SyntaxKind::EXPR_STMT);
     let output = parser.finish()?;
-    assert!(rt;
-        has_steps(
-            &output,
-            &[
-                Step::Enter {
-                    kind: SyntaxKind::EXPR_STMT
-                },
-                Step::Enter {
-                    kind: SyntaxKind::PATH_EXPR
-                },
-                Step::Token {
-                    kind: SyntaxKind::POUND,
-                    n_input_tokens: 1
-                },
-                Step::Token {
-                    kind: SyntaxKind::IDENT,
-                    n_input_tokens: 1
-                },
-                Step::Exit,
-                Step::Token {
-                    kind: SyntaxKind::SEMICOLON,
-                    n_input_tokens: 1
-                },
-                Step::Exit,
-            ]
-        )
-    );
+    let wanted = [
+        enter(SyntaxKind::EXPR_STMT),
+        enter(SyntaxKind::PATH_EXPR),
+        leaf(SyntaxKind::POUND),
+        leaf(SyntaxKind::IDENT),
+        Step::Exit,
+        leaf(SyntaxKind::SEMICOLON),
+        Step::Exit,
+    ];
+    assert!(rt; has_steps(&output, &wanted));
     Ok(())
 }
 
@@ -310,29 +244,15 @@ fn extend_left_extends_the_outermost_node(rt: HostRuntime) -> Result<(), AllocEr
     let _call = call.complete(&mut parser, SyntaxKind::CALL_EXPR);
     operand.extend_left(&mut parser);
     let output = parser.finish()?;
-    assert!(rt;
-        has_steps(
-            &output,
-            &[
-                Step::Enter {
-                    kind: SyntaxKind::CALL_EXPR
-                },
-                Step::Token {
-                    kind: SyntaxKind::POUND,
-                    n_input_tokens: 1
-                },
-                Step::Enter {
-                    kind: SyntaxKind::PATH_EXPR
-                },
-                Step::Token {
-                    kind: SyntaxKind::IDENT,
-                    n_input_tokens: 1
-                },
-                Step::Exit,
-                Step::Exit,
-            ]
-        )
-    );
+    let wanted = [
+        enter(SyntaxKind::CALL_EXPR),
+        leaf(SyntaxKind::POUND),
+        enter(SyntaxKind::PATH_EXPR),
+        leaf(SyntaxKind::IDENT),
+        Step::Exit,
+        Step::Exit,
+    ];
+    assert!(rt; has_steps(&output, &wanted));
     Ok(())
 }
 
@@ -348,29 +268,15 @@ fn extend_left_extends_the_receiver_of_a_float(rt: HostRuntime) -> Result<(), Al
     let _around = around.complete(&mut parser, SyntaxKind::FIELD_EXPR);
     operand.extend_left(&mut parser);
     let output = parser.finish()?;
-    assert!(rt;
-        has_steps(
-            &output,
-            &[
-                Step::Enter {
-                    kind: SyntaxKind::FIELD_EXPR
-                },
-                Step::Enter {
-                    kind: SyntaxKind::FIELD_EXPR
-                },
-                Step::Token {
-                    kind: SyntaxKind::POUND,
-                    n_input_tokens: 1
-                },
-                Step::Token {
-                    kind: SyntaxKind::IDENT,
-                    n_input_tokens: 1
-                },
-                Step::FloatSplit { ends_in_dot: false },
-                Step::Exit,
-            ]
-        )
-    );
+    let wanted = [
+        enter(SyntaxKind::FIELD_EXPR),
+        enter(SyntaxKind::FIELD_EXPR),
+        leaf(SyntaxKind::POUND),
+        leaf(SyntaxKind::IDENT),
+        Step::FloatSplit { ends_in_dot: false },
+        Step::Exit,
+    ];
+    assert!(rt; has_steps(&output, &wanted));
     Ok(())
 }
 
@@ -384,28 +290,13 @@ fn extend_left_closes_two_trees_as_an_error(rt: HostRuntime) -> Result<(), Alloc
     parser.token(SyntaxKind::PLUS, 1);
     operand.extend_left(&mut parser);
     let output = parser.finish()?;
-    assert!(rt;
-        has_steps(
-            &output,
-            &[
-                Step::Enter {
-                    kind: SyntaxKind::ERROR
-                },
-                Step::Token {
-                    kind: SyntaxKind::POUND,
-                    n_input_tokens: 1
-                },
-                Step::Token {
-                    kind: SyntaxKind::IDENT,
-                    n_input_tokens: 1
-                },
-                Step::Token {
-                    kind: SyntaxKind::PLUS,
-                    n_input_tokens: 1
-                },
-                Step::Exit,
-            ]
-        )
-    );
+    let wanted = [
+        enter(SyntaxKind::ERROR),
+        leaf(SyntaxKind::POUND),
+        leaf(SyntaxKind::IDENT),
+        leaf(SyntaxKind::PLUS),
+        Step::Exit,
+    ];
+    assert!(rt; has_steps(&output, &wanted));
     Ok(())
 }

@@ -3,6 +3,7 @@
 
 ghost use Rattle.std.specs.Prelude.{◌≡◌, ◌+◌};
 
+use crate::steps::{enter, leaf, leaf_over};
 use parser_events::message::Message;
 use parser_events::output::Output;
 use parser_events::shortcuts::intersperse_trivia;
@@ -66,7 +67,7 @@ impl StrSink for Awaiting<'_> {
 
     ghost takes = { λ old step new. (new.taken ≡ old.taken + 1) × (new.most ≡ old.most) };
 
-    ghost refuses = { λ old step error new. (error.0 ≡ old.taken) × (new ≡ old) };
+    ghost fails_at = { λ old step error new. (error.0 ≡ old.taken) × (new ≡ old) };
 
     fn step(&mut self, step: StrStep<'_>) -> Result<(), Refusal> {
         if self.most <= self.taken {
@@ -110,18 +111,26 @@ fn do_fit(alloc: Global, text: &str, steps: &[Step]) -> Result<bool, AllocError>
     Ok(output.fits(&lexed))
 }
 
-/// Returns the step that starts a node.
-fn enter(kind: SyntaxKind) -> Step {
-    Step::Enter { kind }
-}
+const FILE: Step = Step::Enter {
+    kind: SyntaxKind::SOURCE_FILE,
+};
 
-/// Returns the step of a leaf over one token.
-fn leaf(kind: SyntaxKind) -> Step {
-    Step::Token {
-        kind,
-        n_input_tokens: 1,
-    }
-}
+const FIELD: Step = Step::Enter {
+    kind: SyntaxKind::FIELD_EXPR,
+};
+
+const SAID: Step = Step::Error {
+    msg: Message::ExpectedItem,
+};
+
+const WITH_DOT: Step = Step::FloatSplit { ends_in_dot: true };
+
+const WITHOUT_DOT: Step = Step::FloatSplit { ends_in_dot: false };
+
+const SHIFT: Step = Step::Token {
+    kind: SyntaxKind::SHL,
+    n_input_tokens: 2,
+};
 
 /// Returns the steps of a file with one struct without fields.
 fn one_struct() -> [Step; 9] {
@@ -223,17 +232,11 @@ fn is_put(alloc: Global, text: &str, steps: &[Step], wanted: &[Mark]) -> Result<
     Ok(outcome == (None, wanted.len(), true))
 }
 
-#[test]
-fn floats_after_a_dot(rt: HostRuntime) -> Result<(), AllocError> {
-    let with_fraction = is_put(
-        rt.alloc(),
+/// A text, steps, and the marks of the steps with the trivia of the text.
+const FLOATS: &[(&str, [Step; 4], &[Mark])] = &[
+    (
         "0.1",
-        &[
-            enter(SyntaxKind::FIELD_EXPR),
-            enter(SyntaxKind::FIELD_EXPR),
-            Step::FloatSplit { ends_in_dot: false },
-            Step::Exit,
-        ],
+        [FIELD, FIELD, WITHOUT_DOT, Step::Exit],
         &[
             Mark::Enter(SyntaxKind::FIELD_EXPR, 0),
             Mark::Enter(SyntaxKind::FIELD_EXPR, 0),
@@ -247,16 +250,10 @@ fn floats_after_a_dot(rt: HostRuntime) -> Result<(), AllocError> {
             Mark::Exit(3),
             Mark::Exit(3),
         ],
-    )?;
-    let with_dot = is_put(
-        rt.alloc(),
+    ),
+    (
         "0.",
-        &[
-            enter(SyntaxKind::SOURCE_FILE),
-            enter(SyntaxKind::FIELD_EXPR),
-            Step::FloatSplit { ends_in_dot: true },
-            Step::Exit,
-        ],
+        [FILE, FIELD, WITH_DOT, Step::Exit],
         &[
             Mark::Enter(SyntaxKind::SOURCE_FILE, 0),
             Mark::Enter(SyntaxKind::FIELD_EXPR, 0),
@@ -267,16 +264,10 @@ fn floats_after_a_dot(rt: HostRuntime) -> Result<(), AllocError> {
             Mark::Leaf(SyntaxKind::DOT, 1, 2),
             Mark::Exit(2),
         ],
-    )?;
-    let with_exponent = is_put(
-        rt.alloc(),
+    ),
+    (
         "1e0",
-        &[
-            enter(SyntaxKind::FIELD_EXPR),
-            enter(SyntaxKind::FIELD_EXPR),
-            Step::FloatSplit { ends_in_dot: false },
-            Step::Exit,
-        ],
+        [FIELD, FIELD, WITHOUT_DOT, Step::Exit],
         &[
             Mark::Enter(SyntaxKind::FIELD_EXPR, 0),
             Mark::Enter(SyntaxKind::FIELD_EXPR, 0),
@@ -287,11 +278,14 @@ fn floats_after_a_dot(rt: HostRuntime) -> Result<(), AllocError> {
             Mark::Exit(3),
             Mark::Exit(3),
         ],
-    )?;
-    assert_eq!(rt;
-        (with_fraction, with_dot, with_exponent),
-        (true, true, true)
-    );
+    ),
+];
+
+#[test]
+fn floats_after_a_dot(rt: HostRuntime) -> Result<(), AllocError> {
+    for (text, steps, wanted) in FLOATS {
+        assert!(rt; is_put(rt.alloc(), text, steps, wanted)?, "{text}");
+    }
     Ok(())
 }
 
@@ -329,27 +323,6 @@ fn each_step_refused_in_turn(rt: HostRuntime) -> Result<(), AllocError> {
     Ok(())
 }
 
-const FILE: Step = Step::Enter {
-    kind: SyntaxKind::SOURCE_FILE,
-};
-
-const FIELD: Step = Step::Enter {
-    kind: SyntaxKind::FIELD_EXPR,
-};
-
-const SAID: Step = Step::Error {
-    msg: Message::ExpectedItem,
-};
-
-const WITH_DOT: Step = Step::FloatSplit { ends_in_dot: true };
-
-const WITHOUT_DOT: Step = Step::FloatSplit { ends_in_dot: false };
-
-const SHIFT: Step = Step::Token {
-    kind: SyntaxKind::SHL,
-    n_input_tokens: 2,
-};
-
 /// A text, steps, and whether the steps fit the text.
 const FITTING: &[(&str, [Step; 4], bool)] = &[
     (" << ", [FILE, SHIFT, SAID, Step::Exit], true),
@@ -381,10 +354,7 @@ fn steps_that_fit(rt: HostRuntime) -> Result<(), AllocError> {
 fn one_leaf(n_input_tokens: usize) -> [Step; 3] {
     [
         FILE,
-        Step::Token {
-            kind: SyntaxKind::SEMICOLON,
-            n_input_tokens,
-        },
+        leaf_over(SyntaxKind::SEMICOLON, n_input_tokens),
         Step::Exit,
     ]
 }

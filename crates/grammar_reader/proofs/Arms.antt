@@ -10,14 +10,16 @@ use Rattle.rust_grammar.specs.Notation.{any_of, is_longer, longest, no_longer, o
 use Rattle.rust_grammar.specs.Paths.{path_begins, paths}
 use Rattle.rust_grammar.specs.Patterns.{patterns}
 use Rattle.rust_grammar.specs.Rule as rules
-use Rattle.rust_grammar.specs.Rule.{Continue, InCondition, Kind, Look, Whole, anew, begins, in_mode, is_silent, passes, shift, spelled_at, there_at}
+use Rattle.rust_grammar.specs.Rule.{Continue, InCondition, Kind, Look, Whole, from_start, begins, in_mode, is_silent, passes, shift, spelled_at, there_at}
 use Rattle.rust_grammar.specs.Statements.{statements}
 use Rattle.rust_grammar.specs.Types.{types}
 use Rattle.rust_grammar.specs.Whole.{rule, whole}
 use Rattle.rust_grammar.specs.Words.{'::'}
 use Rattle.rust_productions.specs.Layers.{layer_at, layers, operators, operators_at, repeated, turn_at, turns_from}
-use Rattle.rust_productions.specs.Reads.{looks, Reads, Saw}
+use Rattle.rust_productions.specs.Reads.{looks, Reads, Saw, is_on}
 use Rattle.rust_productions.specs.Stands.{left}
+use Rattle.rust_productions.specs.declared.condition.Condition.{Condition}
+use Rattle.rust_productions.specs.declared.condition.Condition.TheVariants.{On, Off}
 use Rattle.rust_productions.proofs.Begins.{saw-begun-path}
 use Rattle.rust_productions.proofs.ByHand.{does-as, does-then}
 use Rattle.rust_productions.proofs.Choices.{reads-here}
@@ -29,32 +31,33 @@ is-whole : View → Bool
 unfolding ahead
 is-whole v = (ahead 0 (left v)).whole
 
-saw-whole : {c : Bool} (v : View) → Saw c (Whole 0) v (is-whole v)
+saw-whole : {c : Condition} (v : View) → Saw c (Whole 0) v (is-whole v)
 unfolding sees is-whole
 saw-whole v = record { at = λ s e. ap (λ ts. (ahead 0 ts).whole) (sym e) }
 
-in-condition : {c : Bool} {v : View} → Saw c InCondition v true → c ≡ true
+in-condition : {c : Condition} {v : View} → Saw c InCondition v true → c ≡ On
 unfolding sees
-in-condition {c} {v} saw = saw.at (record { given = forest.End; rest = left v }) refl
+in-condition {c = On} saw = refl
+in-condition {c = Off} {v} saw = absurd (let z : false ≡ true = saw.at (record { given = forest.End; rest = left v }) refl in cc)
 
 -- in condition mode a `let` is read alike by both grammars
-as-condition : {old new : View} → Reads true let_anywhere old new → Reads true let_expr old new
+as-condition : {old new : View} → Reads On let_anywhere old new → Reads On let_expr old new
 unfolding read
 as-condition p = record { does = does-as (λ s e. refl) p.does }
 
 -- A `let` is an expression anywhere in the whole language, and in condition mode in the profile.
-pub reads-let : {c : Bool} {old new : View} → Saw c (looks rules.atom) old true → ((d : Bool) → Saw d (Kind 0 kinds.LET_KW) old true) → ((d : Bool) → Reads d let_anywhere old new) → Reads c (rule rules.atom) old new
-unfolding look_of begins_below whole rule items statements expressions patterns types paths there_at shift passes is_silent begins in_mode anew row one_of any_of no_longer longest is_longer
+pub reads-let : {c : Condition} {old new : View} → Saw c (looks rules.atom) old true → ((d : Condition) → Saw d (Kind 0 kinds.LET_KW) old true) → ((d : Condition) → Reads d let_anywhere old new) → Reads c (rule rules.atom) old new
+unfolding look_of begins_below whole rule items statements expressions patterns types paths there_at shift passes is_silent begins in_mode from_start row one_of any_of no_longer longest is_longer
 reads-let {c} {old} {new} begun is p = which (is-whole old) (saw-whole old)
   where
     which : (w : Bool) → Saw c (Whole 0) old w → Reads c (rule rules.atom) old new
     which true w = reads-here (is c and w and nothing) (p c)
     which false w =
         let inside = in-condition (saw-else InCondition (looks rules.atom) (is c and w and nothing) begun refl) in
-        reads-here (is c and w and nothing) (subst (λ (d : Bool). Reads d let_expr old new) (sym inside) (as-condition (p true)))
+        reads-here (is c and w and nothing) (subst (λ (d : Condition). Reads d let_expr old new) (sym inside) (as-condition (p On)))
 
 -- The operators of all layers after an operand, and then the tail of the operation.
-pub reads-after-operand : {c : Bool} {old mid new : View} → Reads c (repeated (turns_from 10 1)) old mid → Reads c (Continue rules.operation_tail) mid new → Reads c after_operand old new
+pub reads-after-operand : {c : Condition} {old mid new : View} → Reads c (repeated (turns_from 10 1)) old mid → Reads c (Continue rules.operation_tail) mid new → Reads c after_operand old new
 unfolding read turns_from turn_at operators_at operators layer_at layers
 reads-after-operand p q = record { does = does-as (λ s e. refl) (does-then p.does q.does) }
 
@@ -81,11 +84,11 @@ unfolding any_of one_of row there_at
 told-none = refl
 
 -- a path of several segments is one
-pub path-there : {c : Bool} {v : View} → Saw c long_path_begins v true → Saw c (looks rules.path) v true
-path-there {c} {v} saw = saw-begun-path (record { at = λ s e. one s (sees c s path_begins) refl (saw.at s e) })
+pub path-there : {c : Condition} {v : View} → Saw c long_path_begins v true → Saw c (looks rules.path) v true
+path-there {c} {v} saw = saw-begun-path (record { at = λ s e. one s (sees (is_on c) s path_begins) refl (saw.at s e) })
   where
-    one : (s : Reading) (b : Bool) → sees c s path_begins ≡ b → sees c s long_path_begins ≡ true → sees c s path_begins ≡ true
+    one : (s : Reading) (b : Bool) → sees (is_on c) s path_begins ≡ b → sees (is_on c) s long_path_begins ≡ true → sees (is_on c) s path_begins ≡ true
     one s true is there = is
     one s false is there =
-        let no : sees c s long_path_begins ≡ false = subst (λ (o : Option Bool). Right c s long_path_begins o) told-none (is_told c s no_path (none-there c s is) long_path_begins) in
+        let no : sees (is_on c) s long_path_begins ≡ false = subst (λ (o : Option Bool). Right (is_on c) s long_path_begins o) told-none (is_told (is_on c) s no_path (none-there (is_on c) s is) long_path_begins) in
         absurd (let z : true ≡ false = sym there ∙ no in cc)

@@ -14,22 +14,24 @@ use Rattle.grammar_reader.specs.Told.{element_of, list_turn, looks_before, looks
 use Rattle.grammar_reader.specs.declared.grammar.lists.Element.{Element}
 use Rattle.grammar_reader.specs.declared.grammar.lists.Element.TheVariants as elements
 use Rattle.rust_productions.specs.Looks.{tokens, spent}
-use Rattle.rust_productions.specs.Reads.{looks, Reads, Saw}
+use Rattle.rust_productions.specs.Reads.{looks, Reads, Saw, is_on}
+use Rattle.rust_productions.specs.declared.condition.Condition.{Condition}
+use Rattle.rust_productions.specs.declared.condition.Condition.TheVariants.{Off}
 use Rattle.rust_productions.proofs.ByHand.{reads-else, reads-or, reads-then, reads-unless, reads-when}
 use Rattle.rust_productions.proofs.Seen.{saw-either-left, saw-either-right, saw-no-left}
 use Rattle.rust_productions.proofs.Turns.{EndsAtEnd}
 
-pub saw-denied : {c b : Bool} {l : Look} {v : View} → Saw c l v b → Saw c (Not l) v (not b)
+pub saw-denied : {c : Condition} {b : Bool} {l : Look} {v : View} → Saw c l v b → Saw c (Not l) v (not b)
 unfolding sees
 saw-denied saw = record { at = λ s e. ap not (saw.at s e) }
 
-pub saw-both : {c b : Bool} {l m : Look} {v : View} → Saw c l v true → Saw c m v b → Saw c (Both l m) v b
+pub saw-both : {c : Condition} {b : Bool} {l m : Look} {v : View} → Saw c l v true → Saw c m v b → Saw c (Both l m) v b
 unfolding sees
 saw-both f g = record { at = λ s e. rw (f.at s e) (g.at s e) }
 
-pub saw-never : {c b : Bool} {l : Look} {v : View} → Saw c l v b → Saw c (Either l Never) v b
+pub saw-never : {c : Condition} {b : Bool} {l : Look} {v : View} → Saw c l v b → Saw c (Either l Never) v b
 unfolding sees
-saw-never {c} {b} {l} saw = record { at = λ s e. alone (sees c s l) ∙ saw.at s e }
+saw-never {c} {b} {l} saw = record { at = λ s e. alone (sees (is_on c) s l) ∙ saw.at s e }
   where
     alone : (a : Bool) → (if a then true else false) ≡ a
     alone true = refl
@@ -42,36 +44,36 @@ first-begins r b e f = rw (e, f) refl
 
 module _ (list : ℕ) (r : Rule) (close : ℕ) {v : View} where
   -- A list ends at its closing token, and where neither an element nor a stray token is next.
-  pub over : Saw false (until (one close)) v true → Saw false (begins looks (list_turn list r close)) v false
+  pub over : Saw Off (until (one close)) v true → Saw Off (begins looks (list_turn list r close)) v false
   unfolding begins passes is_silent
   over f = saw-no-left (saw-denied f)
 
   module _ (said : is_silent r ≡ false) (sure : passes r ≡ false) where
     -- an element is next where one begins
-    element-next : {b : Bool} → Saw false (begins looks r) v b → Saw false (begins looks (r ▸ (One 'comma' or When (next (one close)) Nothing or Say (Expected COMMA)))) v b
-    element-next {b} saw = subst (λ (l : Look). Saw false l v b) (sym (first-begins r (One 'comma' or When (next (one close)) Nothing or Say (Expected COMMA)) said sure)) saw
+    element-next : {b : Bool} → Saw Off (begins looks r) v b → Saw Off (begins looks (r ▸ (One 'comma' or When (next (one close)) Nothing or Say (Expected COMMA)))) v b
+    element-next {b} saw = subst (λ (l : Look). Saw Off l v b) (sym (first-begins r (One 'comma' or When (next (one close)) Nothing or Say (Expected COMMA)) said sure)) saw
 
-    pub over-there : Saw false (until (one close)) v false → Saw false (begins looks r) v false → Saw false (Both Left (Not (one_of 0 stops))) v false → Saw false (begins looks (list_turn list r close)) v false
+    pub over-there : Saw Off (until (one close)) v false → Saw Off (begins looks r) v false → Saw Off (Both Left (Not (one_of 0 stops))) v false → Saw Off (begins looks (list_turn list r close)) v false
     unfolding begins
     over-there f g h = saw-both (saw-denied f) (saw-either-right (element-next g) h)
 
     -- It goes on else.
-    pub more : Saw false (until (one close)) v false → Saw false (begins looks r) v true → Saw false (begins looks (list_turn list r close)) v true
+    pub more : Saw Off (until (one close)) v false → Saw Off (begins looks r) v true → Saw Off (begins looks (list_turn list r close)) v true
     unfolding begins
     more f g = saw-both (saw-denied f) (saw-either-left (element-next g))
 
-    pub stray : Saw false (until (one close)) v false → Saw false (begins looks r) v false → Saw false (Both Left (Not (one_of 0 stops))) v true → Saw false (begins looks (list_turn list r close)) v true
+    pub stray : Saw Off (until (one close)) v false → Saw Off (begins looks r) v false → Saw Off (Both Left (Not (one_of 0 stops))) v true → Saw Off (begins looks (list_turn list r close)) v true
     unfolding begins
     stray f g h = saw-both (saw-denied f) (saw-either-right (element-next g) h)
 
     pub reads-element :
-        {mid new : View} → Saw false (begins looks r) v true → Reads false r v mid
-        → Reads false (One 'comma' or When (next (one close)) Nothing or Say (Expected COMMA)) mid new
-        → Reads false (list_turn list r close) v new
-    reads-element f p q = reads-unless false (reads-or false (element-next f) (reads-then false p q))
+        {mid new : View} → Saw Off (begins looks r) v true → Reads Off r v mid
+        → Reads Off (One 'comma' or When (next (one close)) Nothing or Say (Expected COMMA)) mid new
+        → Reads Off (list_turn list r close) v new
+    reads-element f p q = reads-unless Off (reads-or Off (element-next f) (reads-then Off p q))
 
-    pub reads-stray : {new : View} → Saw false (begins looks r) v false → Reads false (Skip (UnexpectedIn list)) v new → Reads false (list_turn list r close) v new
-    reads-stray f p = reads-unless false (reads-else false (element-next f) (reads-when false p))
+    pub reads-stray : {new : View} → Saw Off (begins looks r) v false → Reads Off (Skip (UnexpectedIn list)) v new → Reads Off (list_turn list r close) v new
+    reads-stray f p = reads-unless Off (reads-else Off (element-next f) (reads-when Off p))
 
 pub said-element : (e : Element) → is_silent (element_of e) ≡ false
 unfolding is_silent
@@ -109,7 +111,7 @@ sure-element elements.Type = refl
 sure-element elements.TypeArg = refl
 sure-element elements.Variant = refl
 
-pub ends : (list : ℕ) (r : Rule) (close : ℕ) → EndsAtEnd false (list_turn list r close)
+pub ends : (list : ℕ) (r : Rule) (close : ℕ) → EndsAtEnd Off (list_turn list r close)
 unfolding begins sees
 ends list r close t none = let e : nat_lt 0 (length t.rest) ≡ false = ap (λ (n : ℕ). nat_lt 0 n) none in rw e refl
 

@@ -14,6 +14,7 @@ use Rattle.grammar_reader.specs.declared.grammar.lists.ListKind.TheVariants as l
 use Rattle.grammar_reader.specs.declared.grammar.parts.Part.{Part}
 use Rattle.grammar_reader.specs.declared.grammar.parts.Part.TheVariants as parts
 use Rattle.rust_productions.specs.Reads.{looks, Reads, Saw}
+use Rattle.rust_productions.specs.declared.condition.Condition.{Condition}
 use Rattle.rust_productions.proofs.Begins.{saw-type-path}
 use Rattle.rust_productions.proofs.Facts.{begun, nothing, ◌and◌}
 use Rattle.rust_productions.proofs.Ranges.{begins-call}
@@ -25,14 +26,14 @@ use Rattle.rust_grammar.specs.Notation.{any_of, is_longer, no_longer, longest, o
 use Rattle.rust_grammar.specs.Paths.{paths}
 use Rattle.rust_grammar.specs.Patterns.{patterns}
 use Rattle.rust_grammar.specs.Rule as rules
-use Rattle.rust_grammar.specs.Rule.{begins, in_mode, anew, is_silent, passes, shift, there_at, Call, When}
+use Rattle.rust_grammar.specs.Rule.{begins, in_mode, from_start, is_silent, passes, shift, there_at, Call, When}
 use Rattle.rust_grammar.specs.Statements.{statements}
 use Rattle.rust_grammar.specs.Types.{types}
 use Rattle.rust_grammar.specs.Whole.{rule, whole}
 
 -- A list reads as its kind says if its node, its delimiters and its elements are those of that kind.
 pub reads-list :
-    (list : ListKind) (kind opening : ℕ) (element : Element) (closing : ℕ) {c : Bool} {old new : View}
+    (list : ListKind) (kind opening : ℕ) (element : Element) (closing : ℕ) {c : Condition} {old new : View}
     → kind ≡ kind_in list → opening ≡ opening_in list → element ≡ element_in list → closing ≡ closing_in list
     → Reads c (kind ⟨ listed kind (one opening) (element_of element) (one closing) ⟩) old new → Reads c (list_of list) old new
 reads-list list kind opening element closing {c} {old} {new} is opens holds closes p =
@@ -75,8 +76,8 @@ list-pays elements.TypeArg = omega arith
 list-pays elements.Variant = omega arith
 
 -- A part begins where its rule does.
-pub part-there : (part : Part) {c b : Bool} {v : View} → Saw c (part_begins part) v b → Saw c (begins looks (part_of part)) v b
-unfolding look_of begins_below whole rule items statements expressions patterns types paths there_at shift passes is_silent begins in_mode anew row one_of any_of no_longer longest is_longer
+pub part-there : (part : Part) {c : Condition} {b : Bool} {v : View} → Saw c (part_begins part) v b → Saw c (begins looks (part_of part)) v b
+unfolding look_of begins_below whole rule items statements expressions patterns types paths there_at shift passes is_silent begins in_mode from_start row one_of any_of no_longer longest is_longer
 part-there parts.Arguments saw = begins-call rules.arguments saw
 part-there parts.AssocItems saw = begins-call rules.assoc_items saw
 part-there parts.Block saw = begins-call rules.block saw

@@ -17,23 +17,25 @@ use Rattle.rust_grammar.specs.Laws.{reads}
 use Rattle.rust_grammar.specs.Meaning.{Reading, after, ahead, fresh, read, sees, split}
 use Rattle.rust_grammar.specs.Whole.{rule}
 use Rattle.rust_grammar.proofs.WholeTable.{whole-means}
-use Rattle.rust_productions.specs.Reads.{Anew, Completes, Opens, Reads, Saw}
+use Rattle.rust_productions.specs.Reads.{FromStart, Completes, Opens, Reads, Saw, is_on}
 use Rattle.rust_productions.specs.Stands.{left, Holds}
+use Rattle.rust_productions.specs.declared.condition.Condition.{Condition}
+use Rattle.rust_productions.specs.declared.condition.Condition.TheVariants.{On}
 use Rattle.rust_productions.proofs.ByHand.{does-as}
-use Rattle.rust_productions.proofs.Choices.{anew-completes}
+use Rattle.rust_productions.proofs.Choices.{from_start-completes}
 use Rattle.rust_productions.proofs.Looking.{kind-ahead}
 use Rattle.rust_productions.proofs.Moves.{becomes, around-closed}
 
 -- The first production may be read in a node that is abandoned later: nothing was given in that node.
-pub anew-first : {x : Production} {b : Rule} {c : Bool} {old mid new : View} → Opens old mid → Completes c (Then (rule x) b) mid new → Anew c (Then (Call x) b) old new
+pub from_start-first : {x : Production} {b : Rule} {c : Condition} {old mid new : View} → Opens old mid → Completes c (Then (rule x) b) mid new → FromStart c (Then (Call x) b) old new
 unfolding read fresh after
-anew-first {x} {b} {c} {old} {mid} {new} o q =
-    let first : Anew c (Then (rule x) b) old new = anew-completes o q in
-    record { does = does-as (λ s e. ap (λ (t : Reading). after s (reads c b t)) (sym (whole-means x c (fresh s)))) first.does }
+from_start-first {x} {b} {c} {old} {mid} {new} o q =
+    let first : FromStart c (Then (rule x) b) old new = from_start-completes o q in
+    record { does = does-as (λ s e. ap (λ (t : Reading). after s (reads (is_on c) b t)) (sym (whole-means x (is_on c) (fresh s)))) first.does }
 
-seen-joint : {b : Bool} {v : View} (s : Reading) → ((c : Bool) → Saw c (Joint 0) v b) → left v ≡ s.rest → b ≡ (ahead 0 s.rest).joint
+seen-joint : {b : Bool} {v : View} (s : Reading) → ((c : Condition) → Saw c (Joint 0) v b) → left v ≡ s.rest → b ≡ (ahead 0 s.rest).joint
 unfolding sees
-seen-joint s saw e = sym ((saw true).at s e)
+seen-joint s saw e = sym ((saw On).at s e)
 
 ends-in-dot : (f : Forest) (nodes : List Marked) (v : View) → Holds v.nodes (marks.Split true (marked f) End ∷ nodes) → Holds v.nodes (marked (forest.Float true f forest.End) ∷ nodes)
 unfolding marked
@@ -41,9 +43,9 @@ ends-in-dot f nodes v h = h
 
 -- a float that ends in a dot
 pub does-split :
-    {old new : View} (b : Bool) → ((c : Bool) → Saw c (Joint 0) old b) → b ≡ false
+    {old new : View} (b : Bool) → ((c : Condition) → Saw c (Joint 0) old b) → b ≡ false
     → Becomes (stack.split (not b)) old.nodes new.nodes → new ≡ record old { position = old.position + 1; nodes = new.nodes }
-    → ((n : ℕ) → IsInnermost n old.nodes → IsInnermost n new.nodes) → (c : Bool) → Reads c Split old new
+    → ((n : ℕ) → IsInnermost n old.nodes → IsInnermost n new.nodes) → (c : Condition) → Reads c Split old new
 unfolding read split
 does-split {old} {new} b saw f n same stays c = record {
   does = record {
@@ -63,11 +65,11 @@ in-access f nodes v h = h
 
 -- one that does not stands in a field access
 pub does-access :
-    {old mid end new : View} (b : Bool) (around : ℕ) (place : stack.Place) → ((c : Bool) → Saw c (Joint 0) old b) → b ≡ true
+    {old mid end new : View} (b : Bool) (around : ℕ) (place : stack.Place) → ((c : Condition) → Saw c (Joint 0) old b) → b ≡ true
     → Becomes (stack.split (not b)) old.nodes mid.nodes → mid ≡ record old { position = old.position + 1; nodes = mid.nodes }
     → IsInnermost around mid.nodes → Becomes (stack.closed FIELD_EXPR) mid.nodes end.nodes → end ≡ record mid { nodes = end.nodes } → IfSome mid.nodes (λ nodes. place ≡ stack.place_of nodes)
     → Becomes (stack.wrapped place.before) end.nodes new.nodes → new ≡ record end { nodes = new.nodes }
-    → ((n : ℕ) → IsInnermost n old.nodes → IsInnermost n new.nodes) → (c : Bool) → Reads c Split old new
+    → ((n : ℕ) → IsInnermost n old.nodes → IsInnermost n new.nodes) → (c : Condition) → Reads c Split old new
 unfolding read split
 does-access {old} {mid} {end} {new} b around place saw f n same i closed same2 is w same3 stays c = record {
   does = record {
@@ -90,9 +92,9 @@ split-innermost b around (Some []) (Some new) i n = absurd (let z : 0 ≡ suc ar
 split-innermost b around (Some (f ∷ below)) (Some new) i n = ap stack.level n ∙ i
 
 -- the float that was seen is the parser's next token
-pub float-next : {v : View} → ((c : Bool) → Saw c (Kind 0 FLOAT_NUMBER) v true) → (token_at v.input v.position).kind ≡ FLOAT_NUMBER
+pub float-next : {v : View} → ((c : Condition) → Saw c (Kind 0 FLOAT_NUMBER) v true) → (token_at v.input v.position).kind ≡ FLOAT_NUMBER
 unfolding sees
 float-next {v} saw =
     let here : Reading = record { given = forest.End; rest = left v } in
     let same : v.position ≡ v.position + 0 = omega arith in
-    ap (λ (n : ℕ). (token_at v.input n).kind) same ∙ kind-ahead v 0 ∙ eqb-true (ahead 0 (left v)).kind FLOAT_NUMBER ((saw true).at here refl)
+    ap (λ (n : ℕ). (token_at v.input n).kind) same ∙ kind-ahead v 0 ∙ eqb-true (ahead 0 (left v)).kind FLOAT_NUMBER ((saw On).at here refl)

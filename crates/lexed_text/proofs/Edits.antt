@@ -42,15 +42,44 @@ front-at text start end put tokens before k bytes u can is cut found =
       }
     ]
 
-pub front-in : (text : List ℕ) (start end : ℕ) (put : List ℕ) (k bytes : ℕ) → IsUtf8 text → FrontAt text start end put k bytes → bytes ≤ length text
-front-in text start end put k bytes u f =
-    let is : bytes ≡ taken k (token_list (chars text)) = f.is_taken in
-    omega (arith, taken-left k (chars text), size-chars text u)
+-- what is known before the text changes: it can be edited, `held` has its bytes, and `tokens` are its tokens; its front
+pub record Begun (text : List ℕ) (start end : ℕ) (put held : List ℕ) (tokens : List Token) (k bytes : ℕ) : Type 0 where
+  pub is_text : IsUtf8 text
+  pub can : CanEdit text start end (length put)
+  pub same : held ≡ text
+  pub list : tokens ≡ token_list (chars text)
+  pub front : FrontAt text start end put k bytes
 
-pub front-left : (text : List ℕ) (start end : ℕ) (put : List ℕ) (k bytes : ℕ) → IsUtf8 text → FrontAt text start end put k bytes → length text - bytes ≡ left k (token_list (chars text))
-front-left text start end put k bytes u f =
-    let is : bytes ≡ taken k (token_list (chars text)) = f.is_taken in
-    omega (arith, taken-left k (chars text), size-chars text u)
+-- `find_front` finds the front of an edit in what a `LexedText` has of its text
+pub begun : (text : List ℕ) (start end : ℕ) (put : List ℕ) {mine held before : List ℕ} {tokens shown : List Token} {k bytes : ℕ} → mine ≡ text → IsUtf8 mine → CanEdit text start end (length put) → tokens ≡ token_list (chars mine) → held ≡ mine → shown ≡ tokens → before ≡ slice_range held 0 start → FrontFound shown (chars before) k bytes → Begun text start end put held tokens k bytes
+begun text start end put {mine} {held} {before} {tokens} {shown} {k} {bytes} is u can are copy slice cut found =
+    let whole = subst IsUtf8 is u in
+    let same = copy ∙ is in
+    let list = are ∙ ap (λ z. token_list (chars z)) is in
+    let n : start - 0 ≡ start = omega arith in
+    let front : before ≡ take start text = cut ∙ ap (λ z. slice_range z 0 start) same ∙ ap (λ m. take m text) n in
+    record {
+      is_text = whole;
+      can = can;
+      same = same;
+      list = list;
+      front = front-at text start end put shown before k bytes whole can (slice ∙ list) front found;
+    }
+
+-- the front is within the text
+pub front-in : {text : List ℕ} {start end : ℕ} {put held : List ℕ} {tokens : List Token} {k bytes : ℕ} → Begun text start end put held tokens k bytes → bytes ≤ length held
+front-in {text} {k = k} {bytes = bytes} b =
+    let is : bytes ≡ taken k (token_list (chars text)) = b.front.is_taken in
+    let same = ap length b.same in
+    omega (arith, taken-left k (chars text), size-chars text b.is_text)
+
+-- the bytes after the front are those of the tokens after it
+pub front-left : {text : List ℕ} {start end : ℕ} {put held : List ℕ} {tokens : List Token} {k bytes : ℕ} → Begun text start end put held tokens k bytes → length held - bytes ≡ left k tokens
+front-left {text} {k = k} {bytes = bytes} b =
+    let is : bytes ≡ taken k (token_list (chars text)) = b.front.is_taken in
+    let same = ap length b.same in
+    let all = ap (λ z. left k z) b.list in
+    omega (arith, taken-left k (chars text), size-chars text b.is_text)
 
 front_taken : (e : Edit) (k : ℕ) → IsFront e k → taken k (token_list (old_text e)) ≡ taken k (token_list (new_text e))
 unfolding token_list
@@ -59,13 +88,13 @@ front_taken e k f =
     (take-map token k (tokens (old_text e)) ∙ ap (λ z. map token z) (sym (front-tokens e k f)) ∙ sym (take-map token k (tokens (new_text e))))
 
 -- the front's end is a place in the new text
-pub front-seam : (text : List ℕ) (start end : ℕ) (put : List ℕ) (k bytes : ℕ) → IsUtf8 text → IsUtf8 put → CanEdit text start end (length put) → FrontAt text start end put k bytes → (new : List ℕ) → new ≡ edited text start end put → IsUtf8 new → Seam new bytes (end_of k (chars new))
-front-seam text start end put k bytes u v can f new is w =
+pub front-seam : {text : List ℕ} {start end : ℕ} {put held : List ℕ} {tokens : List Token} {k bytes : ℕ} → Begun text start end put held tokens k bytes → IsUtf8 put → {new : List ℕ} → new ≡ edited text start end put → IsUtf8 new → Seam new bytes (end_of k (chars new))
+front-seam {text} {start} {end} {put} {k = k} {bytes = bytes} b v {new} is w =
     let e = edit_of text start end put in
-    let olds = old-chars text start end (length put) put u can in
-    let news : new_text e ≡ chars new = new-chars text start end (length put) put u v can ∙ ap chars (sym is) in
+    let olds = old-chars text start end (length put) put b.is_text b.can in
+    let news : new_text e ≡ chars new = new-chars text start end (length put) put b.is_text v b.can ∙ ap chars (sym is) in
     let at : bytes ≡ size (take (end_of k (chars new)) (chars new)) =
-    f.is_taken ∙ ap (λ z. taken k (token_list z)) (sym olds) ∙ front_taken e k f.front ∙ ap (λ z. taken k (token_list z)) news ∙ taken-size k (chars new) in
+    b.front.is_taken ∙ ap (λ z. taken k (token_list z)) (sym olds) ∙ front_taken e k b.front.front ∙ ap (λ z. taken k (token_list z)) news ∙ taken-size k (chars new) in
     subst (λ n. Seam new n (end_of k (chars new))) (sym at) (place new (end_of k (chars new)) w)
 
 -- What was renewed is kept as the definition says.
@@ -136,38 +165,33 @@ cut-end text start end put new u v can is =
     subst (λ n. IsCharBoundary new n) len
     (IsCharBoundary-at_seam new (take start text ++ put) (drop end text) (is ∙ sym (append_assoc (take start text) put (drop end text))) (IsUtf8-drop text end u can.cuts_end))
 
--- what code knows of the front
-pub front-known : (text : List ℕ) (start end : ℕ) (put : List ℕ) (tokens : List Token) (old before : List ℕ) (k bytes : ℕ) → IsUtf8 text → CanEdit text start end (length put) → tokens ≡ token_list (chars text) → old ≡ text → before ≡ slice_range old 0 start → FrontFound tokens (chars before) k bytes → FrontAt text start end put k bytes
-front-known text start end put tokens old before k bytes u can is same cut found =
-    let n : start - 0 ≡ start = omega arith in
-    let front : before ≡ take start text = cut ∙ ap (λ z. slice_range z 0 start) same ∙ ap (λ m. take m text) n in
-    front-at text start end put tokens before k bytes u can is front found
-
--- and of the new text
+-- `replace_range` makes the edit of a copy
 pub edited-is : (text kept new put : List ℕ) (start end : ℕ) → kept ≡ text → new ≡ (take start kept ++ put) ++ drop end kept → new ≡ edited text start end put
 edited-is text kept new put start end same is =
     is ∙ ap (λ z. (take start z ++ put) ++ drop end z) same ∙ append_assoc (take start text) put (drop end text)
 
 -- so the counts are the definition's, and the tokens the new text's
-pub renewed-all : (text : List ℕ) (start end : ℕ) (put new rest : List ℕ) (k bytes most : ℕ) (old list : List Token) (kept : Kept) → IsUtf8 text → IsUtf8 put → CanEdit text start end (length put) → FrontAt text start end put k bytes → new ≡ edited text start end put → IsUtf8 new → rest ≡ drop bytes new → most ≡ length text - end → old ≡ token_list (chars text) → Renewed old (token_list (chars rest)) k most list kept → IsKept (edit_of text start end put) kept × (list ≡ token_list (chars new))
-renewed-all text start end put new rest k bytes most old list kept u v can f is w left_is most_is old_is r =
+pub renewed-all : {text : List ℕ} {start end : ℕ} {put held : List ℕ} {tokens : List Token} {k bytes : ℕ} → Begun text start end put held tokens k bytes → IsUtf8 put → {new shown rest : List ℕ} {list : List Token} {kept : Kept} → new ≡ edited text start end put → IsUtf8 new → shown ≡ new → rest ≡ drop bytes shown → Renewed tokens (token_list (chars rest)) k (length held - end) list kept → IsKept (edit_of text start end put) kept × (list ≡ token_list (chars new))
+renewed-all {text} {start} {end} {put} {held} {k = k} {bytes = bytes} b v {new} {shown} {rest} {list} {kept} is w copy left_is r =
     let e = edit_of text start end put in
-    let seam = front-seam text start end put k bytes u v can f new is w in
-    let olds = old-chars text start end (length put) put u can in
-    let news : new_text e ≡ chars new = new-chars text start end (length put) put u v can ∙ ap chars (sym is) in
-    let after = size-after text start end (length put) put u can in
-    let rests = ap chars left_is ∙ seam.left in
-    let whole = subst (λ (z : List Token). Renewed z (token_list (chars rest)) k most list kept) old_is r in (
-      renewed-kept e text new rest k most list kept olds news f.front (most_is ∙ sym after) rests whole,
-      renewed-list e text new rest k most list kept olds news f.front (most_is ∙ sym after) rests whole,
+    let seam = front-seam b v is w in
+    let olds = old-chars text start end (length put) put b.is_text b.can in
+    let news : new_text e ≡ chars new = new-chars text start end (length put) put b.is_text v b.can ∙ ap chars (sym is) in
+    let after = ap (λ z. length z - end) b.same ∙ sym (size-after text start end (length put) put b.is_text b.can) in
+    let rests = ap chars (left_is ∙ ap (λ z. drop bytes z) copy) ∙ seam.left in
+    let whole = subst (λ (z : List Token). Renewed z (token_list (chars rest)) k (length held - end) list kept) b.list r in (
+      renewed-kept e text new rest k (length held - end) list kept olds news b.front.front after rests whole,
+      renewed-list e text new rest k (length held - end) list kept olds news b.front.front after rests whole,
     )
 
 -- a call that had room succeeded
-pub had-room : {T E : Type 0} (r : Result T E) (P Q : Type 0) → OnOk r P → OnErr r Q → (Q → ⊥) → P
+had-room : {T E : Type 0} (r : Result T E) (P Q : Type 0) → OnOk r P → OnErr r Q → (Q → ⊥) → P
 had-room (Ok x) P Q had full never = had
 had-room (Err x) P Q had full never = absurd (never full)
 
--- what was removed is put back
-pub restored-is : (text put new removed restored : List ℕ) (start end : ℕ) → CanEdit text start end (length put) → new ≡ edited text start end put → removed ≡ take (end - start) (drop start text) → restored ≡ (take start new ++ removed) ++ drop (start + length put) new → restored ≡ text
-restored-is text put new removed restored start end can is cut back =
-    back ∙ ap (λ z. (take start z ++ removed) ++ drop (start + length put) z) is ∙ put-back text put removed start end can.in_order can.cuts_end.0 cut
+-- what was removed is put back, by a call that had room
+pub restored-is : (text put held removed new restored : List ℕ) (start end : ℕ) {T E Q : Type 0} (r : Result T E) → CanEdit text start end (length put) → held ≡ text → removed ≡ slice_range held start end → new ≡ edited text start end put → OnOk r (restored ≡ (take start new ++ removed) ++ drop (start + length put) new) → OnErr r Q → (Q → ⊥) → restored ≡ text
+restored-is text put held removed new restored start end {T} {E} {Q} r can same cut is had full never =
+    had-room r (restored ≡ (take start new ++ removed) ++ drop (start + length put) new) Q had full never
+    ∙ ap (λ z. (take start z ++ removed) ++ drop (start + length put) z) is
+    ∙ put-back text put removed start end can.in_order can.cuts_end.0 (cut ∙ ap (λ z. slice_range z start end) same)

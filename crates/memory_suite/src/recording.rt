@@ -10,11 +10,11 @@ use syntax_editor::{
 };
 use syntax_tree::{Position, SyntaxElement, SyntaxMappingBuilder, SyntaxNode, TreeIds};
 
-/// Makes a call that changes an editor, a second time if it answers out of memory.
+/// Makes a call that records on an editor, a second time if it answers out of memory.
 macro_rules! again {
-    ($refused:ident, $no_memory:pat, $call:expr) => {
+    ($refused:ident, $call:expr) => {
         match $call {
-            Err($no_memory) => {
+            Err(RecordError::NoMemory) => {
                 *$refused = $refused.saturating_add(1);
                 $call?
             }
@@ -50,20 +50,11 @@ fn insert(
     refused: &mut u32,
 ) -> anyhow::Result<()> {
     match call {
-        EditorCall::Insert => {
-            again!(
-                refused,
-                RecordError::NoMemory,
-                editor.insert(alloc, gap(editor, 0)?, new)
-            );
-        }
-        _ => {
-            again!(
-                refused,
-                RecordError::NoMemory,
-                editor.insert_all(alloc, gap(editor, 6)?, twice(alloc, new)?)
-            );
-        }
+        EditorCall::Insert => again!(refused, editor.insert(alloc, gap(editor, 0)?, new)),
+        _ => again!(
+            refused,
+            editor.insert_all(alloc, gap(editor, 6)?, twice(alloc, new)?)
+        ),
     }
     Ok(())
 }
@@ -95,14 +86,8 @@ fn delete(
     let first = child(alloc, editor, 1)?;
     let last = child(alloc, editor, 2)?;
     match call {
-        EditorCall::DeleteAll => {
-            again!(
-                refused,
-                RecordError::NoMemory,
-                editor.delete_all(alloc, &first, &last)
-            );
-        }
-        _ => again!(refused, RecordError::NoMemory, editor.delete(alloc, &first)),
+        EditorCall::DeleteAll => again!(refused, editor.delete_all(alloc, &first, &last)),
+        _ => again!(refused, editor.delete(alloc, &first)),
     }
     Ok(())
 }
@@ -117,25 +102,15 @@ fn replace(
     let first = child(alloc, editor, 1)?;
     let last = child(alloc, editor, 3)?;
     match call {
-        EditorCall::ReplaceWithMany => {
-            again!(
-                refused,
-                RecordError::NoMemory,
-                editor.replace_with_many(alloc, &first, twice(alloc, new)?)
-            );
-        }
-        EditorCall::ReplaceAll => {
-            again!(
-                refused,
-                RecordError::NoMemory,
-                editor.replace_all(alloc, &first, &last, twice(alloc, new)?)
-            );
-        }
-        _ => again!(
+        EditorCall::ReplaceWithMany => again!(
             refused,
-            RecordError::NoMemory,
-            editor.replace(alloc, &first, new)
+            editor.replace_with_many(alloc, &first, twice(alloc, new)?)
         ),
+        EditorCall::ReplaceAll => again!(
+            refused,
+            editor.replace_all(alloc, &first, &last, twice(alloc, new)?)
+        ),
+        _ => again!(refused, editor.replace(alloc, &first, new)),
     }
     Ok(())
 }

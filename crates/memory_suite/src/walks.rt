@@ -26,17 +26,24 @@ pub(crate) enum WalkCall {
     TypedChildren,
 }
 
-/// A walk from after the subtree of the first child on, skipped a second time if it runs out of memory.
-fn skipped(mut walk: Preorder<Lists>, refused: &mut u32) -> Result<Preorder<Lists>, AllocError> {
-    for _ in 0..2 {
-        if let Some(event) = walk.next() {
-            drop(event?);
+/// Skips the rest of the subtree of the first child that a walk enters, a second time if it runs out of memory.
+macro_rules! skip_first_child {
+    ($walk:ident, $refused:ident) => {
+        for _ in 0..2 {
+            if let Some(event) = $walk.next() {
+                drop(event?);
+            }
         }
-    }
-    if walk.skip_subtree().is_err() {
-        *refused = refused.saturating_add(1);
-        walk.skip_subtree()?;
-    }
+        if $walk.skip_subtree().is_err() {
+            *$refused = $refused.saturating_add(1);
+            $walk.skip_subtree()?;
+        }
+    };
+}
+
+/// Returns a walk from after the subtree of the first child on.
+fn skipped(mut walk: Preorder<Lists>, refused: &mut u32) -> Result<Preorder<Lists>, AllocError> {
+    skip_first_child!(walk, refused);
     Ok(walk)
 }
 
@@ -44,15 +51,7 @@ fn skipped_with_tokens(
     mut walk: PreorderWithTokens<Lists>,
     refused: &mut u32,
 ) -> Result<PreorderWithTokens<Lists>, AllocError> {
-    for _ in 0..2 {
-        if let Some(event) = walk.next() {
-            drop(event?);
-        }
-    }
-    if walk.skip_subtree().is_err() {
-        *refused = refused.saturating_add(1);
-        walk.skip_subtree()?;
-    }
+    skip_first_child!(walk, refused);
     Ok(walk)
 }
 

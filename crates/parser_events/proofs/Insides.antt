@@ -4,11 +4,11 @@ use Rattle.parser_input.specs.Lexed.{Lexed, leaves_of}
 use Rattle.parser_events.specs.Dress.{joined}
 use Rattle.parser_events.specs.Laying.{Lays, Place, after_step, place_at, put_around, put_by, put_inside}
 use Rattle.parser_events.specs.Seen.{step_of}
-use Rattle.parser_events.specs.Sinks.{TakesAll, RefusesOne}
+use Rattle.parser_events.specs.Sinks.{TakesAll, FailsAtOne}
 use Rattle.parser_events.specs.Steps as walk
 use Rattle.parser_events.specs.TextSteps.{TextStep, Enter, Exit, leaf_steps}
 use Rattle.parser_events.specs.declared.step.Step.{Step}
-use Rattle.parser_events.proofs.Sinks.{takes-then, refuses-in, refuses-after}
+use Rattle.parser_events.proofs.Sinks.{takes-then, fails_at-in, fails_at-after}
 
 inside-more : (step : Step) (after : List Step) (s : Place) → 0 < length after →
     put_inside (step_of step ∷ map step_of after) s ≡ put_by (step_of step) s ++ put_inside (map step_of after) (after_step (step_of step) s)
@@ -50,13 +50,13 @@ inside-goes takes ls all rest after old mid new step next place i is some l =
       are = inside-next takes ls all rest after old mid step next i is some ∙ ap (λ (p : Place). done ++ put_inside (map step_of after) p) (sym l.at);
     }
 
-pub inside-refused : {S E : Type 0} (takes : S → TextStep → S → Type 0) (refuses : S → TextStep → E → S → Type 0) (ls : List Lexed) (all rest after : List Step) (old mid new : S) (e : E) (step : Step) (next : ℕ) →
-    Inside takes ls all old rest next mid → rest ≡ step ∷ after → 0 < length after → RefusesOne takes refuses mid (put_by (step_of step) (place_at ls next)) e new →
-    RefusesOne takes refuses old (put_inside (map step_of all) (place_at ls 0)) e new
-inside-refused takes refuses ls all rest after old mid new e step next i is some r =
+pub inside-refused : {S E : Type 0} (takes : S → TextStep → S → Type 0) (fails_at : S → TextStep → E → S → Type 0) (ls : List Lexed) (all rest after : List Step) (old mid new : S) (e : E) (step : Step) (next : ℕ) →
+    Inside takes ls all old rest next mid → rest ≡ step ∷ after → 0 < length after → FailsAtOne takes fails_at mid (put_by (step_of step) (place_at ls next)) e new →
+    FailsAtOne takes fails_at old (put_inside (map step_of all) (place_at ls 0)) e new
+inside-refused takes fails_at ls all rest after old mid new e step next i is some r =
     let own = put_by (step_of step) (place_at ls next) in
-    subst (λ (x : List TextStep). RefusesOne takes refuses old x e new) (sym (inside-next takes ls all rest after old mid step next i is some))
-    (refuses-in takes refuses old new e (i.done ++ own) _ (refuses-after takes refuses old mid new e i.done own i.taken r))
+    subst (λ (x : List TextStep). FailsAtOne takes fails_at old x e new) (sym (inside-next takes ls all rest after old mid step next i is some))
+    (fails_at-in takes fails_at old new e (i.done ++ own) _ (fails_at-after takes fails_at old mid new e i.done own i.taken r))
 
 inside-all : {S : Type 0} (takes : S → TextStep → S → Type 0) (ls : List Lexed) (all rest after : List Step) (old mid : S) (step : Step) (next : ℕ) →
     (i : Inside takes ls all old rest next mid) → rest ≡ step ∷ after → length after ≡ 0 →
@@ -73,12 +73,12 @@ inside-ends takes ls all rest after old mid new step next i is none t =
     subst (λ (x : List TextStep). TakesAll takes old x new) (sym (inside-all takes ls all rest after old mid step next i is none))
     (takes-then takes old mid new i.done (leaf_steps (drop next (leaves_of ls)) ++ Exit ∷ []) i.taken t)
 
-pub inside-end-refused : {S E : Type 0} (takes : S → TextStep → S → Type 0) (refuses : S → TextStep → E → S → Type 0) (ls : List Lexed) (all rest after : List Step) (old mid new : S) (e : E) (step : Step) (next : ℕ) →
-    Inside takes ls all old rest next mid → rest ≡ step ∷ after → length after ≡ 0 → RefusesOne takes refuses mid (leaf_steps (drop next (leaves_of ls)) ++ Exit ∷ []) e new →
-    RefusesOne takes refuses old (put_inside (map step_of all) (place_at ls 0)) e new
-inside-end-refused takes refuses ls all rest after old mid new e step next i is none r =
-    subst (λ (x : List TextStep). RefusesOne takes refuses old x e new) (sym (inside-all takes ls all rest after old mid step next i is none))
-    (refuses-after takes refuses old mid new e i.done (leaf_steps (drop next (leaves_of ls)) ++ Exit ∷ []) i.taken r)
+pub inside-end-refused : {S E : Type 0} (takes : S → TextStep → S → Type 0) (fails_at : S → TextStep → E → S → Type 0) (ls : List Lexed) (all rest after : List Step) (old mid new : S) (e : E) (step : Step) (next : ℕ) →
+    Inside takes ls all old rest next mid → rest ≡ step ∷ after → length after ≡ 0 → FailsAtOne takes fails_at mid (leaf_steps (drop next (leaves_of ls)) ++ Exit ∷ []) e new →
+    FailsAtOne takes fails_at old (put_inside (map step_of all) (place_at ls 0)) e new
+inside-end-refused takes fails_at ls all rest after old mid new e step next i is none r =
+    subst (λ (x : List TextStep). FailsAtOne takes fails_at old x e new) (sym (inside-all takes ls all rest after old mid step next i is none))
+    (fails_at-after takes fails_at old mid new e i.done (leaf_steps (drop next (leaves_of ls)) ++ Exit ∷ []) i.taken r)
 
 -- the whole: a root's first step, and those inside it
 

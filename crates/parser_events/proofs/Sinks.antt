@@ -2,7 +2,7 @@
 use Rattle.std.proofs.Common.{◌≡◌, ◌+◌, ◌<◌, ℕ, List, [], ◌∷◌, ◌++◌, length, map, take, drop, get_or, refl, sym, ap, subst, ◌∙◌, inl, inr, add-one}
 use Rattle.std.proofs.Math.Seq.{drop-cons}
 use Rattle.std.proofs.lemmas.List.{take_more, take-append-drop, map-append}
-use Rattle.parser_events.specs.Sinks.{TakesAll, RefusesOne}
+use Rattle.parser_events.specs.Sinks.{TakesAll, FailsAtOne}
 use Rattle.parser_events.specs.TextSteps.{TextStep, text_step_of}
 use Rattle.parser_events.specs.declared.str_step.StrStep.{StrStep}
 
@@ -14,18 +14,18 @@ takes-then takes old mid new (x ∷ xs) ys a b = (a.0, (a.1.0, takes-then takes 
 pub takes-one : {S : Type 0} (takes : S → TextStep → S → Type 0) (old new : S) (x : TextStep) → takes old x new → TakesAll takes old (x ∷ []) new
 takes-one takes old new x h = (new, (h, refl))
 
-pub refuses-in : {S E : Type 0} (takes : S → TextStep → S → Type 0) (refuses : S → TextStep → E → S → Type 0) (old new : S) (e : E) (xs ys : List TextStep) →
-    RefusesOne takes refuses old xs e new → RefusesOne takes refuses old (xs ++ ys) e new
-refuses-in takes refuses old new e [] ys h = absurd h
-refuses-in takes refuses old new e (x ∷ xs) ys h = elim h [
+pub fails_at-in : {S E : Type 0} (takes : S → TextStep → S → Type 0) (fails_at : S → TextStep → E → S → Type 0) (old new : S) (e : E) (xs ys : List TextStep) →
+    FailsAtOne takes fails_at old xs e new → FailsAtOne takes fails_at old (xs ++ ys) e new
+fails_at-in takes fails_at old new e [] ys h = absurd h
+fails_at-in takes fails_at old new e (x ∷ xs) ys h = elim h [
   | inl r ↦ inl r
-  | inr n ↦ inr (n.0, (n.1.0, refuses-in takes refuses n.0 new e xs ys n.1.1))
+  | inr n ↦ inr (n.0, (n.1.0, fails_at-in takes fails_at n.0 new e xs ys n.1.1))
 ]
 
-pub refuses-after : {S E : Type 0} (takes : S → TextStep → S → Type 0) (refuses : S → TextStep → E → S → Type 0) (old mid new : S) (e : E) (xs ys : List TextStep) →
-    TakesAll takes old xs mid → RefusesOne takes refuses mid ys e new → RefusesOne takes refuses old (xs ++ ys) e new
-refuses-after takes refuses old mid new e [] ys a h = subst (λ s. RefusesOne takes refuses s ys e new) a h
-refuses-after takes refuses old mid new e (x ∷ xs) ys a h = inr (a.0, (a.1.0, refuses-after takes refuses a.0 mid new e xs ys a.1.1 h))
+pub fails_at-after : {S E : Type 0} (takes : S → TextStep → S → Type 0) (fails_at : S → TextStep → E → S → Type 0) (old mid new : S) (e : E) (xs ys : List TextStep) →
+    TakesAll takes old xs mid → FailsAtOne takes fails_at mid ys e new → FailsAtOne takes fails_at old (xs ++ ys) e new
+fails_at-after takes fails_at old mid new e [] ys a h = subst (λ s. FailsAtOne takes fails_at s ys e new) a h
+fails_at-after takes fails_at old mid new e (x ∷ xs) ys a h = inr (a.0, (a.1.0, fails_at-after takes fails_at a.0 mid new e xs ys a.1.1 h))
 
 -- the steps of the code, from a place on
 pub map-from : (ss : List StrStep) (i : ℕ) (d : StrStep) → i < length ss →

@@ -7,8 +7,8 @@ abbrev pub TakesAll : {S : Type 0} → (S → TextStep → S → Type 0) → S �
 TakesAll takes old [] new = new ≡ old
 TakesAll {S} takes old (s ∷ ss) new = (next : S) × (takes old s next × TakesAll takes next ss new)
 
--- it takes those before one of them, in order, and refuses that one
-abbrev pub RefusesOne : {S E : Type 0} → (S → TextStep → S → Type 0) → (S → TextStep → E → S → Type 0) → S → List TextStep → E → S → Type 0
-RefusesOne takes refuses old [] error new = ⊥
-RefusesOne {S} takes refuses old (s ∷ ss) error new =
-    refuses old s error new ⊎ ((next : S) × (takes old s next × RefusesOne takes refuses next ss error new))
+-- it takes those before one of them, in order, and fails at that one
+abbrev pub FailsAtOne : {S E : Type 0} → (S → TextStep → S → Type 0) → (S → TextStep → E → S → Type 0) → S → List TextStep → E → S → Type 0
+FailsAtOne takes fails_at old [] error new = ⊥
+FailsAtOne {S} takes fails_at old (s ∷ ss) error new =
+    fails_at old s error new ⊎ ((next : S) × (takes old s next × FailsAtOne takes fails_at next ss error new))

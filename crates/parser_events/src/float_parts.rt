@@ -3,7 +3,7 @@
 ghost use Rattle.std.specs.Prelude.{◌≡◌, chars, OnOk, IfErr};
 ghost use Rattle.parser_events.specs.Dress.{before_dot, from_dot};
 ghost use Rattle.parser_events.specs.Laying.{split_steps};
-ghost use Rattle.parser_events.specs.Sinks.{TakesAll, RefusesOne};
+ghost use Rattle.parser_events.specs.Sinks.{TakesAll, FailsAtOne};
 
 use crate::message::Message;
 use crate::shortcuts::put_all;
@@ -36,7 +36,7 @@ fn put_parts<'a, S: StrSink>(
     requires from { chars rest.now ≡ from_dot (chars text.now) }
     ensures taken { OnOk result (TakesAll S.takes sink.old
         (split_steps ends_in_dot pos (chars text.now)) sink.new) }
-    ensures refused { IfErr result (λ error. RefusesOne S.takes S.refuses sink.old
+    ensures refused { IfErr result (λ error. FailsAtOne S.takes S.fails_at sink.old
         (split_steps ends_in_dot pos (chars text.now)) error sink.new) }
 {
     match rest.strip_prefix('.') {
@@ -119,7 +119,7 @@ pub(crate) fn put_float<S: StrSink>(
 ) -> Result<(), S::Error>
     ensures taken { OnOk result (TakesAll S.takes sink.old
         (split_steps ends_in_dot pos (chars text.now)) sink.new) }
-    ensures refused { IfErr result (λ error. RefusesOne S.takes S.refuses sink.old
+    ensures refused { IfErr result (λ error. FailsAtOne S.takes S.fails_at sink.old
         (split_steps ends_in_dot pos (chars text.now)) error sink.new) }
 {
     let (whole, rest) = cut_at_dot(text);

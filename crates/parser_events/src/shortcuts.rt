@@ -9,7 +9,7 @@ ghost use Rattle.parser_events.specs.Fits.{fits, IsRooted};
 ghost use Rattle.parser_events.specs.Forest.{Forest};
 ghost use Rattle.parser_events.specs.Laying.{Lays, after, place_at, put_around, put_by, put_inside};
 ghost use Rattle.parser_events.specs.Seen.{message_of, step_of};
-ghost use Rattle.parser_events.specs.Sinks.{TakesAll, RefusesOne};
+ghost use Rattle.parser_events.specs.Sinks.{TakesAll, FailsAtOne};
 ghost use Rattle.parser_events.specs.Steps as steps;
 ghost use Rattle.parser_events.specs.TextSteps.{leaf_steps, text_step_of};
 ghost use Rattle.parser_events.specs.TextSteps as text_steps;
@@ -29,7 +29,7 @@ use parser_input::syntax_kind::SyntaxKind;
 pub(crate) fn put_all<S: StrSink>(steps: &[StrStep<'_>], sink: &mut S) -> Result<(), S::Error>
     ensures taken { OnOk result (TakesAll S.takes sink.old (map text_step_of steps.now) sink.new) }
     ensures refused { IfErr result
-        (λ error. RefusesOne S.takes S.refuses sink.old (map text_step_of steps.now) error sink.new) }
+        (λ error. FailsAtOne S.takes S.fails_at sink.old (map text_step_of steps.now) error sink.new) }
 {
     for i in 0..steps.len() {
         match sink.step(steps[i]) {
@@ -44,7 +44,7 @@ pub(crate) fn put_all<S: StrSink>(steps: &[StrStep<'_>], sink: &mut S) -> Result
 fn put_one<S: StrSink>(step: StrStep<'_>, sink: &mut S) -> Result<(), S::Error>
     ensures taken { OnOk result (TakesAll S.takes sink.old (text_step_of step.entry ∷ []) sink.new) }
     ensures refused { IfErr result
-        (λ error. RefusesOne S.takes S.refuses sink.old (text_step_of step.entry ∷ []) error sink.new) }
+        (λ error. FailsAtOne S.takes S.fails_at sink.old (text_step_of step.entry ∷ []) error sink.new) }
 {
     match sink.step(step) {
         Ok(()) => Ok(()),
@@ -63,7 +63,7 @@ pub(crate) fn put_leaves<S: StrSink>(
     requires within { end ≤ length lexed.now.leaves }
     ensures taken { OnOk result (TakesAll S.takes sink.old
         (leaf_steps (slice_range (leaves_of lexed.now.leaves) start end)) sink.new) }
-    ensures refused { IfErr result (λ error. RefusesOne S.takes S.refuses sink.old
+    ensures refused { IfErr result (λ error. FailsAtOne S.takes S.fails_at sink.old
         (leaf_steps (slice_range (leaves_of lexed.now.leaves) start end)) error sink.new) }
 {
     if start == end {
@@ -83,7 +83,7 @@ fn put_each<S: StrSink>(
     requires within { end ≤ length lexed.now.leaves }
     ensures taken { OnOk result (TakesAll S.takes sink.old
         (leaf_steps (slice_range (leaves_of lexed.now.leaves) start end)) sink.new) }
-    ensures refused { IfErr result (λ error. RefusesOne S.takes S.refuses sink.old
+    ensures refused { IfErr result (λ error. FailsAtOne S.takes S.fails_at sink.old
         (leaf_steps (slice_range (leaves_of lexed.now.leaves) start end)) error sink.new) }
 {
     for i in start..end {
@@ -139,7 +139,7 @@ pub(crate) fn put_token<S: StrSink>(
     requires { start ≤ length lexed.now.leaves }
     ensures taken { IfOk result (λ next. Lays S.takes lexed.now.leaves
         (steps.Token (raw_of kind) n) start sink.old next sink.new) }
-    ensures refused { IfErr result (λ error. RefusesOne S.takes S.refuses sink.old
+    ensures refused { IfErr result (λ error. FailsAtOne S.takes S.fails_at sink.old
         (put_by (steps.Token (raw_of kind) n) (place_at lexed.now.leaves start)) error sink.new) }
 {
     let first = pending_end(lexed, start);
@@ -165,7 +165,7 @@ pub(crate) fn put_enter<S: StrSink>(
     requires { start ≤ length lexed.now.leaves }
     ensures taken { IfOk result
         (λ next. Lays S.takes lexed.now.leaves (steps.Enter (raw_of kind)) start sink.old next sink.new) }
-    ensures refused { IfErr result (λ error. RefusesOne S.takes S.refuses sink.old
+    ensures refused { IfErr result (λ error. FailsAtOne S.takes S.fails_at sink.old
         (put_by (steps.Enter (raw_of kind)) (place_at lexed.now.leaves start)) error sink.new) }
 {
     let end = pending_end(lexed, start);
@@ -216,7 +216,7 @@ fn put_split<S: StrSink>(
     requires { start ≤ length lexed.now.leaves }
     ensures taken { IfOk result (λ next. Lays S.takes lexed.now.leaves
         (steps.FloatSplit ends_in_dot) start sink.old next sink.new) }
-    ensures refused { IfErr result (λ error. RefusesOne S.takes S.refuses sink.old
+    ensures refused { IfErr result (λ error. FailsAtOne S.takes S.fails_at sink.old
         (put_by (steps.FloatSplit ends_in_dot) (place_at lexed.now.leaves start)) error sink.new) }
 {
     let first = pending_end(lexed, start);
@@ -237,7 +237,7 @@ fn put_split<S: StrSink>(
 fn put_exit<S: StrSink>(lexed: &LexedStr<'_>, start: usize, sink: &mut S) -> Result<usize, S::Error>
     requires { start ≤ length lexed.now.leaves }
     ensures taken { IfOk result (λ next. Lays S.takes lexed.now.leaves steps.Exit start sink.old next sink.new) }
-    ensures refused { IfErr result (λ error. RefusesOne S.takes S.refuses sink.old
+    ensures refused { IfErr result (λ error. FailsAtOne S.takes S.fails_at sink.old
         (put_by steps.Exit (place_at lexed.now.leaves start)) error sink.new) }
 {
     match put_one(StrStep::Exit, sink) {
@@ -256,7 +256,7 @@ fn put_message<S: StrSink>(
     requires { start ≤ length lexed.now.leaves }
     ensures taken { IfOk result (λ next. Lays S.takes lexed.now.leaves
         (steps.Error (message_of msg)) start sink.old next sink.new) }
-    ensures refused { IfErr result (λ error. RefusesOne S.takes S.refuses sink.old
+    ensures refused { IfErr result (λ error. FailsAtOne S.takes S.fails_at sink.old
         (put_by (steps.Error (message_of msg)) (place_at lexed.now.leaves start)) error sink.new) }
 {
     let pos = start_of(lexed, start);
@@ -276,7 +276,7 @@ fn put_step<S: StrSink>(
     requires { start ≤ length lexed.now.leaves }
     ensures taken { IfOk result (λ next. Lays S.takes lexed.now.leaves
         (step_of step) start sink.old next sink.new) }
-    ensures refused { IfErr result (λ error. RefusesOne S.takes S.refuses sink.old
+    ensures refused { IfErr result (λ error. FailsAtOne S.takes S.fails_at sink.old
         (put_by (step_of step) (place_at lexed.now.leaves start)) error sink.new) }
 {
     match step {
@@ -296,7 +296,7 @@ fn put_end<S: StrSink>(lexed: &LexedStr<'_>, start: usize, sink: &mut S) -> Resu
     requires { start ≤ length lexed.now.leaves }
     ensures taken { OnOk result (TakesAll S.takes sink.old
         (leaf_steps (drop start (leaves_of lexed.now.leaves)) ++ text_steps.Exit ∷ []) sink.new) }
-    ensures refused { IfErr result (λ error. RefusesOne S.takes S.refuses sink.old
+    ensures refused { IfErr result (λ error. FailsAtOne S.takes S.fails_at sink.old
         (leaf_steps (drop start (leaves_of lexed.now.leaves)) ++ text_steps.Exit ∷ []) error sink.new) }
 {
     match put_leaves(lexed, start, lexed.len(), sink) {
@@ -317,7 +317,7 @@ fn put_inside<S: StrSink>(
 ) -> Result<(), S::Error>
     ensures taken { OnOk result (TakesAll S.takes sink.old
         (put_inside (map step_of steps.entry) (place_at lexed.now.leaves 0)) sink.new) }
-    ensures refused { IfErr result (λ error. RefusesOne S.takes S.refuses sink.old
+    ensures refused { IfErr result (λ error. FailsAtOne S.takes S.fails_at sink.old
         (put_inside (map step_of steps.entry) (place_at lexed.now.leaves 0)) error sink.new) }
 {
     let mut next = 0;
@@ -359,7 +359,7 @@ fn put_output<S: StrSink>(
 ) -> Result<(), S::Error>
     ensures taken { OnOk result
         (TakesAll S.takes sink.old (put_around output.now.steps (leaves_of lexed.now.leaves)) sink.new) }
-    ensures refused { IfErr result (λ error. RefusesOne S.takes S.refuses sink.old
+    ensures refused { IfErr result (λ error. FailsAtOne S.takes S.fails_at sink.old
         (put_around output.now.steps (leaves_of lexed.now.leaves)) error sink.new) }
 {
     let mut steps = output.iter();
@@ -388,7 +388,7 @@ fn put_output<S: StrSink>(
 ///
 /// # Errors
 ///
-/// The error of the sink, if it refuses a step. The sink took the steps before that one, in order.
+/// The error of the sink, if it fails at a step. The sink took the steps before that one, in order.
 pub fn intersperse_trivia<S: StrSink>(
     lexed: &LexedStr<'_>,
     output: &Output,
@@ -399,7 +399,7 @@ pub fn intersperse_trivia<S: StrSink>(
     ensures tree { OnOk result ((f : Forest) → IsRooted f → output.now.steps ≡ steps.steps f
         → fits output.now.steps (leaves_of lexed.now.leaves) ≡ true → TakesAll S.takes sink.old
         (text_steps.text_steps (dress_root f (leaves_of lexed.now.leaves))) sink.new) }
-    ensures refused { IfErr result (λ error. RefusesOne S.takes S.refuses sink.old
+    ensures refused { IfErr result (λ error. FailsAtOne S.takes S.fails_at sink.old
         (put_around output.now.steps (leaves_of lexed.now.leaves)) error sink.new) }
 {
     match put_output(lexed, output, sink) {

@@ -18,6 +18,7 @@ use Rattle.rust_grammar.specs.Whole.{whole}
 use Rattle.rust_productions.specs.Moves.{Opens}
 use Rattle.rust_productions.specs.Reads.{looks, Does, Gives, Saw}
 use Rattle.rust_productions.specs.Stands.{left, Holds}
+use Rattle.rust_productions.specs.declared.condition.Condition.TheVariants.{Off}
 use Rattle.ra_parser.specs.Entries.{single_of, strayed}
 use Rattle.ra_parser.specs.declared.entries.Single.{Single}
 use Rattle.ra_parser.specs.declared.entries.Single.TheVariants as singles
@@ -69,7 +70,7 @@ unfolding marked
 holds-none start = subst (λ (n : Option (List Marked)). Holds n (marks.End ∷ [])) (sym start) refl
 
 -- a list is read by what takes every input
-pub list-read : (x : Production) {old new : View} → takes_all x ≡ true → old.nodes ≡ Some (marks.End ∷ []) → Gives x false old new → Holds new.nodes (marked (entry whole x (left old)) ∷ [])
+pub list-read : (x : Production) {old new : View} → takes_all x ≡ true → old.nodes ≡ Some (marks.End ∷ []) → Gives x Off old new → Holds new.nodes (marked (entry whole x (left old)) ∷ [])
 unfolding after fresh
 list-read x {old} {new} every start gives =
     subst (λ (f : Forest). Holds new.nodes (marked f ∷ [])) (sym (entry-every x (left old) every)) (gives.does.nodes (from (left old)) [] refl (holds-none start))
@@ -91,7 +92,7 @@ pub record ReadOf (x : Production) (ts : List Token) (now : View) : Type 0 where
   pub rest : left now ≡ (read_from x ts).rest
   pub trees : Holds now.nodes (marked (read_from x ts).given ∷ marks.End ∷ [])
 
-pub single-read : {x : Production} {old mid end now : View} → Opened old mid → Gives x false mid end → Does (λ s. s) end now → ReadOf x (left old) now
+pub single-read : {x : Production} {old mid end now : View} → Opened old mid → Gives x Off mid end → Does (λ s. s) end now → ReadOf x (left old) now
 unfolding after fresh
 single-read {x} {old} o g d =
     let s = from (left old) in
@@ -101,7 +102,7 @@ single-read {x} {old} o g d =
     }
 
 -- what was seen there
-pub seen-from : (x : Production) (old : View) {now : View} {b : Bool} → left now ≡ left old → Saw false (looks x) now b → sees false (from (left old)) (look_of whole x) ≡ b
+pub seen-from : (x : Production) (old : View) {now : View} {b : Bool} → left now ≡ left old → Saw Off (looks x) now b → sees false (from (left old)) (look_of whole x) ≡ b
 seen-from x old e saw = saw.at (from (left old)) e
 
 -- the steps of all trees

@@ -14,6 +14,7 @@ use Rattle.rust_grammar.specs.Rule.{Left}
 use Rattle.rust_productions.specs.Looks.{tokens}
 use Rattle.rust_productions.specs.Reads.{Does, Saw}
 use Rattle.rust_productions.specs.Stands.{left, Holds}
+use Rattle.rust_productions.specs.declared.condition.Condition.TheVariants.{Off}
 use Rattle.rust_productions.proofs.ByHand.{does-nothing}
 use Rattle.rust_productions.proofs.Forests.{then-end, then-assoc}
 use Rattle.ra_parser.specs.Entries.{with_leaves, strayed}
@@ -44,11 +45,11 @@ pub all-taken : (s : Reading) → length s.rest ≤ 0 → with_leaves s ≡ s
 all-taken s none = nothing-left s s.rest refl none
 
 -- whether a token is left
-pub some-left : {v : View} → Saw false Left v true → 1 ≤ tokens v
+pub some-left : {v : View} → Saw Off Left v true → 1 ≤ tokens v
 unfolding sees tokens
 some-left {v} saw = ltb-true 0 (length (left v)) (saw.at (record { given = forest.End; rest = left v }) refl)
 
-pub none-left : {v : View} → Saw false Left v false → tokens v ≤ 0
+pub none-left : {v : View} → Saw Off Left v false → tokens v ≤ 0
 unfolding sees tokens
 none-left {v} saw = ltb-false 0 (length (left v)) (saw.at (record { given = forest.End; rest = left v }) refl)
 

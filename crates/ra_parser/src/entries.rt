@@ -1,6 +1,6 @@
 //! Reads all of an input as one thing: what is left over, or cannot begin it, stands in an error.
 
-ghost use Rattle.std.specs.Prelude.{◌≡◌, ◌≤◌, ◌<◌, ◌+◌, ◌*◌, Bool, IsTrue, Some, [], ◌∷◌, false, true, length};
+ghost use Rattle.std.specs.Prelude.{◌≡◌, ◌≤◌, ◌<◌, ◌+◌, ◌*◌, IsTrue, Some, [], ◌∷◌, true, length};
 ghost use Rattle.parser_events.specs.Marked.{End, marked};
 ghost use Rattle.parser_events.specs.Seen.{message_of};
 ghost use Rattle.parser_events.specs.Stack.{IsInnermost};
@@ -12,6 +12,8 @@ ghost use Rattle.rust_grammar.specs.Whole.{whole};
 ghost use Rattle.rust_productions.specs.Looks.{looks_per_token, spent, tokens};
 ghost use Rattle.rust_productions.specs.Reads.{looks, Does, Gives, Saw};
 ghost use Rattle.rust_productions.specs.Stands.{Holds, left};
+ghost use Rattle.rust_productions.specs.declared.condition.Condition.{Condition};
+ghost use Rattle.rust_productions.specs.declared.condition.Condition.TheVariants.{Off};
 ghost use Rattle.ra_parser.specs.Entries.{production_of, single_of, strayed, with_leaves};
 
 use crate::entry_points::TopEntryPoint;
@@ -23,6 +25,7 @@ use grammar_reader::grammar::types::any_type;
 use parser_events::message::Message;
 use parser_events::parser::{Marker, Parser};
 use parser_input::syntax_kind::SyntaxKind;
+use rust_productions::condition::Condition;
 use rust_productions::grammar::attributes::at_meta;
 use rust_productions::grammar::expressions::at_expression;
 use rust_productions::grammar::patterns::at_pattern;
@@ -40,7 +43,7 @@ enum Single {
 
 /// Whether a token is left.
 fn at_token(p: &mut Parser<'_>) -> bool
-    ensures sees { (c : Bool) → Saw c Left p.old result }
+    ensures sees { (c : Condition) → Saw c Left p.old result }
     ensures same { Does (λ s. s) p.old p.new }
     ensures left { tokens p.new ≡ tokens p.old }
     ensures looks { spent p.new ≤ spent p.old + 1 }
@@ -87,14 +90,14 @@ fn missing(single: Single) -> Message
 
 /// Whether it begins here.
 fn begins(p: &mut Parser<'_>, single: Single) -> bool
-    ensures sees { Saw false (looks (single_of single)) p.old result }
+    ensures sees { Saw Off (looks (single_of single)) p.old result }
     ensures some { IsTrue result → 1 ≤ tokens p.old }
     ensures same { Does (λ s. s) p.old p.new }
     ensures left { tokens p.new ≡ tokens p.old }
     ensures looks { spent p.new ≤ spent p.old + 19 }
 {
     match single {
-        Single::Expression => at_expression(p, false),
+        Single::Expression => at_expression(p, Condition::Off),
         Single::Meta => at_meta(p),
         Single::Pattern => at_pattern(p),
         Single::Type => at_type(p),
@@ -103,14 +106,14 @@ fn begins(p: &mut Parser<'_>, single: Single) -> bool
 
 /// Reads it where it begins.
 fn read(p: &mut Parser<'_>, single: Single)
-    requires begins { Saw false (looks (single_of single)) p.old true }
+    requires begins { Saw Off (looks (single_of single)) p.old true }
     requires some { 1 ≤ tokens p.old }
-    ensures gives { Gives (single_of single) false p.old p.new }
+    ensures gives { Gives (single_of single) Off p.old p.new }
     ensures looks { spent p.new ≤ spent p.old }
 {
     match single {
-        Single::Expression => expression(p, false),
-        Single::Meta => meta(p, false),
+        Single::Expression => expression(p, Condition::Off),
+        Single::Meta => meta(p, Condition::Off),
         Single::Pattern => pattern(p),
         Single::Type => any_type(p),
     }

@@ -31,7 +31,7 @@ struct Counts {
     bytes: usize,
 }
 
-/// The error of a sink that refuses no step.
+/// The error of a sink that fails at no step.
 #[derive(Drop)]
 enum Never {}
 
@@ -40,7 +40,7 @@ impl StrSink for Counts {
 
     ghost takes = { λ old step new. Unit {0} };
 
-    ghost refuses = { λ old step error new. Unit {0} };
+    ghost fails_at = { λ old step error new. Unit {0} };
 
     fn step(&mut self, step: StrStep<'_>) -> Result<(), Never> {
         self.steps = self.steps.wrapping_add(1);

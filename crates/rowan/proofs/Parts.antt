@@ -1,10 +1,11 @@
 -- The texts of a list of terms, the first one's first.
-use Rattle.std.proofs.Common.{◌≡◌, ℕ, zero, suc, [], Some, slice_get, ◌+◌, ◌-◌, ◌<◌, ◌≤◌, min, List, ◌∷◌, ◌++◌, length, take, drop, length-take, length-drop, refl, sym, ◌∙◌, ap, subst, arith}
+use Rattle.std.proofs.Common.{◌≡◌, ℕ, zero, suc, [], Some, slice_get, ◌+◌, ◌-◌, ◌<◌, ◌≤◌, min, List, ◌∷◌, ◌++◌, length, take, drop, length-take, length-drop, refl, sym, ◌∙◌, ap, subst, arith, add-one}
+use Rattle.std.proofs.lemmas.List.{take-append-drop}
 use Rattle.rowan_green.specs.Forest.{Tree, forest_text, tree_text, forest_count, tree_count}
-use Rattle.rowan_green.specs.Term.{Term, children_of, forest_of, texts_of, text_of, term_count, forest_of-terms}
+use Rattle.rowan_green.specs.Term.{Term, children_of, forest_of, texts_of, text_of, term_count, forest_of-terms, texts_of-append}
 use Rattle.rowan_green.specs.declared.utility_types.NodeOrToken.TheVariants.{Node, Token}
 use Rattle.rowan.specs.Text.{IsPart}
-use Rattle.rowan.proofs.Texts.{skip_first, split_first, part_after, part_within, part_rest}
+use Rattle.rowan.proofs.Texts.{drop_over, skip_first, split_first, part_after, part_within, part_rest}
 
 pub whole_text : (t : Tree) → texts_of (children_of t) ≡ tree_text t
 whole_text t = ap forest_text (forest_of-terms t.forest)
@@ -19,6 +20,22 @@ text_cons (Token l) es = refl
 count_cons : (e : Term) (es : List Term) → forest_count (forest_of (e ∷ es)) ≡ term_count e + forest_count (forest_of es)
 count_cons (Node t) es = refl
 count_cons (Token l) es = refl
+
+rest_from : (es : List Term) (i : ℕ) (e : Term) → Some e ≡ slice_get es i → drop i es ≡ e ∷ drop (suc i) es
+rest_from [] i e h = absurd (cc)
+rest_from (x ∷ es) zero e h = let k : x ≡ e = cc in ap (λ v. v ∷ es) k
+rest_from (x ∷ es) (suc i) e h = rest_from es i e h
+
+-- the children from an index on: the child at the index, and those after it
+pub from_child : (es : List Term) (i : ℕ) (e : Term) → Some e ≡ slice_get es i → drop i es ≡ e ∷ drop (i + 1) es
+from_child es i e h = rest_from es i e h ∙ ap (λ k. e ∷ drop k es) (sym (add-one i))
+
+-- the text from the byte at an offset on, if the children before an index have no more bytes
+pub skip_children : (t : Tree) (i skip start : ℕ) → start ≡ length (texts_of (take i (children_of t))) → start ≤ skip → drop skip (tree_text t) ≡ drop (skip - start) (texts_of (drop i (children_of t)))
+skip_children t i skip start e h =
+    let es = children_of t in
+    let w : tree_text t ≡ texts_of (take i es) ++ texts_of (drop i es) = sym (whole_text t) ∙ ap texts_of (sym (take-append-drop i es)) ∙ texts_of-append (take i es) (drop i es) in
+    ap (λ v. drop skip v) w ∙ drop_over (texts_of (take i es)) (texts_of (drop i es)) skip (omega arith) ∙ ap (λ n. drop (skip - n) (texts_of (drop i es))) (sym e)
 
 -- a child of this number weighs no more than all
 pub child_count : (es : List Term) (i : ℕ) (e : Term) → Some e ≡ slice_get es i → term_count e ≤ forest_count (forest_of es)

@@ -56,7 +56,7 @@ module _ (bs value : List ℕ) (from to : ℕ) (h : IsPart bs from to) (e : slic
 
 -- ---- a part of a text that begins with another text
 
-drop_over : (t rest : List ℕ) (n : ℕ) → length t ≤ n → drop n (t ++ rest) ≡ drop (n - length t) rest
+pub drop_over : (t rest : List ℕ) (n : ℕ) → length t ≤ n → drop n (t ++ rest) ≡ drop (n - length t) rest
 drop_over [] rest n h = let e : n ≡ n - 0 = omega arith in ap (λ k. drop k rest) e
 drop_over (x ∷ t) rest zero h = absurd (omega arith)
 drop_over (x ∷ t) rest (suc n) h =

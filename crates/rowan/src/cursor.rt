@@ -5,7 +5,7 @@ ghost use Rattle.std.specs.Cmp.Lexicographic.{pointwise};
 ghost use Rattle.std.specs.Option.{option_copied};
 ghost use Rattle.rowan_green.specs.Leaf.{Leaf};
 ghost use Rattle.rowan_green.specs.declared.utility_types.NodeOrToken.TheVariants.{Node, Token};
-ghost use Rattle.rowan.specs.Place.{Place, above, below, term_at, kind_at, text_at, start_of, end_of, index_of};
+ghost use Rattle.rowan.specs.Place.{Place, above, below, term_at, kind_at, text_at, start_of, end_of, index_of, depth_of};
 ghost use Rattle.rowan.specs.Around.{Cursor, cursor_at};
 ghost use Rattle.rowan.specs.Same.{numbers_fed};
 
@@ -20,8 +20,12 @@ use std::rc::Rc;
 struct NodeData {
     green: GreenNode,
     offset: u32,
+    depth: u32,
     spot: Spot,
 }
+
+// (with the two counts of an `Rc` 56 bytes; the depth lies beside the offset, in what was padding)
+const _: () = prove!(size_of::<NodeData>() == 40);
 
 /// The parent of a node and the node's index among its children; `Root` if it has none.
 #[cycle(cursor)]
@@ -48,6 +52,7 @@ impl Drop for SyntaxNode {
             let NodeData {
                 green: _,
                 offset: _,
+                depth: _,
                 spot,
             } = data;
             match spot {
@@ -132,6 +137,7 @@ impl SyntaxNode {
             NodeData {
                 green,
                 offset: 0,
+                depth: 0,
                 spot: Spot::Root,
             },
         )?;
@@ -176,6 +182,13 @@ impl SyntaxNode {
             Spot::Root => 0,
             Spot::Child(_, index) => *index,
         }
+    }
+
+    /// Returns the number of ancestors, at most `u32::MAX`.
+    fn depth(&self) -> u32
+        ensures { result ≡ depth_of self.now }
+    {
+        self.shared.depth
     }
 
     /// The parent, `None` at the top.
@@ -226,11 +239,13 @@ impl SyntaxNode {
         ensures { IfOk result (λ c. c ≡ below self.now index) }
     {
         prove!(self.start() <= u32::MAX);
+        let depth = self.depth().saturating_add(1);
         let shared = Rc::new(
             alloc,
             NodeData {
                 green,
                 offset,
+                depth,
                 spot: Spot::Child(self.clone()?, index),
             },
         )?;
@@ -390,21 +405,21 @@ impl Eq for SyntaxNode {
     ghost laws = { same_place-equiv };
 }
 
-/// A hash of the offset and the number alone: equal nodes hash alike.
+/// Hashes the range, the index and the depth, which the node keeps. A node and its first child, even
+/// with one range, have different depths.
 impl Hash for SyntaxNode {
-    ghost use Rattle.rowan.specs.Place.{Place, start_of, index_of};
-    ghost use Rattle.rowan.specs.Same.{same_place-Decides};
-    ghost use Rattle.std.specs.Prelude.{◌++◌};
-    ghost use Rattle.std.specs.Hash as fed;
+    ghost use Rattle.rowan.specs.Same.{node_fed, same_place-Decides};
     ghost use Rattle.std.proofs.Common.{ap};
 
-    ghost hash_input = { λ p. fed.u32 (start_of p) ++ fed.u32 (index_of p) };
+    ghost hash_input = { node_fed };
 
-    ghost respects_eq = { λ x y p. ap (λ (q : Place). fed.u32 (start_of q) ++ fed.u32 (index_of q)) ((same_place-Decides x y).0 p) };
+    ghost respects_eq = { λ x y p. ap node_fed ((same_place-Decides x y).0 p) };
 
     fn hash<H: Hasher>(&self, state: &mut H) {
         self.start().hash(state);
+        self.end().hash(state);
         self.index().hash(state);
+        self.depth().hash(state);
     }
 }
 

@@ -26,15 +26,12 @@ impl<L: Language> Eq for SyntaxNode<L> {
 }
 
 impl<L: Language> Hash for SyntaxNode<L> {
-    ghost use Rattle.rowan.specs.Place.{Place, start_of, index_of};
-    ghost use Rattle.rowan.specs.Same.{same_place-Decides};
-    ghost use Rattle.std.specs.Prelude.{◌++◌};
-    ghost use Rattle.std.specs.Hash as fed;
+    ghost use Rattle.rowan.specs.Same.{node_fed, same_place-Decides};
     ghost use Rattle.std.proofs.Common.{ap};
 
-    ghost hash_input = { λ p. fed.u32 (start_of p) ++ fed.u32 (index_of p) };
+    ghost hash_input = { node_fed };
 
-    ghost respects_eq = { λ x y p. ap (λ (q : Place). fed.u32 (start_of q) ++ fed.u32 (index_of q)) ((same_place-Decides x y).0 p) };
+    ghost respects_eq = { λ x y p. ap node_fed ((same_place-Decides x y).0 p) };
 
     fn hash<H: Hasher>(&self, state: &mut H) {
         self.cursor().hash(state);

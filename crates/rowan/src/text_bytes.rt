@@ -2,10 +2,10 @@
 ghost use Rattle.std.specs.Prelude.{◌≡◌, ◌+◌, ◌≤◌, ◌&&◌, max, take, drop, length};
 ghost use Rattle.std.specs.Str.{bytes_eq};
 ghost use Rattle.rowan_green.specs.Forest.{tree_text, tree_count};
-ghost use Rattle.rowan_green.specs.Term.{text_of, term_len, term_count};
+ghost use Rattle.rowan_green.specs.Term.{text_of, texts_of, children_of, term_len, term_count};
 ghost use Rattle.rowan.specs.Matching.{outcome, pending_count};
 
-use rowan_green::{GreenElement, GreenNode, NodeOrToken};
+use rowan_green::{GreenElement, GreenNode, NodeOrToken, TextSize};
 
 /// A comparison of bytes with a text: the answer, or the node on whose text after an offset it
 /// depends, with the bytes that are to be there.
@@ -41,19 +41,39 @@ pub(crate) fn has_bytes(node: &GreenNode, skip: usize, bytes: &[u8]) -> bool
     }
 }
 
-/// Compares the bytes with the texts of the children, except one node's.
+/// Returns the index of the child whose text has the byte at offset `skip`, and the offset of that
+/// byte in the child's text; 0 and `skip` if the node's text has no such byte. Goes down one path
+/// of the balanced list of children.
+fn child_with(node: &GreenNode, skip: usize) -> (usize, usize)
+    ensures { drop skip (tree_text node.now) ≡ drop result.1 (texts_of (drop result.0 (children_of node.now))) }
+{
+    let Ok(byte) = u32::try_from(skip) else {
+        return (0, skip);
+    };
+    let Some(found) = node.child_at_offset(TextSize(byte)) else {
+        return (0, skip);
+    };
+    (found.index, skip - found.start.0 as usize)
+}
+
+/// Compares the bytes with the texts of the children, except one node's. Begins at the first child
+/// that has some of them.
 #[cycle(has_bytes)]
 fn children_have<'a>(node: &'a GreenNode, skip: usize, bytes: &'a [u8]) -> Matching<'a>
     ensures outcome { outcome result ≡ bytes_eq (take (length bytes.now) (drop skip (tree_text node.now))) bytes.now }
     ensures below { pending_count result + 1 ≤ tree_count node.now }
 {
+    let (first, start) = child_with(node, skip);
     let mut matching = Matching::Same;
-    let mut offset = skip;
+    let mut offset = start;
     let mut left = bytes;
-    for child in node.children() {
+    for index in first..node.children().len() {
         if left.is_empty() {
             return matching;
         }
+        let Some(child) = node.child(index) else {
+            unreachable!()
+        };
         let size = child.text_len().0 as usize;
         if size <= offset {
             offset -= size;

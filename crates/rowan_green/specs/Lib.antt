@@ -11,3 +11,4 @@ pub mod ChildAt
 pub mod Balanced
 pub mod Falls
 pub mod Comparing
+pub mod Hashing

@@ -27,6 +27,7 @@ pub mod node;
 pub mod node_cache;
 pub mod node_children;
 mod node_edits;
+mod node_hash;
 pub mod syntax_kind;
 pub mod text_range;
 pub mod text_size;

@@ -14,6 +14,7 @@ use crate::equality::same_node;
 use crate::error::GreenError;
 use crate::fingerprint::{self, Fingerprint, SmallNode};
 use crate::node_children::Children;
+use crate::node_hash::hash_child;
 use crate::syntax_kind::SyntaxKind;
 use crate::text_size::TextSize;
 use crate::utility_types::NodeOrToken;
@@ -409,20 +410,24 @@ impl Eq for GreenNode {
     ghost laws = { same_tree-equiv };
 }
 
-/// A hash of the kind and the length alone, which the node keeps: equal nodes hash alike.
+/// Hashes the kind, the length, the number of children, and the first and the last child as
+/// [`hash_child`] does.
 impl Hash for GreenNode {
-    ghost use Rattle.rowan_green.specs.Forest.{Tree, tree_text};
     ghost use Rattle.rowan_green.specs.Same.{same_tree-Decides};
-    ghost use Rattle.std.specs.Prelude.{◌++◌, length};
-    ghost use Rattle.std.specs.Hash as fed;
+    ghost use Rattle.rowan_green.specs.Hashing.{node_fed};
     ghost use Rattle.std.proofs.Common.{ap};
 
-    ghost hash_input = { λ t. fed.u16 t.kind ++ fed.u32 (length (tree_text t)) };
+    ghost hash_input = { node_fed };
 
-    ghost respects_eq = { λ x y p. ap (λ (t : Tree). fed.u16 t.kind ++ fed.u32 (length (tree_text t))) ((same_tree-Decides x y).0 p) };
+    ghost respects_eq = { λ x y p. ap node_fed ((same_tree-Decides x y).0 p) };
 
     fn hash<H: Hasher>(&self, state: &mut H) {
+        let children = self.elements();
+        let count = children.len();
         self.shared.kind.hash(state);
         self.text_len().0.hash(state);
+        (count as u32).hash(state);
+        hash_child(children.get(0), state);
+        hash_child(children.get(count.saturating_sub(1)), state);
     }
 }

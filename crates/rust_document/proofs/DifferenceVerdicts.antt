@@ -1,5 +1,5 @@
 -- The verdict, by the first difference.
-use Rattle.std.proofs.Common.{◌≡◌, ℕ, ◌≤◌, Option, Some, None, is_none, option_map, MatchOption, Result, Ok, Err, IfOk, IfErr, OnOk, Bool, true, false, not, length, chars, refl, sym, ◌∙◌, ap, subst}
+use Rattle.std.proofs.Common.{◌≡◌, ◌≤◌, Option, Some, None, is_none, option_map, MatchOption, Result, Ok, Err, IfOk, IfErr, OnOk, Bool, true, false, not, length, chars, refl, sym, ◌∙◌, ap, subst}
 use Rattle.std.proofs.lemmas.Bool.{le-ltb}
 use Rattle.rustc_lexer.specs.Rows.{first_fit}
 use Rattle.rowan_green.specs.Forest.{Tree, tree_text}

@@ -1,14 +1,13 @@
 -- The first difference of two trees.
-use Rattle.std.proofs.Common.{◌≡◌, ℕ, ◌+◌, ◌<◌, ◌≤◌, ◌^◌, ◌&&◌, ◌||◌, ◌==◌, Bool, true, false, nat_eq, List, length, Option, Some, None, is_none, if◌then◌else◌, refl, sym, ◌∙◌, ap, arith}
-use Rattle.rowan_green.specs.Forest.{Forest, empty, node, leaf, Tree, forest_count, forest_text, same_forest, same_tree}
-use Rattle.rowan_green.specs.Leaf.{Leaf, same_leaf}
-use Rattle.rowan_green.specs.Term.{Term, forest_of, children_of, texts_of, forest_of-terms}
+use Rattle.std.proofs.Common.{◌≡◌, ℕ, ◌+◌, ◌&&◌, ◌||◌, ◌==◌, Bool, true, false, nat_eq, List, length, Option, Some, None, is_none, if◌then◌else◌, refl, ◌∙◌, ap}
+use Rattle.rowan_green.specs.Forest.{Forest, empty, node, leaf, Tree, forest_text, same_forest, same_tree}
+use Rattle.rowan_green.specs.Leaf.{same_leaf}
+use Rattle.rowan_green.specs.Term.{Term, forest_of, children_of, forest_of-terms}
 use Rattle.parser_input.specs.Kinds.{WHITESPACE, COMMENT}
 use Rattle.rust_document.specs.Rewrite.{bare}
 use Rattle.rust_document.specs.Step.{bare_tree}
 use Rattle.rust_document.specs.Difference.{Placed, nothing, node_at, leaf_at, placed, placed_tree, first_apart, apart_at, tree_apart}
 use Rattle.syntax_tree.specs.Mapping.{or_else}
-use Rattle.rust_document.specs.declared.difference.Apart.{Apart}
 
 -- all children of a node make its forest
 pub children-are : (t : Tree) (left : List Term) → left ≡ children_of t → forest_of left ≡ t.forest

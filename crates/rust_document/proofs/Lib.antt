@@ -5,6 +5,7 @@ pub mod ContentEdits
 pub mod Undone
 pub mod Whole
 pub mod Bares
+pub mod OpenTexts
 pub mod Verdicts
 pub mod Rewrites
 pub mod Places

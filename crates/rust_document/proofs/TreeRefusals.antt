@@ -17,7 +17,7 @@ use Rattle.parser_events.specs.Dressed as dressed
 use Rattle.parser_events.specs.Dressed.{Dressed, text_of}
 use Rattle.parser_events.specs.Forest as forest
 use Rattle.parser_events.specs.Laying.{put_around}
-use Rattle.parser_events.specs.Sinks.{RefusesOne}
+use Rattle.parser_events.specs.Sinks.{FailsAtOne}
 use Rattle.parser_events.specs.Steps.{Step}
 use Rattle.parser_events.specs.TextSteps as texts
 use Rattle.parser_events.specs.TextSteps.{TextStep, text_steps}
@@ -161,7 +161,7 @@ memory-here b texts.Exit ss e r h = memory-close b ss e r h
 memory-here b (texts.Error message place) ss e r h = h
 
 -- where there is room, some step is refused out of memory alone
-memory-in : (old new : TreeSink) (ss : List TextStep) (e : GreenError) → HasRoom old.builder ss → RefusesOne IsTaken IsRefused old ss e new → e ≡ NoMemory
+memory-in : (old new : TreeSink) (ss : List TextStep) (e : GreenError) → HasRoom old.builder ss → FailsAtOne IsTaken IsRefused old ss e new → e ≡ NoMemory
 memory-in old new [] e r h = absurd h
 memory-in old new (s ∷ ss) e r h = elim h [
   | inl refused ↦ memory-here old.builder s ss e r refused.reason
@@ -204,10 +204,10 @@ room-whole f ls bytes few =
 
 -- From nothing built, the steps of a tree are refused out of memory alone.
 pub memory-alone :
-    (old new : TreeSink) (ss : List Step) (ls : List leaves.Leaf) (e : GreenError) → old.builder ≡ nothing_built → IsTreeOf ss ls → RefusesOne IsTaken IsRefused old (put_around ss ls) e new → e ≡ NoMemory
+    (old new : TreeSink) (ss : List Step) (ls : List leaves.Leaf) (e : GreenError) → old.builder ≡ nothing_built → IsTreeOf ss ls → FailsAtOne IsTaken IsRefused old (put_around ss ls) e new → e ≡ NoMemory
 memory-alone old new ss ls e start t h =
     let put : put_around ss ls ≡ text_steps (dress_root t.forest ls) =
     ap (λ (xs : List Step). put_around xs ls) t.steps_of.are ∙ dressed-is-put t.forest ls t.steps_of.rooted t.steps_of.fit in
-    let P : List TextStep → Type 0 = λ xs. RefusesOne IsTaken IsRefused old xs e new in
+    let P : List TextStep → Type 0 = λ xs. FailsAtOne IsTaken IsRefused old xs e new in
     let Q : Building → Type 0 = λ b. HasRoom b (text_steps (dress_root t.forest ls)) in
     memory-in old new (text_steps (dress_root t.forest ls)) e (subst Q (sym start) (room-whole t.forest ls t.bytes t.few)) (subst P put h)

@@ -7,6 +7,7 @@ pub mod Open
 pub mod Edit
 pub mod EditLaws
 pub mod Bare
+pub mod Comparing
 pub mod Commit
 pub mod Rewritten
 pub mod Payload

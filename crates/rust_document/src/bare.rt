@@ -1,8 +1,9 @@
 //! Compares trees without their whitespace and comments.
-ghost use Rattle.std.specs.Prelude.{◌≡◌, MatchOption};
-ghost use Rattle.rowan_green.specs.Forest.{empty, same_tree};
-ghost use Rattle.rowan_green.specs.Term.{forest_of};
+ghost use Rattle.std.specs.Prelude.{◌≡◌, ◌≤◌, ◌<◌, ◌&&◌, max, MatchOption};
+ghost use Rattle.rowan_green.specs.Forest.{empty, same_tree, tree_count};
+ghost use Rattle.rowan_green.specs.Term.{forest_of, term_count};
 ghost use Rattle.rust_document.specs.Bare.{is_left_out, Steps};
+ghost use Rattle.rust_document.specs.Comparing.{outcome, pending_count, same_bare_term};
 ghost use Rattle.rust_document.specs.Rewrite.{bare};
 ghost use Rattle.rust_document.specs.Step.{bare_tree};
 
@@ -33,27 +34,103 @@ fn next_bare<'a>(children: &mut Children<'a>) -> Option<&'a GreenElement>
     None
 }
 
+/// A comparison of two lists: the answer, or the two nodes on which it depends.
+#[derive(Clone, Copy)]
+enum Comparison<'a> {
+    Different,
+    Same,
+    Pending(&'a GreenNode, &'a GreenNode),
+}
+
 /// Returns `true` if two trees are equal apart from whitespace and comments.
+///
+/// A loop goes on with one pair of children, and only the other pairs are compared by calls. Those
+/// have at most half of the text of `a` each, so the calls nest to the logarithm of its length.
+#[cycle(same)]
 pub fn same_bare(a: &GreenNode, b: &GreenNode) -> bool
     ensures { result ≡ same_tree (bare_tree a.now) (bare_tree b.now) }
 {
+    let mut one = a;
+    let mut two = b;
+    'down: loop {
+        match compared(one, two) {
+            Comparison::Different => return false,
+            Comparison::Same => return true,
+            Comparison::Pending(child, other) => {
+                one = child;
+                two = other;
+            }
+        }
+    }
+}
+
+/// Compares two nodes, except one pair of their children.
+#[cycle(same)]
+fn compared<'a>(a: &'a GreenNode, b: &'a GreenNode) -> Comparison<'a>
+    ensures outcome { outcome result ≡ same_tree (bare_tree a.now) (bare_tree b.now) }
+    ensures below { pending_count result < tree_count a.now }
+{
     if a.kind() != b.kind() {
-        return false;
+        return Comparison::Different;
     }
     let mut left = a.children();
     let mut right = b.children();
+    let mut comparison = Comparison::Same;
     'children: while let Some(x) = next_bare(&mut left) {
         let Some(y) = next_bare(&mut right) else {
-            return false;
+            return Comparison::Different;
         };
-        let same = match (x, y) {
-            (NodeOrToken::Node(x), NodeOrToken::Node(y)) => same_bare(x, y),
-            (NodeOrToken::Token(x), NodeOrToken::Token(y)) => x == y,
-            _ => false,
-        };
-        if !same {
-            return false;
+        comparison = with_pair(comparison, x, y);
+        if let Comparison::Different = comparison {
+            return Comparison::Different;
         }
     }
-    next_bare(&mut right).is_none()
+    if next_bare(&mut right).is_none() {
+        comparison
+    } else {
+        Comparison::Different
+    }
+}
+
+/// Compares a pair of elements too.
+#[cycle(same)]
+fn with_pair<'a>(
+    comparison: Comparison<'a>,
+    x: &'a GreenElement,
+    y: &'a GreenElement,
+) -> Comparison<'a>
+    ensures outcome { outcome result ≡ (outcome comparison.entry && same_bare_term x.now y.now) }
+    ensures below { pending_count result ≤ max (pending_count comparison.entry) (term_count x.now) }
+{
+    match (x, y) {
+        (NodeOrToken::Node(x), NodeOrToken::Node(y)) => with_nodes(comparison, x, y),
+        (NodeOrToken::Token(x), NodeOrToken::Token(y)) if x == y => comparison,
+        _ => Comparison::Different,
+    }
+}
+
+/// Compares a pair of nodes too. If a pair is pending, it compares the pair with the shorter text.
+#[cycle(same)]
+fn with_nodes<'a>(comparison: Comparison<'a>, a: &'a GreenNode, b: &'a GreenNode) -> Comparison<'a>
+    ensures outcome { outcome result
+        ≡ (outcome comparison.entry && same_tree (bare_tree a.now) (bare_tree b.now)) }
+    ensures below { pending_count result ≤ max (pending_count comparison.entry) (tree_count a.now) }
+{
+    match comparison {
+        Comparison::Different => Comparison::Different,
+        Comparison::Same => Comparison::Pending(a, b),
+        Comparison::Pending(one, two) => {
+            if a.text_len().0 <= one.text_len().0 {
+                if same_bare(a, b) {
+                    comparison
+                } else {
+                    Comparison::Different
+                }
+            } else if same_bare(one, two) {
+                Comparison::Pending(a, b)
+            } else {
+                Comparison::Different
+            }
+        }
+    }
 }

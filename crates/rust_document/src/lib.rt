@@ -24,6 +24,7 @@ mod rewrite;
 pub mod syntax_error;
 pub mod tokens;
 mod tree_sink;
+mod tree_text;
 
 pub use difference::Difference;
 pub use document::{Committed, Document, Edited, MAX_TEXT};

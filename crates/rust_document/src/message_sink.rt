@@ -24,7 +24,7 @@ impl StrSink for MessageSink {
 
     ghost takes = { IsHeard };
 
-    ghost refuses = { IsUnheard };
+    ghost fails_at = { IsUnheard };
 
     fn step(&mut self, step: StrStep<'_>) -> Result<(), AllocError> {
         match step {

@@ -18,6 +18,7 @@ use crate::error::CommitError;
 use crate::lexing::lexed_content;
 use crate::parse::Parse;
 use crate::read::{NextReading, NextText, read, read_next};
+use crate::tree_text::text_of;
 use parser_input::edition::Edition;
 use ra_parser::{Grammar, TopEntryPoint};
 use rowan_green::{GreenNode, TextRange};
@@ -67,7 +68,7 @@ fn read_back(
     if usize::from(tree.text_len()) > MAX_TEXT {
         return Err(CommitError::TooLong);
     }
-    let text = format!(in alloc; "{tree}")?;
+    let text = text_of(alloc, tree)?;
     let kept = lexed_content(alloc, text.as_str())?;
     let unread = NextText {
         text: text.as_str(),
@@ -168,7 +169,7 @@ fn difference_from_reading(
     if len > MAX_TEXT {
         return Err(CommitError::TooLong);
     }
-    let text = format!(in alloc; "{tree}")?;
+    let text = text_of(alloc, tree)?;
     let reading = read(
         alloc,
         TopEntryPoint::SourceFile,

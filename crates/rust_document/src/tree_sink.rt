@@ -86,7 +86,7 @@ impl StrSink for TreeSink<'_> {
 
     ghost takes = { IsTaken };
 
-    ghost refuses = { IsRefused };
+    ghost fails_at = { IsRefused };
 
     fn step(&mut self, step: StrStep<'_>) -> Result<(), GreenError> {
         match step {

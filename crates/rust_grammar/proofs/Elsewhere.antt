@@ -2,7 +2,7 @@
 use Rattle.std.proofs.Common.{◌≡◌, ℕ, ◌-◌, Bool, true, false, not, ◌&&◌, ◌==◌, List, length, drop, nat_lt, Option, Some, None, refl, sym, ap, ◌∙◌, inl, inr, if◌then◌else◌, true≢false}
 use Rattle.std.proofs.lemmas.Bool.{cases_Bool}
 use Rattle.parser_input.specs.Input.{Token}
-use Rattle.rust_grammar.specs.Rule.{Look, Always, Never, Kind, Contextual, Joint, Whole, Left, InCondition, Given, Both, Either, Not, shift, in_mode, anew}
+use Rattle.rust_grammar.specs.Rule.{Look, Always, Never, Kind, Contextual, Joint, Whole, Left, InCondition, Given, Both, Either, Not, shift, in_mode, from_start}
 use Rattle.rust_grammar.specs.Meaning.{Reading, ahead, sees, fresh, is_end}
 use Rattle.rust_grammar.proofs.Plain.{and_l, and_r}
 use Rattle.rust_grammar.proofs.Parts.{asks_tokens, shifted}
@@ -56,23 +56,23 @@ IsMode None c = Unit {0}
 IsMode (Some d) c = d ≡ c
 
 module _ (c : Bool) (s : Reading) where
-  pub anew-seen : (l : Look) → sees c s (anew l) ≡ sees c (fresh s) l
-  unfolding anew sees fresh is_end
-  anew-seen Given = refl
-  anew-seen (Both a b) = rw (anew-seen a, anew-seen b) refl
-  anew-seen (Either a b) = rw (anew-seen a, anew-seen b) refl
-  anew-seen (Not a) = ap not (anew-seen a)
-  anew-seen Always = refl
-  anew-seen Never = refl
-  anew-seen (Kind n k) = refl
-  anew-seen (Contextual n k) = refl
-  anew-seen (Joint n) = refl
-  anew-seen (Whole n) = refl
-  anew-seen Left = refl
-  anew-seen InCondition = refl
+  pub from_start-seen : (l : Look) → sees c s (from_start l) ≡ sees c (fresh s) l
+  unfolding from_start sees fresh is_end
+  from_start-seen Given = refl
+  from_start-seen (Both a b) = rw (from_start-seen a, from_start-seen b) refl
+  from_start-seen (Either a b) = rw (from_start-seen a, from_start-seen b) refl
+  from_start-seen (Not a) = ap not (from_start-seen a)
+  from_start-seen Always = refl
+  from_start-seen Never = refl
+  from_start-seen (Kind n k) = refl
+  from_start-seen (Contextual n k) = refl
+  from_start-seen (Joint n) = refl
+  from_start-seen (Whole n) = refl
+  from_start-seen Left = refl
+  from_start-seen InCondition = refl
 
   mode-seen : (l : Look) → sees c s (in_mode c l) ≡ sees c s l
-  unfolding sees in_mode anew
+  unfolding sees in_mode from_start
   mode-seen InCondition = of c
     where
       of : (b : Bool) → sees c s (if b then Always else Never) ≡ b

@@ -5,7 +5,7 @@ use Rattle.parser_input.specs.Input.{input, token_of}
 use Rattle.parser_input.specs.Leaf.{Leaf, is_trivia}
 use Rattle.parser_input.specs.declared.edition.Edition.{Edition}
 use Rattle.parser_events.specs.Forest as forest
-use Rattle.rust_grammar.specs.Rule.{Production, Rule, Continue, source_file, macro_items, macro_statements, item, body, assoc_items, variants, record_fields, tuple_fields, visibility, attribute, meta, token_tree, use_tree, use_list, params, param, name, lifetime, name_ref, path, type_path, expr_path, generic_args, generic_arg, generic_params, generic_param, bounds, bound, where_clause, where_pred, any_type, ret_type, pattern, single_pattern, pattern_fields, pattern_field, literal, statement_list, block, statement, macro_statement, statement_end, macro_statement_end, expression, operation, operation_tail, pipe_tail, disjunction, conjunction, comparison, bit_or, bit_xor, bit_and, bit_shift, sum, product, cast, prefixed, postfix, after_dot, arguments, atom, field_values, field_value, block_like, if_expr, match_arms, match_arm, type_no_bounds, begins, passes, is_silent, shift, in_mode, anew, there_at, pattern_atom, arm_body}
+use Rattle.rust_grammar.specs.Rule.{Production, Rule, Continue, source_file, macro_items, macro_statements, item, body, assoc_items, variants, record_fields, tuple_fields, visibility, attribute, meta, token_tree, use_tree, use_list, params, param, name, lifetime, name_ref, path, type_path, expr_path, generic_args, generic_arg, generic_params, generic_param, bounds, bound, where_clause, where_pred, any_type, ret_type, pattern, single_pattern, pattern_fields, pattern_field, literal, statement_list, block, statement, macro_statement, statement_end, macro_statement_end, expression, operation, operation_tail, pipe_tail, disjunction, conjunction, comparison, bit_or, bit_xor, bit_and, bit_shift, sum, product, cast, prefixed, postfix, after_dot, arguments, atom, field_values, field_value, block_like, if_expr, match_arms, match_arm, type_no_bounds, begins, passes, is_silent, shift, in_mode, from_start, there_at, pattern_atom, arm_body}
 use Rattle.rust_grammar.specs.Notation.{row, one_of, any_of, is_longer, no_longer, longest}
 use Rattle.rust_grammar.specs.Meaning.{Reading, Calls, read, sees, meaning, look_of, begins_below}
 use Rattle.rust_grammar.specs.Paths.{paths}
@@ -28,7 +28,7 @@ use Rattle.rust_grammar.proofs.Induction.{HoldOf, meaning-holds-of, meaning-hold
 
 -- where each production begins
 all_alike : (x : Production) → (if stands x then alike (look_of whole x) (look_of profile (stands_for x)) else true) ≡ true
-unfolding stands stands_for alike same_look quiet both_quiet either_quiet not_quiet look_of begins_below begins passes is_silent shift in_mode anew there_at row one_of any_of is_longer no_longer longest rule rank whole paths types patterns expressions statements items profile_rule profile_rank profile profile_paths profile_types profile_patterns profile_expressions profile_statements profile_items
+unfolding stands stands_for alike same_look quiet both_quiet either_quiet not_quiet look_of begins_below begins passes is_silent shift in_mode from_start there_at row one_of any_of is_longer no_longer longest rule rank whole paths types patterns expressions statements items profile_rule profile_rank profile profile_paths profile_types profile_patterns profile_expressions profile_statements profile_items
 all_alike source_file = refl
 all_alike macro_items = refl
 all_alike macro_statements = refl
@@ -110,7 +110,7 @@ old_rule pattern_atom = profile_rule single_pattern
 old_rule x = profile_rule x
 
 all_kept : (x : Production) → (if stands x then kept (look_of whole) (look_of profile) (rule x) (old_rule x) else true) ≡ true
-unfolding old_rule stands stands_for kept same_message same_spelling same_call same_mode same_parts is_left_out is_new is_never alike same_look quiet both_quiet either_quiet not_quiet look_of begins_below begins passes is_silent shift in_mode anew there_at row one_of any_of is_longer no_longer longest rule rank whole paths types patterns expressions statements items profile_rule profile_rank profile profile_paths profile_types profile_patterns profile_expressions profile_statements profile_items
+unfolding old_rule stands stands_for kept same_message same_spelling same_call same_mode same_parts is_left_out is_new is_never alike same_look quiet both_quiet either_quiet not_quiet look_of begins_below begins passes is_silent shift in_mode from_start there_at row one_of any_of is_longer no_longer longest rule rank whole paths types patterns expressions statements items profile_rule profile_rank profile profile_paths profile_types profile_patterns profile_expressions profile_statements profile_items
 all_kept source_file = refl
 all_kept macro_items = refl
 all_kept macro_statements = refl

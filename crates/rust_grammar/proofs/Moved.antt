@@ -2,7 +2,7 @@
 use Rattle.std.proofs.Common.{◌≡◌, ℕ, suc, ◌<◌, ◌≤◌, Bool, true, false, not, List, [], ◌∷◌, length, nat_lt, None, refl, sym, ap, ◌∙◌, arith, inl, inr, if◌then◌else◌, true≢false}
 use Rattle.std.proofs.lemmas.Bool.{cases_Bool, ltb-true, lt-ltb}
 use Rattle.parser_input.specs.Input.{Token}
-use Rattle.rust_grammar.specs.Rule.{Production, source_file, macro_items, macro_statements, Look, Left, Rule, One, Node, Then, Opt, When, Star, Unless, begins, passes, is_silent, shift, in_mode, anew, there_at}
+use Rattle.rust_grammar.specs.Rule.{Production, source_file, macro_items, macro_statements, Look, Left, Rule, One, Node, Then, Opt, When, Star, Unless, begins, passes, is_silent, shift, in_mode, from_start, there_at}
 use Rattle.rust_grammar.specs.Meaning.{Reading, Calls, read, meaning, sees, look_of, begins_below, node, fresh}
 use Rattle.rust_grammar.specs.Notation.{◌or◌, ◌before◌, at_end, row, one_of, any_of, is_longer, no_longer, longest}
 use Rattle.rust_grammar.specs.Words.{'#', '!', 'shebang', 'frontmatter'}
@@ -107,19 +107,19 @@ abbrev list_item : Rule
 list_item = When ('#' before '!') Attribute or Item
 
 items-begun : implies Left (begins (look_of whole) list_item) ≡ true
-unfolding same_look is_left is_first is_never tells weakens implies look_of begins_below begins passes is_silent shift in_mode anew there_at rule rank whole row one_of any_of is_longer no_longer longest paths types patterns expressions statements items
+unfolding same_look is_left is_first is_never tells weakens implies look_of begins_below begins passes is_silent shift in_mode from_start there_at rule rank whole row one_of any_of is_longer no_longer longest paths types patterns expressions statements items
 items-begun = refl
 
 items-move : moves movers None (begins (look_of whole) (Unless at_end list_item)) (Unless at_end list_item) ≡ true
-unfolding movers moves_where claim unmoved_calls unmoved_option takes unmoved moves at same_look is_left is_first is_never tells weakens implies cut sift anew asks without down all_down back asked asks_tokens look_of begins_below begins passes is_silent shift in_mode there_at rule rank whole row one_of any_of is_longer no_longer longest paths types patterns expressions statements items
+unfolding movers moves_where claim unmoved_calls unmoved_option takes unmoved moves at same_look is_left is_first is_never tells weakens implies cut sift from_start asks without down all_down back asked asks_tokens look_of begins_below begins passes is_silent shift in_mode there_at rule rank whole row one_of any_of is_longer no_longer longest paths types patterns expressions statements items
 items-move = refl
 
 statements-begun : implies Left (begins (look_of whole) MacroStatement) ≡ true
-unfolding same_look is_left is_first is_never tells weakens implies look_of begins_below begins passes is_silent shift in_mode anew there_at rule rank whole row one_of any_of is_longer no_longer longest paths types patterns expressions statements items
+unfolding same_look is_left is_first is_never tells weakens implies look_of begins_below begins passes is_silent shift in_mode from_start there_at rule rank whole row one_of any_of is_longer no_longer longest paths types patterns expressions statements items
 statements-begun = refl
 
 statements-move : moves movers None (begins (look_of whole) (Unless at_end MacroStatement)) (Unless at_end MacroStatement) ≡ true
-unfolding movers moves_where claim unmoved_calls unmoved_option takes unmoved moves at same_look is_left is_first is_never tells weakens implies cut sift anew asks without down all_down back asked asks_tokens look_of begins_below begins passes is_silent shift in_mode there_at rule rank whole row one_of any_of is_longer no_longer longest paths types patterns expressions statements items
+unfolding movers moves_where claim unmoved_calls unmoved_option takes unmoved moves at same_look is_left is_first is_never tells weakens implies cut sift from_start asks without down all_down back asked asks_tokens look_of begins_below begins passes is_silent shift in_mode there_at rule rank whole row one_of any_of is_longer no_longer longest paths types patterns expressions statements items
 statements-move = refl
 
 node-rest : (k : ℕ) (a : Rule) (c : Bool) (s : Reading) → (gives c (Node k a) s).rest ≡ (gives c a (fresh s)).rest

@@ -3,12 +3,12 @@ use Rattle.std.proofs.Common.{◌≡◌, ℕ, zero, suc, ◌<◌, ◌≤◌, Boo
 use Rattle.std.proofs.lemmas.Bool.{cases_Bool, ltb-true, lt-ltb, or_cases}
 use Rattle.std.proofs.lemmas.List.{length-drop}
 use Rattle.parser_input.specs.Input.{Token}
-use Rattle.rust_grammar.specs.Rule.{Production, Rule, Look, Always, Never, Nothing, One, Any, Then, Near, Or, Opt, Star, Node, Wrap, Want, Say, Skip, Split, When, Unless, Call, Continue, Mode, begins, anew, Lead}
+use Rattle.rust_grammar.specs.Rule.{Production, Rule, Look, Always, Never, Nothing, One, Any, Then, Near, Or, Opt, Star, Node, Wrap, Want, Say, Skip, Split, When, Unless, Call, Continue, Mode, begins, from_start, Lead}
 use Rattle.rust_grammar.specs.Meaning.{Reading, Calls, read, sees, fresh, leaf, say, skip, split, node, wrapped, after, turns, led}
 use Rattle.rust_grammar.proofs.Plain.{and_l, and_r, some_or_none}
 use Rattle.rust_grammar.proofs.Fine.{takes}
 use Rattle.rust_grammar.proofs.Known.{either-if, implies, implied, cut, cut-seen}
-use Rattle.rust_grammar.proofs.Elsewhere.{anew-seen, without, without-seen, asked, asked-seen, IsMode}
+use Rattle.rust_grammar.proofs.Elsewhere.{from_start-seen, without, without-seen, asked, asked-seen, IsMode}
 use Rattle.rust_grammar.proofs.Spelling.{at}
 use Rattle.rust_grammar.proofs.Spelled.{chosen, at-seen}
 use Rattle.rust_grammar.proofs.Shrinks.{shorter-after, turns-shrink, no-turns}
@@ -24,7 +24,7 @@ pub record Movers : Type 0 where
 
 -- what is known after a rule that took no token
 unfoldable pub unmoved_calls : Movers → Option Bool → Look → Rule → Look
-unmoved_calls g m k (Call y) = if g.always y then cut k (asked m (anew (g.looks y))) else Always
+unmoved_calls g m k (Call y) = if g.always y then cut k (asked m (from_start (g.looks y))) else Always
 unmoved_calls g m k a = Always
 
 unfoldable pub unmoved_option : Movers → Option Bool → Look → Rule → Look
@@ -52,7 +52,7 @@ moves g m k (Want a message) = let l = asked m (begins g.looks a) in implies k l
 moves g m k (Say message) = implies k Never
 moves g m k (Skip message) = true
 moves g m k Split = true
-moves g m k (Call y) = let begun = implies k (anew (asked m (g.where_seen y))) in if g.always y then true else begun
+moves g m k (Call y) = let begun = implies k (from_start (asked m (g.where_seen y))) in if g.always y then true else begun
 moves g m k (Continue y) = let begun = implies k (asked m (g.where_seen y)) in if g.always y then true else begun
 moves g m k (Mode d a) = moves g (Some d) (without false true k) a
 moves g m k (Lead a) = moves g m (without true false k) a
@@ -148,9 +148,9 @@ module _ (g : Movers) (call : Calls) (ok : Moved g call) where
   star-kept : (a : Rule) (m : Option Bool) (k : Look) (c : Bool) (s : Reading) → IsMode m c → sees c s k ≡ true → 0 < length s.rest → Unmoved (unmoved_calls g m k a) c s (read g.looks call c (Star a) s)
   unfolding unmoved_calls read begins sees
   star-kept (Call y) m k c s mode h some = claimed (g.always y) _ c s _ (λ e.
-      elim (cases_Bool (sees c s (anew (g.looks y)))) [
-        | inl f ↦ λ same. absurd (omega (arith, same, first-turn (length s.rest) (λ t. sees c t (anew (g.looks y))) (λ v. after v (call y c (fresh v))) s (λ v. less (Call y) c v) f (call-moves y c s e some) (omega arith)))
-        | inr f ↦ λ same. subst (λ (u : Reading). sees c u (cut k (asked m (anew (g.looks y)))) ≡ true) (sym (no-turns (length s.rest) (λ t. sees c t (anew (g.looks y))) (λ v. after v (call y c (fresh v))) s f)) (cut-seen c s k (asked m (anew (g.looks y))) (asked-seen c s m (anew (g.looks y)) mode ∙ f) h)
+      elim (cases_Bool (sees c s (from_start (g.looks y)))) [
+        | inl f ↦ λ same. absurd (omega (arith, same, first-turn (length s.rest) (λ t. sees c t (from_start (g.looks y))) (λ v. after v (call y c (fresh v))) s (λ v. less (Call y) c v) f (call-moves y c s e some) (omega arith)))
+        | inr f ↦ λ same. subst (λ (u : Reading). sees c u (cut k (asked m (from_start (g.looks y)))) ≡ true) (sym (no-turns (length s.rest) (λ t. sees c t (from_start (g.looks y))) (λ v. after v (call y c (fresh v))) s f)) (cut-seen c s k (asked m (from_start (g.looks y))) (asked-seen c s m (from_start (g.looks y)) mode ∙ f) h)
       ])
   star-kept a m k c s mode h some = λ same. refl
 
@@ -212,9 +212,9 @@ module _ (g : Movers) (call : Calls) (ok : Moved g call) where
   takes-token (Say message) m k c s e mode h some = absurd (true≢false (sym (implied c s k Never e h)))
   takes-token (Skip message) m k c s e mode h some = fewer 1 s.rest (omega arith) some
   takes-token Split m k c s e mode h some = fewer 1 s.rest (omega arith) some
-  takes-token (Call y) m k c s e mode h some = elim (either-if (g.always y) (implies k (anew (asked m (g.where_seen y)))) e) [
+  takes-token (Call y) m k c s e mode h some = elim (either-if (g.always y) (implies k (from_start (asked m (g.where_seen y)))) e) [
     | inl i ↦ ok.always y c (fresh s) i some
-    | inr i ↦ ok.where_seen y c (fresh s) (sym (asked-seen c (fresh s) m (g.where_seen y) mode) ∙ sym (anew-seen c s (asked m (g.where_seen y))) ∙ implied c s k (anew (asked m (g.where_seen y))) i h) some
+    | inr i ↦ ok.where_seen y c (fresh s) (sym (asked-seen c (fresh s) m (g.where_seen y) mode) ∙ sym (from_start-seen c s (asked m (g.where_seen y))) ∙ implied c s k (from_start (asked m (g.where_seen y))) i h) some
   ]
   takes-token (Continue y) m k c s e mode h some = elim (either-if (g.always y) (implies k (asked m (g.where_seen y))) e) [
     | inl i ↦ ok.always y c s i some

@@ -1,7 +1,7 @@
 -- What satisfies the equations of where productions begin is where they begin.
 use Rattle.std.proofs.Common.{◌≡◌, ℕ, zero, suc, ◌<◌, Bool, true, false, not, ◌&&◌, ◌||◌, nat_lt, refl, ap, ◌∙◌, sym, arith, if◌then◌else◌, true≢false}
 use Rattle.std.proofs.lemmas.Bool.{ltb-true}
-use Rattle.rust_grammar.specs.Rule.{Production, Rule, Look, Both, Either, Not, Nothing, One, Any, Then, Near, Or, Opt, Star, Node, Wrap, Want, Say, Skip, Split, When, Unless, Call, Continue, Mode, Lead, begins, is_silent, passes, in_mode, anew}
+use Rattle.rust_grammar.specs.Rule.{Production, Rule, Look, Both, Either, Not, Nothing, One, Any, Then, Near, Or, Opt, Star, Node, Wrap, Want, Say, Skip, Split, When, Unless, Call, Continue, Mode, Lead, begins, is_silent, passes, in_mode, from_start}
 use Rattle.rust_grammar.specs.Meaning.{Table, look_of, begins_below}
 use Rattle.rust_grammar.proofs.Plain.{and_l, and_r}
 
@@ -57,16 +57,16 @@ module _ (low : Production → Bool) (f h : Production → Look) (same : (y : Pr
   same-begins (Unless l a) e = ap (λ (m : Look). Both (Not l) m) (same-begins a e)
   same-begins (Opt a) e = same-begins a e
   same-begins (Star a) e = same-begins a e
-  same-begins (Node kind a) e = ap anew (same-begins a e)
+  same-begins (Node kind a) e = ap from_start (same-begins a e)
   same-begins (Wrap kind a) e = same-begins a e
   same-begins (Want a m) e = same-begins a e
   same-begins (Say m) e = refl
   same-begins (Skip m) e = refl
   same-begins Split e = refl
-  same-begins (Call x) e = ap anew (same x e)
+  same-begins (Call x) e = ap from_start (same x e)
   same-begins (Continue x) e = same x e
   same-begins (Mode c a) e = ap (in_mode c) (same-begins a e)
-  same-begins (Lead a) e = ap anew (same-begins a e)
+  same-begins (Lead a) e = ap from_start (same-begins a e)
 
 -- A production begins at tokens, or where productions of less depth do.
 unfoldable pub asks_less : (depth : Production → ℕ) → Table → Production → Bool

@@ -1,6 +1,6 @@
 -- The parts of the whole grammar's rules pass the tests.
 use Rattle.std.proofs.Common.{◌≡◌, Bool, true, false, ◌&&◌, refl}
-use Rattle.rust_grammar.specs.Rule.{Production, Rule, source_file, macro_items, macro_statements, item, body, assoc_items, variants, record_fields, tuple_fields, visibility, attribute, meta, token_tree, use_tree, use_list, params, param, name, lifetime, name_ref, path, type_path, expr_path, generic_args, generic_arg, generic_params, generic_param, bounds, bound, where_clause, where_pred, any_type, ret_type, pattern, single_pattern, pattern_fields, pattern_field, literal, statement_list, block, statement, macro_statement, statement_end, macro_statement_end, expression, operation, operation_tail, pipe_tail, disjunction, conjunction, comparison, bit_or, bit_xor, bit_and, bit_shift, sum, product, cast, prefixed, postfix, after_dot, arguments, atom, field_values, field_value, block_like, if_expr, match_arms, match_arm, type_no_bounds, begins, passes, is_silent, shift, in_mode, anew, there_at, pattern_atom, arm_body}
+use Rattle.rust_grammar.specs.Rule.{Production, Rule, source_file, macro_items, macro_statements, item, body, assoc_items, variants, record_fields, tuple_fields, visibility, attribute, meta, token_tree, use_tree, use_list, params, param, name, lifetime, name_ref, path, type_path, expr_path, generic_args, generic_arg, generic_params, generic_param, bounds, bound, where_clause, where_pred, any_type, ret_type, pattern, single_pattern, pattern_fields, pattern_field, literal, statement_list, block, statement, macro_statement, statement_end, macro_statement_end, expression, operation, operation_tail, pipe_tail, disjunction, conjunction, comparison, bit_or, bit_xor, bit_and, bit_shift, sum, product, cast, prefixed, postfix, after_dot, arguments, atom, field_values, field_value, block_like, if_expr, match_arms, match_arm, type_no_bounds, begins, passes, is_silent, shift, in_mode, from_start, there_at, pattern_atom, arm_body}
 use Rattle.rust_grammar.specs.Notation.{row, one_of, any_of, is_longer, no_longer, longest}
 use Rattle.rust_grammar.specs.Meaning.{read, sees, look_of, begins_below}
 use Rattle.rust_grammar.specs.Paths.{paths}
@@ -11,9 +11,9 @@ use Rattle.rust_grammar.specs.Statements.{statements}
 use Rattle.rust_grammar.specs.Items.{items}
 use Rattle.rust_grammar.specs.Whole.{rule, rank, whole}
 use Rattle.rust_grammar.specs.Parts.{repeated, nearby}
-use Rattle.rust_grammar.specs.Laws.{reads, IsReadTurnByTurn, RepetitionsAreReadTurnByTurn, LooksAhead, PartsLookAhead, CallsHaveGivenNothing, NodesHaveGivenNothing, CallsBeginAnew}
+use Rattle.rust_grammar.specs.Laws.{reads, IsReadTurnByTurn, RepetitionsAreReadTurnByTurn, LooksAhead, PartsLookAhead, CallsHaveGivenNothing, NodesHaveGivenNothing, CallsBeginFromStart}
 use Rattle.rust_grammar.proofs.Plain.{and_l, and_r}
-use Rattle.rust_grammar.proofs.Elsewhere.{anew-seen}
+use Rattle.rust_grammar.proofs.Elsewhere.{from_start-seen}
 use Rattle.rust_grammar.proofs.Parts.{every, at_end, seen-at-end, all-from, turn-by-turn, asks_tokens, shifted, is_sure, ignores_given, given-ignored}
 
 -- what is repeated does not begin where no token is left
@@ -27,7 +27,7 @@ unfoldable passes_tests : Production → Bool
 passes_tests x = every fails_at_end (repeated (rule x)) && every asks_tokens_alone (nearby (rule x)) && ignores_given (look_of whole x)
 
 all_pass : (x : Production) → passes_tests x ≡ true
-unfolding passes_tests every fails_at_end asks_tokens_alone at_end asks_tokens is_sure ignores_given repeated nearby look_of begins_below begins passes is_silent shift in_mode anew there_at rule rank whole row one_of any_of is_longer no_longer longest paths types patterns expressions statements items
+unfolding passes_tests every fails_at_end asks_tokens_alone at_end asks_tokens is_sure ignores_given repeated nearby look_of begins_below begins passes is_silent shift in_mode from_start there_at rule rank whole row one_of any_of is_longer no_longer longest paths types patterns expressions statements items
 all_pass source_file = refl
 all_pass macro_items = refl
 all_pass macro_statements = refl
@@ -125,14 +125,14 @@ parts-look-ahead x =
 
 pub calls-have-given-nothing : CallsHaveGivenNothing
 unfolding begins
-calls-have-given-nothing looks x in_condition s = anew-seen in_condition s (looks x)
+calls-have-given-nothing looks x in_condition s = from_start-seen in_condition s (looks x)
 
 pub nodes-have-given-nothing : NodesHaveGivenNothing
 unfolding begins
-nodes-have-given-nothing looks kind inside in_condition s = anew-seen in_condition s (begins looks inside)
+nodes-have-given-nothing looks kind inside in_condition s = from_start-seen in_condition s (begins looks inside)
 
-pub calls-begin-anew : CallsBeginAnew
+pub calls-begin-from-start : CallsBeginFromStart
 unfolding passes_tests
-calls-begin-anew x in_condition s some =
+calls-begin-from-start x in_condition s some =
     given-ignored in_condition s some (look_of whole x)
     (and_r (every fails_at_end (repeated (rule x)) && every asks_tokens_alone (nearby (rule x))) (ignores_given (look_of whole x)) (all_pass x))

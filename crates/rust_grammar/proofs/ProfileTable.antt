@@ -1,6 +1,6 @@
 -- The profile's table passes the test, so its productions mean what their rules say.
 use Rattle.std.proofs.Common.{◌≡◌, Bool, true, refl}
-use Rattle.rust_grammar.specs.Rule.{Production, source_file, macro_items, macro_statements, item, body, assoc_items, variants, record_fields, tuple_fields, visibility, attribute, meta, token_tree, use_tree, use_list, params, param, name, lifetime, name_ref, path, type_path, expr_path, generic_args, generic_arg, generic_params, generic_param, bounds, bound, where_clause, where_pred, any_type, ret_type, pattern, single_pattern, pattern_fields, pattern_field, literal, statement_list, block, statement, macro_statement, statement_end, macro_statement_end, expression, operation, operation_tail, pipe_tail, disjunction, conjunction, comparison, bit_or, bit_xor, bit_and, bit_shift, sum, product, cast, prefixed, postfix, after_dot, arguments, atom, field_values, field_value, block_like, if_expr, match_arms, match_arm, type_no_bounds, begins, passes, is_silent, shift, in_mode, anew, there_at, pattern_atom, arm_body}
+use Rattle.rust_grammar.specs.Rule.{Production, source_file, macro_items, macro_statements, item, body, assoc_items, variants, record_fields, tuple_fields, visibility, attribute, meta, token_tree, use_tree, use_list, params, param, name, lifetime, name_ref, path, type_path, expr_path, generic_args, generic_arg, generic_params, generic_param, bounds, bound, where_clause, where_pred, any_type, ret_type, pattern, single_pattern, pattern_fields, pattern_field, literal, statement_list, block, statement, macro_statement, statement_end, macro_statement_end, expression, operation, operation_tail, pipe_tail, disjunction, conjunction, comparison, bit_or, bit_xor, bit_and, bit_shift, sum, product, cast, prefixed, postfix, after_dot, arguments, atom, field_values, field_value, block_like, if_expr, match_arms, match_arm, type_no_bounds, begins, passes, is_silent, shift, in_mode, from_start, there_at, pattern_atom, arm_body}
 use Rattle.rust_grammar.specs.Notation.{row, one_of, any_of, is_longer, no_longer, longest}
 use Rattle.rust_grammar.specs.Meaning.{Reading, read, meaning, look_of, begins_below}
 use Rattle.rust_grammar.specs.Profile.{profile_paths, profile_types, profile_patterns, profile_expressions, profile_statements, profile_items, profile_rule, profile_rank, profile}
@@ -9,7 +9,7 @@ use Rattle.rust_grammar.proofs.WholeTable.{claim}
 use Rattle.rust_grammar.proofs.Plain.{meaning_is_plain}
 
 pub profile_fine : (x : Production) → fine profile claim x ≡ true
-unfolding fine ranked ranked_at_end fails takes claim look_of begins_below begins passes is_silent shift in_mode anew there_at row one_of any_of is_longer no_longer longest profile_rule profile_rank profile profile_paths profile_types profile_patterns profile_expressions profile_statements profile_items
+unfolding fine ranked ranked_at_end fails takes claim look_of begins_below begins passes is_silent shift in_mode from_start there_at row one_of any_of is_longer no_longer longest profile_rule profile_rank profile profile_paths profile_types profile_patterns profile_expressions profile_statements profile_items
 profile_fine source_file = refl
 profile_fine macro_items = refl
 profile_fine macro_statements = refl

@@ -5,13 +5,13 @@ use Rattle.parser_input.specs.Kinds.{EOF, FLOAT_NUMBER, PIPE_GT}
 use Rattle.parser_input.specs.Input.{Token}
 use Rattle.parser_events.specs.Forest as forest
 use Rattle.parser_events.specs.Forest.{Forest, ◌then◌}
-use Rattle.rust_grammar.specs.Rule.{Production, Rule, Spelling, Look, Always, Never, Kind, Contextual, Joint, Left, InCondition, Given, Both, Either, Not, Nothing, One, Any, Then, Near, Or, Opt, Star, Node, Wrap, Want, Say, Skip, Split, When, Unless, Call, Continue, Mode, begins, there_at, with_contextual, spelled_at, anew, Whole, Lead}
+use Rattle.rust_grammar.specs.Rule.{Production, Rule, Spelling, Look, Always, Never, Kind, Contextual, Joint, Left, InCondition, Given, Both, Either, Not, Nothing, One, Any, Then, Near, Or, Opt, Star, Node, Wrap, Want, Say, Skip, Split, When, Unless, Call, Continue, Mode, begins, there_at, with_contextual, spelled_at, from_start, Whole, Lead}
 use Rattle.rust_grammar.specs.Meaning.{Reading, Calls, read, sees, ahead, fresh, is_end, leaf, say, skip, split, node, wrapped, after, turns, into, led}
 use Rattle.rust_grammar.specs.Spelled.{marks, are_next, is_token, is_contextual, is_contextual_word, has_contextual, is_one_of, is_spelled, drop_if, then_after, tokens_after, is_float}
 use Rattle.rust_grammar.proofs.Plain.{and_l, and_r}
 use Rattle.rust_grammar.proofs.Leads.{into-cases}
 use Rattle.rust_grammar.proofs.Known.{either-if, both-if-l, both-if-r, if-first, if-second, if-both, implies, implied, cut, cut-seen, sift, sift-seen}
-use Rattle.rust_grammar.proofs.Elsewhere.{anew-seen, without, without-seen, back-seen, asked, asked-seen, IsMode}
+use Rattle.rust_grammar.proofs.Elsewhere.{from_start-seen, without, without-seen, back-seen, asked, asked-seen, IsMode}
 use Rattle.rust_grammar.proofs.Spelling.{first_width, Claims, Sound, IsInOrder, counts, denies, denies_first, decided, past, after_call, after_calls, after_option, after_other, look_after, at, no_end, no_end_there, is_among, is_word, is_mark, safe, more-in-order, or-first, or-second, token-seen, contextual-seen, contextual-there, both-true, own-token, float-seen, spelling-seen, among-marks, unlike, after-then}
 
 -- one of two readings
@@ -218,8 +218,8 @@ module _ (g : Claims) (call : Calls) (ok : Sound g call) where
   -- after a call
   call-seen : (k : Look) (y : Production) (c : Bool) (s : Reading) → sees c s k ≡ true → sees c (after s (call y c (fresh s))) (after_call g k y) ≡ true
   unfolding after_call after fresh
-  call-seen k y c s h = elim (cases_Bool (implies k (anew (g.one y)))) [
-    | inl e ↦ rw e (back-seen c s (after s (call y c (fresh s))) 1 (ok.takes_one y c (fresh s) (sym (anew-seen c s (g.one y)) ∙ implied c s k (anew (g.one y)) e h)) k h)
+  call-seen k y c s h = elim (cases_Bool (implies k (from_start (g.one y)))) [
+    | inl e ↦ rw e (back-seen c s (after s (call y c (fresh s))) 1 (ok.takes_one y c (fresh s) (sym (from_start-seen c s (g.one y)) ∙ implied c s k (from_start (g.one y)) e h)) k h)
     | inr e ↦ rw e (elim (cases_Bool (g.gives y)) [
       | inl i ↦ rw i (gave-given y c s i)
       | inr i ↦ rw i (ok.ends_so y c (fresh s) (s.given then (call y c (fresh s)).given))
@@ -249,7 +249,7 @@ module _ (g : Claims) (call : Calls) (ok : Sound g call) where
       past-seen c s (if sees c s (spelled_at 0 x) then leaf x.kind (length x.parts) s else s) x
       (λ e. rw e refl) (λ e. rw e refl) k h
   option-seen (Call y) k c s h = claimed (g.gives y) (Either k Given) c _ (λ e.
-      chosen (λ (u : Reading). sees c u (Either k Given) ≡ true) (sees c s (anew (g.looks y))) _ _
+      chosen (λ (u : Reading). sees c u (Either k Given) ≡ true) (sees c s (from_start (g.looks y))) _ _
       (λ i. given-too k c (after s (call y c (fresh s))) (gave y c s e))
       (λ i. known-first k c s h))
   option-seen Nothing k c s h = refl
@@ -274,9 +274,9 @@ module _ (g : Claims) (call : Calls) (ok : Sound g call) where
   star-seen : (a : Rule) (k : Look) (c : Bool) (s : Reading) → sees c s k ≡ true → sees c (read g.looks call c (Star a) s) (after_calls g k a) ≡ true
   unfolding after_calls read begins sees
   star-seen (Call y) k c s h = claimed (g.gives y) (Either k Given) c _ (λ e.
-      elim (turns-some (length s.rest) (λ t. sees c t (anew (g.looks y))) (λ v. after v (call y c (fresh v))) s (λ v. gave y c v e)) [
+      elim (turns-some (length s.rest) (λ t. sees c t (from_start (g.looks y))) (λ v. after v (call y c (fresh v))) s (λ v. gave y c v e)) [
         | inl i ↦ subst (λ (u : Reading). sees c u (Either k Given) ≡ true) (sym i) (known-first k c s h)
-        | inr i ↦ given-too k c (turns (length s.rest) (λ t. sees c t (anew (g.looks y))) (λ v. after v (call y c (fresh v))) s) i
+        | inr i ↦ given-too k c (turns (length s.rest) (λ t. sees c t (from_start (g.looks y))) (λ v. after v (call y c (fresh v))) s) i
       ])
   star-seen (One x) k c s h = refl
   star-seen Nothing k c s h = refl
@@ -373,7 +373,7 @@ module _ (g : Claims) (call : Calls) (ok : Sound g call) where
   in-order Split m k c s ts e mode h i = rw (i, float-seen s.rest (implied c s k (Kind 0 FLOAT_NUMBER) e h)) refl
   in-order (Call y) m k c s ts e mode h i =
       let l = asked m (g.looks y) in
-      let free = begun y k (anew l) c s (fresh s) e h (λ f. sym (asked-seen c (fresh s) m (g.looks y) mode) ∙ sym (anew-seen c s l) ∙ f) in
+      let free = begun y k (from_start l) c s (fresh s) e h (λ f. sym (asked-seen c (fresh s) m (g.looks y) mode) ∙ sym (from_start-seen c s l) ∙ f) in
       more-in-order s (call y c (fresh s)).given ts (call y c (fresh s)).rest i (ok.in_order y c (fresh s) s.rest free refl)
   in-order (Continue y) m k c s ts e mode h i =
       let free = begun y k (asked m (g.looks y)) c s s e h (λ f. sym (asked-seen c s m (g.looks y) mode) ∙ f) in

@@ -1,7 +1,7 @@
 -- The rules of the whole grammar pass the test of spellings.
 use Rattle.std.proofs.Common.{◌≡◌, None, Bool, true, false, [], ◌∷◌, refl, if◌then◌else◌}
 use Rattle.parser_input.specs.Kinds.{COLON, BANG, IDENT}
-use Rattle.rust_grammar.specs.Rule.{Production, source_file, macro_items, macro_statements, item, body, assoc_items, variants, record_fields, tuple_fields, visibility, attribute, meta, token_tree, use_tree, use_list, params, param, name, lifetime, name_ref, path, type_path, expr_path, generic_args, generic_arg, generic_params, generic_param, bounds, bound, where_clause, where_pred, any_type, ret_type, pattern, single_pattern, pattern_fields, pattern_field, literal, statement_list, block, statement, macro_statement, statement_end, macro_statement_end, expression, operation, operation_tail, pipe_tail, disjunction, conjunction, comparison, bit_or, bit_xor, bit_and, bit_shift, sum, product, cast, prefixed, postfix, after_dot, arguments, atom, field_values, field_value, block_like, if_expr, match_arms, match_arm, type_no_bounds, Look, Always, Never, Kind, Both, Either, Not, begins, passes, is_silent, shift, in_mode, anew, there_at, pattern_atom, arm_body}
+use Rattle.rust_grammar.specs.Rule.{Production, source_file, macro_items, macro_statements, item, body, assoc_items, variants, record_fields, tuple_fields, visibility, attribute, meta, token_tree, use_tree, use_list, params, param, name, lifetime, name_ref, path, type_path, expr_path, generic_args, generic_arg, generic_params, generic_param, bounds, bound, where_clause, where_pred, any_type, ret_type, pattern, single_pattern, pattern_fields, pattern_field, literal, statement_list, block, statement, macro_statement, statement_end, macro_statement_end, expression, operation, operation_tail, pipe_tail, disjunction, conjunction, comparison, bit_or, bit_xor, bit_and, bit_shift, sum, product, cast, prefixed, postfix, after_dot, arguments, atom, field_values, field_value, block_like, if_expr, match_arms, match_arm, type_no_bounds, Look, Always, Never, Kind, Both, Either, Not, begins, passes, is_silent, shift, in_mode, from_start, there_at, pattern_atom, arm_body}
 use Rattle.rust_grammar.specs.Notation.{row, one_of, any_of, is_longer, no_longer, longest}
 use Rattle.rust_grammar.specs.Shared.{colons_before_more}
 use Rattle.rust_grammar.specs.Spelled.{marks}
@@ -43,7 +43,7 @@ unfoldable pub known : Production → Look
 known x = if asks_nothing x then Always else look_of whole x
 
 pub all_safe : (x : Production) → safe claims None (known x) (rule x) ≡ true
-unfolding known claims asks_nothing gives_something is_one_word ends_before safe counts denies denies_first decided past after_call after_calls after_option after_other look_after at no_end no_end_there same_contextual same_parts is_among is_word is_mark marks same_look is_left is_first is_never tells weakens implies cut sift anew asks without down all_down back asked asks_tokens look_of begins_below begins passes is_silent first_width shift in_mode there_at rule rank whole row one_of any_of is_longer no_longer longest paths types patterns expressions statements items
+unfolding known claims asks_nothing gives_something is_one_word ends_before safe counts denies denies_first decided past after_call after_calls after_option after_other look_after at no_end no_end_there same_contextual same_parts is_among is_word is_mark marks same_look is_left is_first is_never tells weakens implies cut sift from_start asks without down all_down back asked asks_tokens look_of begins_below begins passes is_silent first_width shift in_mode there_at rule rank whole row one_of any_of is_longer no_longer longest paths types patterns expressions statements items
 all_safe source_file = refl
 all_safe macro_items = refl
 all_safe macro_statements = refl

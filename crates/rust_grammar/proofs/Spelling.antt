@@ -5,7 +5,7 @@ use Rattle.parser_input.specs.Kinds.{EOF, FLOAT_NUMBER, PIPE_GT}
 use Rattle.parser_input.specs.Input.{Token}
 use Rattle.parser_events.specs.Forest as forest
 use Rattle.parser_events.specs.Forest.{Forest, ◌then◌}
-use Rattle.rust_grammar.specs.Rule.{Production, Rule, Spelling, Look, Always, Kind, Contextual, Left, Given, Both, Either, Nothing, One, Any, Then, Near, Or, Opt, Star, Node, Wrap, Want, Say, Skip, Split, When, Unless, Call, Continue, Mode, begins, there_at, with_contextual, spelled_at, anew, Lead}
+use Rattle.rust_grammar.specs.Rule.{Production, Rule, Spelling, Look, Always, Kind, Contextual, Left, Given, Both, Either, Nothing, One, Any, Then, Near, Or, Opt, Star, Node, Wrap, Want, Say, Skip, Split, When, Unless, Call, Continue, Mode, begins, there_at, with_contextual, spelled_at, from_start, Lead}
 use Rattle.rust_grammar.specs.Meaning.{Reading, Calls, sees, ahead, is_end}
 use Rattle.rust_grammar.specs.Spelled.{marks, are_next, is_token, is_contextual, has_contextual, is_one_of, is_spelled, is_float, drop_if, then_after, tokens_after}
 use Rattle.rust_grammar.proofs.Plain.{and_l, and_r}
@@ -72,7 +72,7 @@ first_width r = 1
 
 -- What is known after a rule.
 unfoldable pub after_call : Claims → Look → Production → Look
-after_call g k y = if implies k (anew (g.one y)) then back 1 k else (if g.gives y then Given else g.ends y)
+after_call g k y = if implies k (from_start (g.one y)) then back 1 k else (if g.gives y then Given else g.ends y)
 
 unfoldable pub after_calls : Claims → Look → Rule → Look
 after_calls g k (Call y) = if g.gives y then Either k Given else Always
@@ -146,7 +146,7 @@ safe g m k (Want a message) = safe g m (at k (asked m (begins g.looks a))) a
 safe g m k (Say message) = true
 safe g m k (Skip message) = implies k Left
 safe g m k Split = implies k (Kind 0 FLOAT_NUMBER)
-safe g m k (Call y) = let begun = implies k (anew (asked m (g.looks y))) in if g.free y then true else begun
+safe g m k (Call y) = let begun = implies k (from_start (asked m (g.looks y))) in if g.free y then true else begun
 safe g m k (Continue y) = let begun = implies k (asked m (g.looks y)) in if g.free y then true else begun
 safe g m k (Mode d a) = safe g (Some d) (without false true k) a
 safe g m k (Lead a) = safe g m (without true false k) a

@@ -1,6 +1,6 @@
 -- The table of the whole grammar passes the test, so its productions mean what their rules say.
 use Rattle.std.proofs.Common.{◌≡◌, Bool, true, false, refl}
-use Rattle.rust_grammar.specs.Rule.{Production, source_file, macro_items, macro_statements, item, body, assoc_items, variants, record_fields, tuple_fields, visibility, attribute, meta, token_tree, use_tree, use_list, params, param, name, lifetime, name_ref, path, type_path, expr_path, generic_args, generic_arg, generic_params, generic_param, bounds, bound, where_clause, where_pred, any_type, ret_type, pattern, single_pattern, pattern_fields, pattern_field, literal, statement_list, block, statement, macro_statement, statement_end, macro_statement_end, expression, operation, operation_tail, pipe_tail, disjunction, conjunction, comparison, bit_or, bit_xor, bit_and, bit_shift, sum, product, cast, prefixed, postfix, after_dot, arguments, atom, field_values, field_value, block_like, if_expr, match_arms, match_arm, type_no_bounds, begins, passes, is_silent, shift, in_mode, anew, there_at, pattern_atom, arm_body}
+use Rattle.rust_grammar.specs.Rule.{Production, source_file, macro_items, macro_statements, item, body, assoc_items, variants, record_fields, tuple_fields, visibility, attribute, meta, token_tree, use_tree, use_list, params, param, name, lifetime, name_ref, path, type_path, expr_path, generic_args, generic_arg, generic_params, generic_param, bounds, bound, where_clause, where_pred, any_type, ret_type, pattern, single_pattern, pattern_fields, pattern_field, literal, statement_list, block, statement, macro_statement, statement_end, macro_statement_end, expression, operation, operation_tail, pipe_tail, disjunction, conjunction, comparison, bit_or, bit_xor, bit_and, bit_shift, sum, product, cast, prefixed, postfix, after_dot, arguments, atom, field_values, field_value, block_like, if_expr, match_arms, match_arm, type_no_bounds, begins, passes, is_silent, shift, in_mode, from_start, there_at, pattern_atom, arm_body}
 use Rattle.rust_grammar.specs.Notation.{row, one_of, any_of, is_longer, no_longer, longest}
 use Rattle.rust_grammar.specs.Meaning.{Reading, read, meaning, look_of, begins_below}
 use Rattle.rust_grammar.proofs.Fine.{fine, ranked, ranked_at_end, fails, takes}
@@ -46,7 +46,7 @@ claim match_arms = true
 claim x = false
 
 pub all_fine : (x : Production) → fine whole claim x ≡ true
-unfolding fine ranked ranked_at_end fails takes claim look_of begins_below begins passes is_silent shift in_mode anew there_at rule rank whole row one_of any_of is_longer no_longer longest paths types patterns expressions statements items
+unfolding fine ranked ranked_at_end fails takes claim look_of begins_below begins passes is_silent shift in_mode from_start there_at rule rank whole row one_of any_of is_longer no_longer longest paths types patterns expressions statements items
 all_fine source_file = refl
 all_fine macro_items = refl
 all_fine macro_statements = refl
@@ -201,7 +201,7 @@ all_have_rules pattern_atom = refl
 all_have_rules arm_body = refl
 
 pub whole-begins : (x : Production) → look_of whole x ≡ begins (look_of whole) (rule x)
-unfolding look_of begins_below begins passes is_silent shift in_mode anew there_at rule rank whole row one_of any_of is_longer no_longer longest paths types patterns expressions statements items
+unfolding look_of begins_below begins passes is_silent shift in_mode from_start there_at rule rank whole row one_of any_of is_longer no_longer longest paths types patterns expressions statements items
 whole-begins source_file = refl
 whole-begins macro_items = refl
 whole-begins macro_statements = refl

@@ -5,7 +5,7 @@ use Rattle.std.proofs.lemmas.List.{length-drop}
 use Rattle.parser_input.specs.Kinds.{COLON, COLON2, BANG, IDENT, NAME_REF, PATH, PATH_SEGMENT}
 use Rattle.parser_input.specs.Input.{Token}
 use Rattle.parser_events.specs.Forest.{Forest, Message, Expected}
-use Rattle.rust_grammar.specs.Rule.{name_ref, path, expr_path, Rule, Look, Either, Not, Nothing, One, Then, Opt, Star, Want, When, Unless, begins, passes, is_silent, anew, there_at}
+use Rattle.rust_grammar.specs.Rule.{name_ref, path, expr_path, Rule, Look, Either, Not, Nothing, One, Then, Opt, Star, Want, When, Unless, begins, passes, is_silent, from_start, there_at}
 use Rattle.rust_grammar.specs.Meaning.{Reading, read, meaning, sees, ahead, look_of, leaf, fresh, node, wrapped, after}
 use Rattle.rust_grammar.specs.Notation.{◌▸◌, ⁅◌⁆, ◌!, ◌⟨◌⟩, ◌<⟨◌⟩, ◌before◌, row, one_of}
 use Rattle.rust_grammar.specs.Words.{'::', '<'}
@@ -20,7 +20,7 @@ use Rattle.rust_grammar.specs.Items.{items}
 use Rattle.rust_grammar.specs.Whole.{rule, whole}
 use Rattle.rust_grammar.proofs.WholeTable.{whole-means, whole-begins}
 use Rattle.rust_grammar.proofs.Known.{token-left, both-if-l, both-if-r, if-first}
-use Rattle.rust_grammar.proofs.Elsewhere.{anew-seen}
+use Rattle.rust_grammar.proofs.Elsewhere.{from_start-seen}
 use Rattle.rust_grammar.proofs.Spelling.{counts}
 use Rattle.rust_grammar.proofs.Spelled.{counted}
 use Rattle.rust_grammar.proofs.Shrinks.{shrinks, turns-end, no-turns}
@@ -104,7 +104,7 @@ no-segment args c s e = and-false (not (sees c s colons_before_more)) (sees c s 
     and-false false b e = refl
 
 word-begins : (c : Bool) (s : Reading) → ((ahead 0 s.rest).kind == IDENT) ≡ true → sees c s (look_of whole name_ref) ≡ true
-unfolding sees begins anew there_at rule items statements expressions patterns types paths
+unfolding sees begins from_start there_at rule items statements expressions patterns types paths
 word-begins c s e = ap (λ (l : Look). sees c s l) (whole-begins name_ref) ∙ if-first ((ahead 0 s.rest).kind == IDENT) _ e
 
 -- the first segment of a word before a `!` is that word
@@ -115,7 +115,7 @@ word-segment c s e d =
     let w = gives c Ref f in
     let rest : w.rest ≡ drop 1 s.rest = name_ref-takes c (fresh f) in
     let colons : gives c ⁅ One '::' ⁆ f ≡ f = skipped (One '::') c f (no-colons c f (other-kind (ahead 0 s.rest).kind IDENT COLON e refl)) in
-    let word : gives c (Ref !) f ≡ w = wanted-there Ref (Expected NAME_REF) c f (anew-seen c f (look_of whole name_ref) ∙ word-begins c (fresh f) e) in
+    let word : gives c (Ref !) f ≡ w = wanted-there Ref (Expected NAME_REF) c f (from_start-seen c f (look_of whole name_ref) ∙ word-begins c (fresh f) e) in
     let kind : ((ahead 0 w.rest).kind == BANG) ≡ true = ap (λ (ts : List Token). (ahead 0 ts).kind == BANG) rest ∙ ap (λ (t : Token). t.kind == BANG) (next-after s.rest) ∙ d in
     let none : gives c expression_args w ≡ w = skipped (When ('::' before '<') GenericArgs) c w (no-generics c w (other-kind (ahead 0 w.rest).kind BANG COLON kind refl)) in
     let all : gives c (⁅ One '::' ⁆ ▸ Ref ! ▸ expression_args) f ≡ w = ap (λ (u : Reading). gives c expression_args (gives c (Ref !) u)) colons ∙ ap (λ (u : Reading). gives c expression_args u) word ∙ none in

@@ -91,8 +91,8 @@ NodesHaveGivenNothing =
     → sees in_condition s (begins looks (Node kind inside)) ≡ sees in_condition (fresh s) (begins looks inside)
 
 -- Where a token is left, it makes no difference to where a production begins what was given before it.
-abbrev pub CallsBeginAnew : Type 0
-CallsBeginAnew =
+abbrev pub CallsBeginFromStart : Type 0
+CallsBeginFromStart =
     (x : Production) (in_condition : Bool) (s : Reading)
     → 0 < length s.rest → sees in_condition s (look_of all.whole x) ≡ sees in_condition (fresh s) (look_of all.whole x)
 

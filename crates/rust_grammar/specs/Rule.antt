@@ -171,12 +171,12 @@ in_mode c (Not a) = Not (in_mode c a)
 in_mode c l = l
 
 -- a look where nothing was given
-unfoldable pub anew : Look → Look
-anew Given = Never
-anew (Both a b) = Both (anew a) (anew b)
-anew (Either a b) = Either (anew a) (anew b)
-anew (Not a) = Not (anew a)
-anew l = l
+unfoldable pub from_start : Look → Look
+from_start Given = Never
+from_start (Both a b) = Both (from_start a) (from_start b)
+from_start (Either a b) = Either (from_start a) (from_start b)
+from_start (Not a) = Not (from_start a)
+from_start l = l
 
 -- a rule that may give nothing where its looks fail: a sequence looks past it
 unfoldable pub passes : Rule → Bool
@@ -209,13 +209,13 @@ begins f (When l a) = l
 begins f (Unless l a) = Both (Not l) (begins f a)
 begins f (Opt a) = begins f a
 begins f (Star a) = begins f a
-begins f (Node kind a) = anew (begins f a)
+begins f (Node kind a) = from_start (begins f a)
 begins f (Wrap kind a) = begins f a
 begins f (Want a m) = begins f a
 begins f (Say m) = Always
 begins f (Skip m) = Left
 begins f Split = Left
-begins f (Call x) = anew (f x)
+begins f (Call x) = from_start (f x)
 begins f (Continue x) = f x
 begins f (Mode c a) = in_mode c (begins f a)
-begins f (Lead a) = anew (begins f a)
+begins f (Lead a) = from_start (begins f a)

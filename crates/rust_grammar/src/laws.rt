@@ -2,7 +2,7 @@
 
 ghost use Rattle.rust_grammar.specs.Examples.{ExamplesAreRight};
 ghost use Rattle.rust_grammar.specs.Kept.{ProfileBeginsAsBefore, ProfileEntriesAreKept, ProfileReadsAsBefore};
-ghost use Rattle.rust_grammar.specs.Laws.{CallsBeginAnew, CallsHaveGivenNothing, EachProductionHasARule, EntriesAreRooted, EntriesFit, EntriesTakeAllInOrder, LeadsGiveOneNode, NodesHaveGivenNothing, OnlyOneBeginning, OnlyOneReading, OperatorsOfEntriesBindByPower, OperatorsOfProductionsBindByPower, PartsLookAhead, ProductionsTakeInOrder, RepetitionsAreReadTurnByTurn, TokenTreesAreBracketed, WholeProductionsBeginAsTheirRules, WholeProductionsMeanTheirRules};
+ghost use Rattle.rust_grammar.specs.Laws.{CallsBeginFromStart, CallsHaveGivenNothing, EachProductionHasARule, EntriesAreRooted, EntriesFit, EntriesTakeAllInOrder, LeadsGiveOneNode, NodesHaveGivenNothing, OnlyOneBeginning, OnlyOneReading, OperatorsOfEntriesBindByPower, OperatorsOfProductionsBindByPower, PartsLookAhead, ProductionsTakeInOrder, RepetitionsAreReadTurnByTurn, TokenTreesAreBracketed, WholeProductionsBeginAsTheirRules, WholeProductionsMeanTheirRules};
 ghost use Rattle.rust_grammar.specs.Misplaced.{MisplacedOperatorsAreTold};
 
 /// A production gives what its rule gives, where each production that the rule calls gives what it
@@ -30,7 +30,7 @@ pub fn looks_are_of_their_place()
     ensures ahead { PartsLookAhead }
     ensures called { CallsHaveGivenNothing }
     ensures nodes { NodesHaveGivenNothing }
-    ensures anew { CallsBeginAnew }
+    ensures from_start { CallsBeginFromStart }
 {}
 
 /// What a production gives stands over the tokens that it takes, one leaf after another, each over

@@ -1,5 +1,5 @@
 -- How what functions do goes together to what rules say.
-use Rattle.std.proofs.Common.{◌≡◌, ℕ, suc, Bool, true, false, [], ◌∷◌, length, refl, sym, ap, subst, ◌∙◌, None}
+use Rattle.std.proofs.Common.{◌≡◌, ℕ, suc, true, false, [], ◌∷◌, length, refl, sym, ap, subst, ◌∙◌, None}
 use Rattle.parser_input.specs.Kinds.{ERROR}
 use Rattle.parser_events.specs.Forest as forest
 use Rattle.parser_events.specs.Forest.{Forest, Message, ◌then◌}
@@ -10,7 +10,7 @@ use Rattle.rust_productions.specs.Stands.{left, Holds}
 use Rattle.rust_grammar.specs.Rule.{Production, Look, Spelling, Rule, Nothing, One, Any, Then, Near, Or, Opt, Node, Wrap, Want, Say, Skip, When, Unless, Call, Continue, Mode, begins}
 use Rattle.rust_grammar.specs.Meaning.{Reading, ahead, fresh, after, node, wrapped, say, skip, leaf, read, meaning}
 use Rattle.rust_grammar.specs.Whole.{rule, whole}
-use Rattle.rust_productions.specs.Reads.{looks, Opens, Closes, Leaves, Does, Gives, Goes, Reads, Completes, Saw}
+use Rattle.rust_productions.specs.Reads.{looks, Opens, Closes, Leaves, Does, Gives, Goes, Reads, Completes, Saw, Condition, is_on}
 use Rattle.rust_grammar.proofs.WholeTable.{whole-means}
 
 -- nothing is done
@@ -59,7 +59,7 @@ does-inside {f} {old} {mid} {end} {new} o p q = record {
   innermost = λ around i. q.innermost around (p.innermost (suc around) (o.innermost around i));
 }
 
-module _ (c : Bool) where
+module _ (c : Condition) where
   pub reads-nothing : {old new : View} → Does (λ s. s) old new → Reads c Nothing old new
   unfolding read
   reads-nothing p = record { does = does-as (λ s e. refl) p }
@@ -116,7 +116,7 @@ module _ (c : Bool) where
   unfolding read
   reads-more p = record { does = does-as (λ s e. refl) p.does }
 
-  pub reads-mode : {d : Bool} {a : Rule} {old new : View} → Reads d a old new → Reads c (Mode d a) old new
+  pub reads-mode : {d : Condition} {a : Rule} {old new : View} → Reads d a old new → Reads c (Mode (is_on d) a) old new
   unfolding read
   reads-mode p = record { does = does-as (λ s e. refl) p.does }
 
@@ -166,21 +166,21 @@ module _ (c : Bool) where
   reads-skip p = record { does = does-as (λ s e. refl) p }
 
 -- a production's function, from its rule, in a node of its own that is left out in the end
-pub gives : (x : Production) (c : Bool) {old mid end new : View} → Opens old mid → Reads c (rule x) mid end → Leaves end new → Gives x c old new
-gives x c o p q = record { does = does-as (λ s e. ap (λ (t : Reading). after s t) (sym (whole-means x c (fresh s)))) (does-inside o p.does q) }
+pub gives : (x : Production) (c : Condition) {old mid end new : View} → Opens old mid → Reads c (rule x) mid end → Leaves end new → Gives x c old new
+gives x c o p q = record { does = does-as (λ s e. ap (λ (t : Reading). after s t) (sym (whole-means x (is_on c) (fresh s)))) (does-inside o p.does q) }
 
 -- and one that continues
-pub goes : (x : Production) (c : Bool) {old new : View} → Reads c (rule x) old new → Goes x c old new
-goes x c p = record { does = does-as (λ s e. sym (whole-means x c s)) p.does }
+pub goes : (x : Production) (c : Condition) {old new : View} → Reads c (rule x) old new → Goes x c old new
+goes x c p = record { does = does-as (λ s e. sym (whole-means x (is_on c) s)) p.does }
 
 -- A node that is closed at the end of what is read in it.
-module _ {c : Bool} where
+module _ {c : Condition} where
   pub completes-then : {a b : Rule} {old mid new : View} → Reads c a old mid → Completes c b mid new → Completes c (Then a b) old new
   unfolding read
   completes-then {a} p q = record {
     input = q.input ∙ p.does.input;
-    rest = λ s e. q.rest (read looks (meaning whole) c a s) (p.does.rest s e);
-    nodes = λ s around below e h. q.nodes (read looks (meaning whole) c a s) around below (p.does.rest s e) (p.does.nodes s (around ∷ below) e h);
+    rest = λ s e. q.rest (read looks (meaning whole) (is_on c) a s) (p.does.rest s e);
+    nodes = λ s around below e h. q.nodes (read looks (meaning whole) (is_on c) a s) around below (p.does.rest s e) (p.does.nodes s (around ∷ below) e h);
     innermost = λ level i. q.innermost level (p.does.innermost (suc level) i);
   }
 
@@ -190,7 +190,7 @@ module _ {c : Bool} where
   completes-wrap {k} {a} p q = record {
     input = q.input ∙ p.does.input;
     rest = λ s e. q.rest ∙ p.does.rest s e;
-    nodes = λ s around below e h. q.nodes (marked (read looks (meaning whole) c a s).given) around below (p.does.nodes s (around ∷ below) e h);
+    nodes = λ s around below e h. q.nodes (marked (read looks (meaning whole) (is_on c) a s).given) around below (p.does.nodes s (around ∷ below) e h);
     innermost = λ level i. q.innermost level (p.does.innermost (suc level) i);
   }
 
@@ -199,7 +199,7 @@ module _ {c : Bool} where
   completes-leave {a} p q = record {
     input = q.input ∙ p.does.input;
     rest = λ s e. q.rest ∙ p.does.rest s e;
-    nodes = λ s around below e h. q.nodes (marked (read looks (meaning whole) c a s).given) around below (p.does.nodes s (around ∷ below) e h);
+    nodes = λ s around below e h. q.nodes (marked (read looks (meaning whole) (is_on c) a s).given) around below (p.does.nodes s (around ∷ below) e h);
     innermost = λ level i. q.innermost level (p.does.innermost (suc level) i);
   }
 
@@ -211,7 +211,7 @@ module _ {c : Bool} where
     innermost = λ level i. q.innermost level (p.innermost (suc level) i);
   }
 
-  pub completes-as : {a b : Rule} {old new : View} → ((s : Reading) → left old ≡ s.rest → read looks (meaning whole) c a s ≡ read looks (meaning whole) c b s) → Completes c a old new → Completes c b old new
+  pub completes-as : {a b : Rule} {old new : View} → ((s : Reading) → left old ≡ s.rest → read looks (meaning whole) (is_on c) a s ≡ read looks (meaning whole) (is_on c) b s) → Completes c a old new → Completes c b old new
   completes-as {a} {b} {old} {new} same p = record {
     input = p.input;
     rest = λ s e. p.rest s e ∙ ap (λ (t : Reading). t.rest) (same s e);
@@ -222,4 +222,4 @@ module _ {c : Bool} where
   -- what continues the present production, by its row
   pub completes-more : {x : Production} {old new : View} → Completes c (rule x) old new → Completes c (Continue x) old new
   unfolding read
-  completes-more {x} p = completes-as (λ s e. sym (whole-means x c s)) p
+  completes-more {x} p = completes-as (λ s e. sym (whole-means x (is_on c) s)) p

@@ -7,9 +7,9 @@ use Rattle.rust_productions.specs.Stands.{left, Holds}
 use Rattle.rust_grammar.specs.Rule.{Production, Rule, Nothing, One, Any, Then, Near, Or, Opt, Star, Node, Wrap, Want, Say, Skip, Split, When, Unless, Call, Continue, Mode, Lead, begins}
 use Rattle.rust_grammar.specs.Meaning.{Reading, sees, fresh, after, node, wrapped, say, turns, read, meaning}
 use Rattle.rust_grammar.specs.Whole.{rule, whole}
-use Rattle.rust_productions.specs.Reads.{looks, Opens, Leaves, Does, Gives, Reads, Anew, Completes}
+use Rattle.rust_productions.specs.Reads.{looks, Opens, Leaves, Does, Gives, Reads, FromStart, Completes, Condition, is_on}
 use Rattle.rust_productions.proofs.ByHand.{does-as, does-inside, does-then, completes-as}
-use Rattle.rust_productions.proofs.Prefixes.{is_after, reads-anew}
+use Rattle.rust_productions.proofs.Prefixes.{is_after, reads-from_start}
 use Rattle.rust_grammar.proofs.WholeTable.{whole-means}
 use Rattle.rust_productions.proofs.Facts.{Fact, HoldAll, Known, Right, starts, is_start}
 
@@ -114,42 +114,42 @@ module _ (c : Bool) where
     is_simple (Lead a) s e = refl
 
 -- a rule is read as what it comes to here
-pub reads-here : {c : Bool} {fs : List Fact} {r : Rule} {old new : View} → Known c fs old → Reads c (simple fs r) old new → Reads c r old new
-reads-here {c} {fs} {r} {old} {new} known p = record { does = does-as (λ s e. is_simple c old fs known.at r s e) p.does }
+pub reads-here : {c : Condition} {fs : List Fact} {r : Rule} {old new : View} → Known c fs old → Reads c (simple fs r) old new → Reads c r old new
+reads-here {c} {fs} {r} {old} {new} known p = record { does = does-as (λ s e. is_simple (is_on c) old fs known.at r s e) p.does }
 
-pub anew-here : {c : Bool} {fs : List Fact} {r : Rule} {old new : View} → Known c fs old → Anew c (simple fs r) old new → Anew c r old new
+pub from_start-here : {c : Condition} {fs : List Fact} {r : Rule} {old new : View} → Known c fs old → FromStart c (simple fs r) old new → FromStart c r old new
 unfolding fresh
-anew-here {c} {fs} {r} {old} {new} known p = record { does = does-as (λ s e. ap (λ (t : Reading). after s t) (is_simple c old fs known.at r (fresh s) e)) p.does }
+from_start-here {c} {fs} {r} {old} {new} known p = record { does = does-as (λ s e. ap (λ (t : Reading). after s t) (is_simple (is_on c) old fs known.at r (fresh s) e)) p.does }
 
 -- in a node that is left out in the end
-pub anew-inside : {c : Bool} {r : Rule} {old mid end new : View} → Opens old mid → Reads c r mid end → Leaves end new → Anew c r old new
-anew-inside o p q = record { does = does-inside o p.does q }
+pub from_start-inside : {c : Condition} {r : Rule} {old mid end new : View} → Opens old mid → Reads c r mid end → Leaves end new → FromStart c r old new
+from_start-inside o p q = record { does = does-inside o p.does q }
 
 -- in a node that is closed at the end
-pub anew-completes : {c : Bool} {r : Rule} {old mid new : View} → Opens old mid → Completes c r mid new → Anew c r old new
+pub from_start-completes : {c : Condition} {r : Rule} {old mid new : View} → Opens old mid → Completes c r mid new → FromStart c r old new
 unfolding marked fresh after
-anew-completes {c} {r} {old} {mid} {new} o q = record {
+from_start-completes {c} {r} {old} {mid} {new} o q = record {
   does = record {
     input = q.input ∙ o.input;
     rest = λ s e. q.rest (fresh s) (o.rest ∙ e);
     nodes = λ s below e h.
-        subst (λ (t : Marked). Holds new.nodes (t ∷ below)) (sym (marked-then s.given (read looks (meaning whole) c r (fresh s)).given))
+        subst (λ (t : Marked). Holds new.nodes (t ∷ below)) (sym (marked-then s.given (read looks (meaning whole) (is_on c) r (fresh s)).given))
         (q.nodes (fresh s) (marked s.given) below (o.rest ∙ e) (o.nodes (marked s.given) below h));
     innermost = λ around i. q.innermost around (o.innermost around i);
   };
 }
 
 -- after a look
-pub anew-look : {c : Bool} {r : Rule} {old mid new : View} → Does (λ s. s) old mid → Anew c r mid new → Anew c r old new
-anew-look p q = record { does = does-then p q.does }
+pub from_start-look : {c : Condition} {r : Rule} {old mid new : View} → Does (λ s. s) old mid → FromStart c r mid new → FromStart c r old new
+from_start-look p q = record { does = does-then p q.does }
 
-pub completes-here : {c : Bool} {fs : List Fact} {r : Rule} {old new : View} → Known c fs old → Completes c (simple fs r) old new → Completes c r old new
-completes-here {c} {fs} {r} {old} {new} known p = completes-as (λ s e. is_simple c old fs known.at r s e) p
+pub completes-here : {c : Condition} {fs : List Fact} {r : Rule} {old new : View} → Known c fs old → Completes c (simple fs r) old new → Completes c r old new
+completes-here {c} {fs} {r} {old} {new} known p = completes-as (λ s e. is_simple (is_on c) old fs known.at r s e) p
 
 -- in no node, where the rule does not touch what was given
-pub anew-after : {c : Bool} {r : Rule} {old new : View} → is_after looks r ≡ true → Reads c r old new → Anew c r old new
-anew-after {c} {r} {old} {new} plain p = record { does = does-as (λ s e. reads-anew c r s plain) p.does }
+pub from_start-after : {c : Condition} {r : Rule} {old new : View} → is_after looks r ≡ true → Reads c r old new → FromStart c r old new
+from_start-after {c} {r} {old} {new} plain p = record { does = does-as (λ s e. reads-from_start (is_on c) r s plain) p.does }
 
 -- a production's function, from its row
-pub gives-anew : {x : Production} {c : Bool} {old new : View} → Anew c (rule x) old new → Gives x c old new
-gives-anew {x} {c} p = record { does = does-as (λ s e. ap (λ (t : Reading). after s t) (sym (whole-means x c (fresh s)))) p.does }
+pub gives-from_start : {x : Production} {c : Condition} {old new : View} → FromStart c (rule x) old new → Gives x c old new
+gives-from_start {x} {c} p = record { does = does-as (λ s e. ap (λ (t : Reading). after s t) (sym (whole-means x (is_on c) (fresh s)))) p.does }

@@ -3,10 +3,10 @@ use Rattle.std.proofs.Common.{◌≡◌, ℕ, Bool, true, false, not, ◌&&◌, 
 use Rattle.std.proofs.lemmas.Bool.{eqb-true}
 use Rattle.parser_events.specs.View.{View}
 use Rattle.rust_productions.specs.Stands.{left}
-use Rattle.rust_grammar.specs.Rule.{Production, Look, Always, Never, Kind, Contextual, Joint, Whole, Left, InCondition, Given, Both, Either, Not, Rule, Nothing, One, Any, Then, Near, Or, Opt, Star, Node, Wrap, Want, Say, Skip, Split, When, Unless, Call, Continue, Mode, Lead, begins, spelled_at, shift, passes, is_silent, anew}
+use Rattle.rust_grammar.specs.Rule.{Production, Look, Always, Never, Kind, Contextual, Joint, Whole, Left, InCondition, Given, Both, Either, Not, Rule, Nothing, One, Any, Then, Near, Or, Opt, Star, Node, Wrap, Want, Say, Skip, Split, When, Unless, Call, Continue, Mode, Lead, begins, spelled_at, shift, passes, is_silent, from_start}
 use Rattle.rust_grammar.specs.Meaning.{Reading, ahead, sees, fresh}
-use Rattle.rust_productions.specs.Reads.{looks, Saw}
-use Rattle.rust_grammar.proofs.Elsewhere.{anew-seen}
+use Rattle.rust_productions.specs.Reads.{looks, Saw, Condition, is_on}
+use Rattle.rust_grammar.proofs.Elsewhere.{from_start-seen}
 use Rattle.rust_grammar.proofs.Productions.{same_production, same_production-true}
 
 -- The answer of a lookahead; whether a production begins here, with nothing given before it.
@@ -16,28 +16,28 @@ pub data Fact : Type 0 where
 
 abbrev pub Holds : Bool → Reading → Fact → Type 0
 Holds c s (Answers l b) = sees c s l ≡ b
-Holds c s (Begins x b) = sees c s (anew (looks x)) ≡ b
+Holds c s (Begins x b) = sees c s (from_start (looks x)) ≡ b
 
 abbrev pub HoldAll : Bool → Reading → List Fact → Type 0
 HoldAll c s [] = Unit {0}
 HoldAll c s (f ∷ fs) = Holds c s f × HoldAll c s fs
 
 -- what is known of a place
-pub record Known (c : Bool) (fs : List Fact) (v : View) : Type 0 where
-  pub at : (s : Reading) → left v ≡ s.rest → HoldAll c s fs
+pub record Known (c : Condition) (fs : List Fact) (v : View) : Type 0 where
+  pub at : (s : Reading) → left v ≡ s.rest → HoldAll (is_on c) s fs
 
-pub nothing : {c : Bool} {v : View} → Known c [] v
+pub nothing : {c : Condition} {v : View} → Known c [] v
 nothing = record { at = λ s e. tt }
 
 infixr 20 ◌and◌
-pub ◌and◌ : {c : Bool} {l : Look} {b : Bool} {fs : List Fact} {v : View} → Saw c l v b → Known c fs v → Known c (Answers l b ∷ fs) v
+pub ◌and◌ : {c : Condition} {l : Look} {b : Bool} {fs : List Fact} {v : View} → Saw c l v b → Known c fs v → Known c (Answers l b ∷ fs) v
 saw and k = record { at = λ s e. (saw.at s e, k.at s e) }
 
-pub begun : (x : Production) {c : Bool} {b : Bool} {fs : List Fact} {v : View} → Saw c (looks x) v b → Known c fs v → Known c (Begins x b ∷ fs) v
+pub begun : (x : Production) {c : Condition} {b : Bool} {fs : List Fact} {v : View} → Saw c (looks x) v b → Known c fs v → Known c (Begins x b ∷ fs) v
 unfolding fresh
-begun x saw k = record { at = λ s e. (anew-seen _ s (looks x) ∙ saw.at (fresh s) e, k.at s e) }
+begun x saw k = record { at = λ s e. (from_start-seen _ s (looks x) ∙ saw.at (fresh s) e, k.at s e) }
 
-pub saw-so : {c : Bool} {l : Look} {v : View} {a b : Bool} → Saw c l v a → a ≡ b → Saw c l v b
+pub saw-so : {c : Condition} {l : Look} {v : View} {a b : Bool} → Saw c l v a → a ≡ b → Saw c l v b
 saw-so {c} {l} {v} s e = subst (λ (b : Bool). Saw c l v b) e s
 
 -- three values
@@ -158,7 +158,7 @@ of_production (f ∷ fs) x = of_production fs x
 -- whether a production begins here, with nothing given before it
 abbrev pub or_look : Option Bool → List Fact → Production → Option Bool
 or_look (Some b) fs x = Some b
-or_look None fs x = tells fs (anew (looks x))
+or_look None fs x = tells fs (from_start (looks x))
 
 -- whether a rule begins here
 abbrev pub starts : List Fact → Rule → Option Bool
@@ -371,23 +371,23 @@ module _ (c : Bool) (s : Reading) where
   is_told fs h (Either a b) = is_of_look fs h (Either a b) _ (is_either a b (tells fs a) (tells fs b) (is_told fs h a) (is_told fs h b))
   is_told fs h (Not a) = is_neither a (tells fs a) (is_told fs h a)
 
-  is_of_production : (fs : List Fact) → HoldAll c s fs → (x : Production) → Right c s (anew (looks x)) (of_production fs x)
+  is_of_production : (fs : List Fact) → HoldAll c s fs → (x : Production) → Right c s (from_start (looks x)) (of_production fs x)
   is_of_production [] h x = tt
   is_of_production (Begins y d ∷ fs) h x = yes (is_of_production fs h.1 x) (same_production y x) refl
     where
-      yes : Right c s (anew (looks x)) (of_production fs x) → (b : Bool) → same_production y x ≡ b → Right c s (anew (looks x)) (if b then Some d else of_production fs x)
-      yes i true e = ap (λ (z : Production). sees c s (anew (looks z))) (sym (same_production-true y x e)) ∙ h.0
+      yes : Right c s (from_start (looks x)) (of_production fs x) → (b : Bool) → same_production y x ≡ b → Right c s (from_start (looks x)) (if b then Some d else of_production fs x)
+      yes i true e = ap (λ (z : Production). sees c s (from_start (looks z))) (sym (same_production-true y x e)) ∙ h.0
       yes i false e = i
   is_of_production (Answers l b ∷ fs) h x = is_of_production fs h.1 x
 
-  is_or_look : (o : Option Bool) (fs : List Fact) → HoldAll c s fs → (x : Production) → Right c s (anew (looks x)) o → Right c s (anew (looks x)) (or_look o fs x)
+  is_or_look : (o : Option Bool) (fs : List Fact) → HoldAll c s fs → (x : Production) → Right c s (from_start (looks x)) o → Right c s (from_start (looks x)) (or_look o fs x)
   is_or_look (Some b) fs h x r = r
-  is_or_look None fs h x r = is_told fs h (anew (looks x))
+  is_or_look None fs h x r = is_told fs h (from_start (looks x))
 
   -- a look of a place where nothing was given
-  is_anew : (l : Look) (o : Option Bool) → Right c (fresh s) l o → Right c s (anew l) o
-  is_anew l None h = tt
-  is_anew l (Some b) h = anew-seen c s l ∙ h
+  is_from_start : (l : Look) (o : Option Bool) → Right c (fresh s) l o → Right c s (from_start l) o
+  is_from_start l None h = tt
+  is_from_start l (Some b) h = from_start-seen c s l ∙ h
 
 -- Whether a rule begins here is as the facts tell, if they hold here, and also where nothing was given.
 pub is_start : (c : Bool) (s : Reading) (fs : List Fact) → HoldAll c s fs → HoldAll c (fresh s) fs → (r : Rule) → Right c s (begins looks r) (starts fs r)
@@ -411,7 +411,7 @@ is_start c s fs h i (When l a) = is_told c s fs h l
 is_start c s fs h i (Unless l a) = is_both c s (Not l) (begins looks a) _ (starts fs a) (is_neither c s l (tells fs l) (is_told c s fs h l)) (is_start c s fs h i a)
 is_start c s fs h i (Opt a) = is_start c s fs h i a
 is_start c s fs h i (Star a) = is_start c s fs h i a
-is_start c s fs h i (Node k a) = is_anew c s (begins looks a) (starts fs a) (is_start c (fresh s) fs i i a)
+is_start c s fs h i (Node k a) = is_from_start c s (begins looks a) (starts fs a) (is_start c (fresh s) fs i i a)
 is_start c s fs h i (Wrap k a) = is_start c s fs h i a
 is_start c s fs h i (Want a m) = is_start c s fs h i a
 is_start c s fs h i (Say m) = refl
@@ -420,4 +420,4 @@ is_start c s fs h i Split = is_of_left c s fs h
 is_start c s fs h i (Call x) = is_or_look c s (of_production fs x) fs h x (is_of_production c s fs h x)
 is_start c s fs h i (Continue x) = is_told c s fs h (looks x)
 is_start c s fs h i (Mode d a) = tt
-is_start c s fs h i (Lead a) = is_anew c s (begins looks a) (starts fs a) (is_start c (fresh s) fs i i a)
+is_start c s fs h i (Lead a) = is_from_start c s (begins looks a) (starts fs a) (is_start c (fresh s) fs i i a)

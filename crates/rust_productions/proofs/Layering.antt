@@ -11,7 +11,7 @@ use Rattle.rust_grammar.specs.Meaning.{Reading, after, begins_below, fresh, look
 use Rattle.rust_grammar.specs.Notation.{◌!, any_of, is_longer, no_longer, longest, one_of, row}
 use Rattle.rust_grammar.specs.Paths.{paths}
 use Rattle.rust_grammar.specs.Patterns.{patterns}
-use Rattle.rust_grammar.specs.Rule.{disjunction, operation_tail, prefixed, Look, Rule, Call, Continue, One, Star, Then, Want, Wrap, begins, in_mode, anew, is_silent, passes, shift, there_at}
+use Rattle.rust_grammar.specs.Rule.{disjunction, operation_tail, prefixed, Look, Rule, Call, Continue, One, Star, Then, Want, Wrap, begins, in_mode, from_start, is_silent, passes, shift, there_at}
 use Rattle.rust_grammar.specs.Statements.{statements}
 use Rattle.rust_grammar.specs.Types.{types}
 use Rattle.rust_grammar.specs.Whole.{rule, whole}
@@ -19,12 +19,12 @@ use Rattle.rust_grammar.specs.Words.{'as'}
 use Rattle.rust_grammar.proofs.WholeTable.{whole-begins}
 use Rattle.rust_productions.specs.Layers.{layer_at, layers, operators, operators_at, repeated, turn_at, turns_from}
 use Rattle.rust_productions.specs.Operators.{IsNext}
-use Rattle.rust_productions.specs.Reads.{looks, Anew, Completes, Does, Gives, Leaves, Opens, Reads, Saw}
+use Rattle.rust_productions.specs.Reads.{looks, FromStart, Completes, Does, Gives, Leaves, Opens, Reads, Saw, Condition, is_on}
 use Rattle.rust_productions.specs.Stands.{left}
 use Rattle.rust_productions.specs.declared.grammar.operators.Operator.{Operator}
 use Rattle.rust_productions.proofs.Powers.{AllEnd, Layered, LayersFrom, NoTurns, gives-layers, last-layers, more-layers, next-layers}
 use Rattle.rust_productions.proofs.ByHand.{does-as, does-then}
-use Rattle.rust_productions.proofs.Choices.{anew-completes, anew-inside}
+use Rattle.rust_productions.proofs.Choices.{from_start-completes, from_start-inside}
 use Rattle.rust_productions.proofs.Seen.{ends-at-end}
 use Rattle.rust_productions.proofs.Facts.{saw-so}
 use Rattle.rust_productions.proofs.Turns.{EndsAtEnd}
@@ -48,7 +48,7 @@ turn-begins (suc (suc (suc (suc (suc (suc (suc (suc (suc (suc (suc (suc zero))))
 turn-begins (suc (suc (suc (suc (suc (suc (suc (suc (suc (suc (suc (suc (suc n))))))))))))) = refl
 
 -- none begins where no token is left
-operators-end : (c : Bool) (h : ℕ) → EndsAtEnd c (operators_at h)
+operators-end : (c : Condition) (h : ℕ) → EndsAtEnd c (operators_at h)
 unfolding operators_at operators longest no_longer is_longer there_at sees begins
 operators-end c zero = ends-at-end c (operators_at 0) refl
 operators-end c (suc zero) = ends-at-end c (operators_at 1) refl
@@ -65,10 +65,10 @@ operators-end c (suc (suc (suc (suc (suc (suc (suc (suc (suc (suc (suc zero)))))
 operators-end c (suc (suc (suc (suc (suc (suc (suc (suc (suc (suc (suc (suc zero)))))))))))) = ends-at-end c (operators_at 12) refl
 operators-end c (suc (suc (suc (suc (suc (suc (suc (suc (suc (suc (suc (suc (suc n))))))))))))) = λ t none. refl
 
-turn-ends : (c : Bool) (h : ℕ) → EndsAtEnd c (turn_at h)
-turn-ends c h = λ t none. ap (λ l. sees c t l) (turn-begins h) ∙ operators-end c h t none
+turn-ends : (c : Condition) (h : ℕ) → EndsAtEnd c (turn_at h)
+turn-ends c h = λ t none. ap (λ l. sees (is_on c) t l) (turn-begins h) ∙ operators-end c h t none
 
-all-end : (c : Bool) (n low : ℕ) → AllEnd c (turns_from n low)
+all-end : (c : Condition) (n low : ℕ) → AllEnd c (turns_from n low)
 unfolding turns_from
 all-end c zero low = tt
 all-end c (suc n) low = (turn-ends c low, all-end c n (suc low))
@@ -88,21 +88,21 @@ row-at (suc (suc (suc (suc (suc (suc (suc (suc zero)))))))) e = refl
 row-at (suc (suc (suc (suc (suc (suc (suc (suc (suc zero))))))))) e = refl
 row-at (suc (suc (suc (suc (suc (suc (suc (suc (suc (suc n)))))))))) e = absurd (omega (arith, e))
 
-operands-anew : anew (looks prefixed) ≡ looks prefixed
-unfolding look_of begins_below whole rule items statements expressions patterns types paths there_at shift passes is_silent begins in_mode anew row one_of any_of no_longer longest is_longer
-operands-anew = refl
+operands-from_start : from_start (looks prefixed) ≡ looks prefixed
+unfolding look_of begins_below whole rule items statements expressions patterns types paths there_at shift passes is_silent begins in_mode from_start row one_of any_of no_longer longest is_longer
+operands-from_start = refl
 
 -- so each begins where an operand does
 pub layer-begins : (h : ℕ) → h ≤ 10 → looks (layer_at h) ≡ looks prefixed
 unfolding layer_at layers begins passes is_silent
 layer-begins zero low = refl
 layer-begins (suc h) low =
-    whole-begins (layer_at (suc h)) ∙ ap (λ (r : Rule). begins looks r) (row-at h (omega (arith, low))) ∙ ap (λ (l : Look). anew l) (layer-begins h (omega (arith, low))) ∙ operands-anew
+    whole-begins (layer_at (suc h)) ∙ ap (λ (r : Rule). begins looks r) (row-at h (omega (arith, low))) ∙ ap (λ (l : Look). from_start l) (layer-begins h (omega (arith, low))) ∙ operands-from_start
 
-pub saw-layer : {c b : Bool} {v : View} (h : ℕ) → h ≤ 10 → Saw c (looks prefixed) v b → Saw c (looks (layer_at h)) v b
+pub saw-layer : {c : Condition} {b : Bool} {v : View} (h : ℕ) → h ≤ 10 → Saw c (looks prefixed) v b → Saw c (looks (layer_at h)) v b
 saw-layer {c} {b} {v} h low saw = subst (λ (l : Look). Saw c l v b) (sym (layer-begins h low)) saw
 
-pub saw-disjunction : {c b : Bool} {v : View} → Saw c (looks prefixed) v b → Saw c (looks disjunction) v b
+pub saw-disjunction : {c : Condition} {b : Bool} {v : View} → Saw c (looks prefixed) v b → Saw c (looks disjunction) v b
 unfolding layer_at layers
 saw-disjunction saw = saw-layer 10 (omega arith) saw
 
@@ -113,7 +113,7 @@ one-more (suc n) low =
     ap (λ xs. turn_at low ∷ xs) (one-more n (suc low) ∙ ap (λ (m : ℕ). turns_from n (suc low) ++ (turn_at m ∷ [])) (let e : n + suc low ≡ suc n + low = omega arith in e))
 
 -- a layer is its operands with the turns of all layers up to it
-pub layered : (c : Bool) (h : ℕ) → h ≤ 10 → Layered c (layer_at h) prefixed (turns_from h 1)
+pub layered : (c : Condition) (h : ℕ) → h ≤ 10 → Layered c (layer_at h) prefixed (turns_from h 1)
 unfolding turns_from layer_at layers read fresh after
 layered c zero low = λ s. refl
 layered c (suc h) low =
@@ -130,7 +130,7 @@ parted (suc d) n low =
     (parted d n (suc low) ∙ ap (λ (m : ℕ). turns_from d (suc low) ++ (turn_at m ∷ turns_from n (suc m))) (let e : d + suc low ≡ suc d + low = omega arith in e))
 
 -- layers whose operators the next one is none of have no turn here
-no-turns : {o : Operator} {v : View} (c : Bool) → IsNext o v → (n low : ℕ) → 1 ≤ low → low + n ≤ 13 → (o.height < low) ⊎ (low + n ≤ o.height) → NoTurns c v (turns_from n low)
+no-turns : {o : Operator} {v : View} (c : Condition) → IsNext o v → (n low : ℕ) → 1 ≤ low → low + n ≤ 13 → (o.height < low) ⊎ (low + n ≤ o.height) → NoTurns c v (turns_from n low)
 unfolding turns_from
 no-turns c next zero low p q apart = tt
 no-turns {o} {v} c next (suc n) low p q apart = (
@@ -148,12 +148,12 @@ no-turns {o} {v} c next (suc n) low p q apart = (
     further (inr x) = inr (omega (arith, x))
 
 -- the operator that is next begins a turn of its layer
-turn-next : {o : Operator} {v : View} (c : Bool) → IsNext o v → 1 ≤ o.height → Saw c (begins looks (turn_at o.height)) v true
+turn-next : {o : Operator} {v : View} (c : Condition) → IsNext o v → 1 ≤ o.height → Saw c (begins looks (turn_at o.height)) v true
 turn-next {o} {v} c next is = subst (λ l. Saw c l v true) (sym (turn-begins o.height)) (saw-so (next.sees c o.height is next.low) (eq-eqb o.height o.height refl))
 
 -- One more turn, of a layer from the lowest that is allowed up to the top: from there on that layer and those above it are.
 pub next-turn-of :
-    {o : Operator} {all : List Rule} {entry now next : View} (c : Bool) (lowest top : ℕ) → 1 ≤ lowest → lowest ≤ o.height → o.height ≤ top → top ≤ 10
+    {o : Operator} {all : List Rule} {entry now next : View} (c : Condition) (lowest top : ℕ) → 1 ≤ lowest → lowest ≤ o.height → o.height ≤ top → top ≤ 10
     → LayersFrom c all (turns_from (top + 1 - lowest) lowest) entry now → IsNext o now → Reads c (turn_at o.height) now next → length (left next) < length (left now)
     → LayersFrom c all (turns_from (top + 1 - o.height) o.height) entry next
 unfolding turns_from
@@ -172,7 +172,7 @@ next-turn-of {o} {all} {entry} {now} {next} c lowest top some from to high at is
 
 -- No turn is left, where the next operator is of none of these layers.
 pub last-turn-of :
-    {o : Operator} {all : List Rule} {entry now end : View} (c : Bool) (lowest top : ℕ) → 1 ≤ lowest → lowest ≤ top + 1 → top ≤ 10 → (o.height < lowest) ⊎ (top < o.height)
+    {o : Operator} {all : List Rule} {entry now end : View} (c : Condition) (lowest top : ℕ) → 1 ≤ lowest → lowest ≤ top + 1 → top ≤ 10 → (o.height < lowest) ⊎ (top < o.height)
     → LayersFrom c all (turns_from (top + 1 - lowest) lowest) entry now → IsNext o now → Does (λ s. s) now end → Reads c (repeated all) entry end
 last-turn-of {o} {all} {entry} {now} {end} c lowest top some low high apart at is does =
     last-layers c all (turns_from (top + 1 - lowest) lowest) entry now end (all-end c (top + 1 - lowest) lowest) at
@@ -183,17 +183,17 @@ last-turn-of {o} {all} {entry} {now} {end} c lowest top some low high apart at i
     whole (inr x) = inr (omega (arith, x, low))
 
 -- At the start of a rule, an operand and the turns after it read as the production of layer `h`.
-pub anew-layers :
-    {b : Rule} {old mid new : View} (c : Bool) (h : ℕ) → h ≤ 10 → Opens old mid → Completes c (Then (Then (Call prefixed) (repeated (turns_from h 1))) b) mid new
-    → Anew c (Then (Call (layer_at h)) b) old new
+pub from_start-layers :
+    {b : Rule} {old mid new : View} (c : Condition) (h : ℕ) → h ≤ 10 → Opens old mid → Completes c (Then (Then (Call prefixed) (repeated (turns_from h 1))) b) mid new
+    → FromStart c (Then (Call (layer_at h)) b) old new
 unfolding read fresh after
-anew-layers {b} {old} {mid} {new} c h low o q =
-    let first : Anew c (Then (Then (Call prefixed) (repeated (turns_from h 1))) b) old new = anew-completes o q in
-    record { does = does-as (λ s e. ap (λ (t : Reading). after s (read (look_of whole) (meaning whole) c b t)) (sym (layered c h low s))) first.does }
+from_start-layers {b} {old} {mid} {new} c h low o q =
+    let first : FromStart c (Then (Then (Call prefixed) (repeated (turns_from h 1))) b) old new = from_start-completes o q in
+    record { does = does-as (λ s e. ap (λ (t : Reading). after s (read (look_of whole) (meaning whole) (is_on c) b t)) (sym (layered c h low s))) first.does }
 
 pub gives-layer :
-    {old mid end new : View} (c : Bool) (h : ℕ) → h ≤ 10 → Opens old mid → Reads c (Then (Call prefixed) (repeated (turns_from h 1))) mid end → Leaves end new → Gives (layer_at h) c old new
-gives-layer c h low o p q = gives-layers c (layer_at h) prefixed (turns_from h 1) (layered c h low) (anew-inside o p q)
+    {old mid end new : View} (c : Condition) (h : ℕ) → h ≤ 10 → Opens old mid → Reads c (Then (Call prefixed) (repeated (turns_from h 1))) mid end → Leaves end new → Gives (layer_at h) c old new
+gives-layer c h low o p q = gives-layers c (layer_at h) prefixed (turns_from h 1) (layered c h low) (from_start-inside o p q)
 
 -- a turn of a layer of operands
 pub binary-turn : (h : ℕ) → 1 ≤ h → nat_eq h 1 ≡ false → turn_at h ≡ Wrap BIN_EXPR (Then (operators_at h) (Want (Call (layer_at (h - 1))) ExpectedExpression))
@@ -208,6 +208,6 @@ cast-turn = refl
 
 -- After an operand that was read: the turns of all layers, and what follows these.
 pub reads-after-operand :
-    {c : Bool} {old mid new : View} → Reads c (repeated (turns_from 10 1)) old mid → Reads c (Continue operation_tail) mid new → Reads c after_operand old new
+    {c : Condition} {old mid new : View} → Reads c (repeated (turns_from 10 1)) old mid → Reads c (Continue operation_tail) mid new → Reads c after_operand old new
 unfolding turns_from turn_at operators_at operators layer_at layers read
 reads-after-operand p q = record { does = does-as (λ s e. refl) (does-then p.does q.does) }

@@ -1,5 +1,5 @@
 -- The trees before one tree become its first children.
-use Rattle.std.proofs.Common.{◌≡◌, ◌<◌, ℕ, arith, Bool, true, false, suc, ◌∷◌, refl, sym, ap, subst, ◌∙◌}
+use Rattle.std.proofs.Common.{◌≡◌, ◌<◌, ℕ, arith, true, false, suc, ◌∷◌, refl, sym, ap, subst, ◌∙◌}
 use Rattle.parser_input.specs.Kinds.{FIELD_EXPR}
 use Rattle.parser_events.specs.Fits.{IsRooted}
 use Rattle.parser_events.specs.Forest as forest
@@ -20,7 +20,7 @@ use Rattle.rust_grammar.specs.Statements.{statements}
 use Rattle.rust_grammar.specs.Types.{types}
 use Rattle.rust_grammar.specs.Whole.{rule, whole}
 use Rattle.rust_grammar.proofs.Leading.{leads-give-one-node}
-use Rattle.rust_productions.specs.Reads.{looks, Does, Extends, Opens, Reads}
+use Rattle.rust_productions.specs.Reads.{looks, Does, Extends, Opens, Reads, Condition, is_on}
 use Rattle.rust_productions.specs.Stands.{left, Holds}
 use Rattle.rust_productions.proofs.ByHand.{does-as}
 
@@ -43,8 +43,8 @@ marked-into g f r = absurd r
 
 -- The trees that were given before a lead go first into the one node that it reads.
 pub reads-lead :
-    {c : Bool} {a : Rule} {old mid end new : View}
-    → ((s : Reading) → IsRooted (read looks (meaning whole) c a (fresh s)).given)
+    {c : Condition} {a : Rule} {old mid end new : View}
+    → ((s : Reading) → IsRooted (read looks (meaning whole) (is_on c) a (fresh s)).given)
     → Opens old mid
     → Reads c a mid end
     → Extends end new
@@ -55,21 +55,21 @@ reads-lead {c} {a} {old} {mid} {end} {new} rooted o p q = record {
     input = q.input ∙ p.does.input ∙ o.input;
     rest = λ s e. q.rest ∙ p.does.rest (fresh s) (o.rest ∙ e);
     nodes = λ s below e h.
-        subst (λ (t : Marked). Holds new.nodes (t ∷ below)) (marked-into s.given (read looks (meaning whole) c a (fresh s)).given (rooted s))
-        (q.nodes (marked (read looks (meaning whole) c a (fresh s)).given) (marked s.given) below (p.does.nodes (fresh s) (marked s.given ∷ below) (o.rest ∙ e) (o.nodes (marked s.given) below h)));
+        subst (λ (t : Marked). Holds new.nodes (t ∷ below)) (marked-into s.given (read looks (meaning whole) (is_on c) a (fresh s)).given (rooted s))
+        (q.nodes (marked (read looks (meaning whole) (is_on c) a (fresh s)).given) (marked s.given) below (p.does.nodes (fresh s) (marked s.given ∷ below) (o.rest ∙ e) (o.nodes (marked s.given) below h)));
     innermost = λ around i. q.innermost around (p.does.innermost (suc around) (o.innermost around i));
   };
 }
 
 -- An operand is one tree, and so is an expression that ends in a block.
-pub operand-rooted : (c : Bool) (s : Reading) → IsRooted (read looks (meaning whole) c Prefixed (fresh s)).given
+pub operand-rooted : (c : Condition) (s : Reading) → IsRooted (read looks (meaning whole) (is_on c) Prefixed (fresh s)).given
 unfolding leads rule whole items statements expressions patterns types paths
 operand-rooted c s =
     let some : 0 < 1 = omega arith in
-    leads-give-one-node prefixed 0 Prefixed some c s
+    leads-give-one-node prefixed 0 Prefixed some (is_on c) s
 
-pub block-rooted : (c : Bool) (s : Reading) → IsRooted (read looks (meaning whole) c BlockLike (fresh s)).given
+pub block-rooted : (c : Condition) (s : Reading) → IsRooted (read looks (meaning whole) (is_on c) BlockLike (fresh s)).given
 unfolding leads rule whole items statements expressions patterns types paths
 block-rooted c s =
     let some : 0 < 2 = omega arith in
-    leads-give-one-node statement 0 BlockLike some c s
+    leads-give-one-node statement 0 BlockLike some (is_on c) s

@@ -15,7 +15,7 @@ use Rattle.rust_productions.specs.Stands.{left}
 use Rattle.rust_productions.specs.Looks.{tokens, spent}
 use Rattle.rust_grammar.specs.Rule.{Kind, Contextual, Joint, Whole, Left}
 use Rattle.rust_grammar.specs.Meaning.{Reading, sees, ahead}
-use Rattle.rust_productions.specs.Reads.{Saw}
+use Rattle.rust_productions.specs.Reads.{Saw, Condition, On}
 
 -- a look at a token ahead
 seen-token : (v : View) (n : ℕ) → token_at v.input (v.position + n) ≡ ahead n (left v)
@@ -31,23 +31,23 @@ seen-token v n = sym (get_or-drop v.position v.input n (plain EOF)) ∙ look n (
 pub kind-ahead : (v : View) (n : ℕ) → (token_at v.input (v.position + n)).kind ≡ (ahead n (left v)).kind
 kind-ahead v n = ap (λ (t : Token). t.kind) (seen-token v n)
 
-pub saw-next : (c : Bool) (n : ℕ) (v : View) (kind : ℕ) (answer : Bool) → answer ≡ nat_eq (token_at v.input (v.position + n)).kind kind → Saw c (Kind n kind) v answer
+pub saw-next : (c : Condition) (n : ℕ) (v : View) (kind : ℕ) (answer : Bool) → answer ≡ nat_eq (token_at v.input (v.position + n)).kind kind → Saw c (Kind n kind) v answer
 unfolding sees
 saw-next c n v kind answer is = record {
   at = λ s e. ap (λ (ts : List Token). (ahead n ts).kind == kind) (sym e) ∙ ap (λ (k : ℕ). nat_eq k kind) (sym (kind-ahead v n)) ∙ sym is;
 }
 
 -- `saw-next` for raw kinds
-pub saw-kind : (c : Bool) (n : ℕ) (v : View) (seen_kind raw kind : ℕ) → seen_kind ≡ (token_at v.input (v.position + n)).kind → raw ≡ kind → Saw c (Kind n kind) v (nat_eq seen_kind raw)
+pub saw-kind : (c : Condition) (n : ℕ) (v : View) (seen_kind raw kind : ℕ) → seen_kind ≡ (token_at v.input (v.position + n)).kind → raw ≡ kind → Saw c (Kind n kind) v (nat_eq seen_kind raw)
 saw-kind c n v seen_kind raw kind is same = saw-next c n v kind _ (ap (λ (n : ℕ). nat_eq seen_kind n) same ∙ ap (λ (n : ℕ). nat_eq n kind) is)
 
-pub saw-joint : (c : Bool) (n : ℕ) (v : View) (answer : Bool) → answer ≡ (token_at v.input (v.position + n)).joint → Saw c (Joint n) v answer
+pub saw-joint : (c : Condition) (n : ℕ) (v : View) (answer : Bool) → answer ≡ (token_at v.input (v.position + n)).joint → Saw c (Joint n) v answer
 unfolding sees
 saw-joint c n v answer is = record {
   at = λ s e. ap (λ (ts : List Token). (ahead n ts).joint) (sym e) ∙ ap (λ (t : Token). t.joint) (sym (seen-token v n)) ∙ sym is;
 }
 
-pub saw-whole : (c : Bool) (n : ℕ) (v : View) (answer : Bool) → answer ≡ (token_at v.input (v.position + n)).whole → Saw c (Whole n) v answer
+pub saw-whole : (c : Condition) (n : ℕ) (v : View) (answer : Bool) → answer ≡ (token_at v.input (v.position + n)).whole → Saw c (Whole n) v answer
 unfolding sees
 saw-whole c n v answer is = record {
   at = λ s e. ap (λ (ts : List Token). (ahead n ts).whole) (sym e) ∙ ap (λ (t : Token). t.whole) (sym (seen-token v n)) ∙ sym is;
@@ -62,7 +62,7 @@ some-whole v answer is e = some-left (left v) (ap (λ (t : Token). t.whole) (sym
     some-left [] h = absurd (let z : false ≡ true = h in cc)
     some-left (t ∷ ts) h = omega arith
 
-pub saw-contextual : (c : Bool) (n : ℕ) (v : View) (seen_kind raw kind : ℕ) → seen_kind ≡ (token_at v.input (v.position + n)).contextual → raw ≡ kind → Saw c (Contextual n kind) v (nat_eq seen_kind raw)
+pub saw-contextual : (c : Condition) (n : ℕ) (v : View) (seen_kind raw kind : ℕ) → seen_kind ≡ (token_at v.input (v.position + n)).contextual → raw ≡ kind → Saw c (Contextual n kind) v (nat_eq seen_kind raw)
 unfolding sees
 saw-contextual c n v seen_kind raw kind is same = record {
   at = λ s e.
@@ -83,14 +83,14 @@ some-contextual n v seen_kind kind raw is same e some =
     few-words n (left v) seen_kind (sym (is ∙ ap (λ (t : Token). t.contextual) (seen-token v n))) (λ z. some (sym e ∙ sym (eqb-true seen_kind raw same) ∙ z))
 
 -- a token of a kind is next
-pub saw-arm : {c : Bool} {n : ℕ} {v : View} {result kind : SyntaxKind} → result ≡ kind → ((k : ℕ) → Saw c (Kind n k) v (raw_of result == k)) → Saw c (Kind n (raw_of kind)) v true
+pub saw-arm : {c : Condition} {n : ℕ} {v : View} {result kind : SyntaxKind} → result ≡ kind → ((k : ℕ) → Saw c (Kind n k) v (raw_of result == k)) → Saw c (Kind n (raw_of kind)) v true
 saw-arm {c} {n} {v} {result} {kind} is saw = subst (λ (b : Bool). Saw c (Kind n (raw_of kind)) v b) (eq-eqb (raw_of result) (raw_of kind) (ap raw_of is)) (saw (raw_of kind))
 
 raw_of-injective : (a b : SyntaxKind) → raw_of a ≡ raw_of b → a ≡ b
 raw_of-injective a b e = let f = slice_get-kinds a in let g = slice_get-kinds b in cc
 
 -- none of that kind is
-pub saw-not : {c : Bool} {n : ℕ} {v : View} {result kind : SyntaxKind} → (result ≡ kind → ⊥) → ((k : ℕ) → Saw c (Kind n k) v (raw_of result == k)) → Saw c (Kind n (raw_of kind)) v false
+pub saw-not : {c : Condition} {n : ℕ} {v : View} {result kind : SyntaxKind} → (result ≡ kind → ⊥) → ((k : ℕ) → Saw c (Kind n k) v (raw_of result == k)) → Saw c (Kind n (raw_of kind)) v false
 saw-not {c} {n} {v} {result} {kind} differs saw = subst (λ (b : Bool). Saw c (Kind n (raw_of kind)) v b) (unequal (raw_of result == raw_of kind) refl) (saw (raw_of kind))
   where
     unequal : (b : Bool) → (raw_of result == raw_of kind) ≡ b → b ≡ false
@@ -114,12 +114,12 @@ some-ahead n v seen_kind kind raw is same e some =
     few-left n (left v) seen_kind (sym (is ∙ kind-ahead v n)) (λ z. some (sym e ∙ sym (eqb-true seen_kind raw same) ∙ z))
 
 -- the kind of the next token
-pub kind-of-next : {v : View} (kind : SyntaxKind) → ((c : Bool) (k : ℕ) → Saw c (Kind 0 k) v (raw_of kind == k)) → (s : Reading) → left v ≡ s.rest → (ahead 0 s.rest).kind ≡ raw_of kind
+pub kind-of-next : {v : View} (kind : SyntaxKind) → ((c : Condition) (k : ℕ) → Saw c (Kind 0 k) v (raw_of kind == k)) → (s : Reading) → left v ≡ s.rest → (ahead 0 s.rest).kind ≡ raw_of kind
 unfolding sees
-kind-of-next kind saw s e = eqb-true _ _ ((saw true (raw_of kind)).at s e ∙ eq-eqb (raw_of kind) (raw_of kind) refl)
+kind-of-next kind saw s e = eqb-true _ _ ((saw On (raw_of kind)).at s e ∙ eq-eqb (raw_of kind) (raw_of kind) refl)
 
 -- whether a token is left
-pub saw-some : (c : Bool) (v : View) (kind : SyntaxKind) → raw_of kind ≡ (token_at v.input (v.position + 0)).kind → (v.position + 0 < length v.input → raw_of kind ≢ EOF) → Saw c Left v (not (raw_of kind == EOF))
+pub saw-some : (c : Condition) (v : View) (kind : SyntaxKind) → raw_of kind ≡ (token_at v.input (v.position + 0)).kind → (v.position + 0 < length v.input → raw_of kind ≢ EOF) → Saw c Left v (not (raw_of kind == EOF))
 unfolding sees ahead
 saw-some c v kind is some = record { at = λ s e. ap (λ (ts : List Token). nat_lt 0 (length ts)) (sym e) ∙ end (left v) refl (raw_of kind == EOF) refl }
   where
@@ -134,10 +134,10 @@ saw-some c v kind is some = record { at = λ s e. ap (λ (ts : List Token). nat_
     end (t ∷ ts) e false f = lt-ltb 0 (length (t ∷ ts)) (omega arith)
 
 -- from what the next token is
-pub left-arm : {c : Bool} {v : View} {result kind : SyntaxKind} → result ≡ kind → Saw c Left v (not (raw_of result == EOF)) → Saw c Left v (not (raw_of kind == EOF))
+pub left-arm : {c : Condition} {v : View} {result kind : SyntaxKind} → result ≡ kind → Saw c Left v (not (raw_of result == EOF)) → Saw c Left v (not (raw_of kind == EOF))
 left-arm {c} {v} is saw = subst (λ (k : SyntaxKind). Saw c Left v (not (raw_of k == EOF))) is saw
 
-pub left-not : {c : Bool} {v : View} {result : SyntaxKind} → (result ≡ kinds.EOF → ⊥) → Saw c Left v (not (raw_of result == EOF)) → Saw c Left v true
+pub left-not : {c : Condition} {v : View} {result : SyntaxKind} → (result ≡ kinds.EOF → ⊥) → Saw c Left v (not (raw_of result == EOF)) → Saw c Left v true
 left-not {c} {v} {result} differs saw = subst (λ (b : Bool). Saw c Left v (not b)) (unequal (raw_of result == EOF) refl) saw
   where
     unequal : (b : Bool) → (raw_of result == EOF) ≡ b → b ≡ false

@@ -11,7 +11,7 @@ use Rattle.rust_grammar.specs.Whole.{whole}
 use Rattle.rust_productions.specs.Layers.{operators_at}
 use Rattle.rust_productions.specs.Looks.{tokens}
 use Rattle.rust_productions.specs.Operators.{IsNext}
-use Rattle.rust_productions.specs.Reads.{looks, Does}
+use Rattle.rust_productions.specs.Reads.{looks, Does, Condition, is_on}
 use Rattle.rust_productions.specs.Stands.{left}
 use Rattle.rust_productions.specs.declared.grammar.operators.Operator.{Operator}
 use Rattle.rust_productions.proofs.Choices.{is_simple, simple}
@@ -64,16 +64,16 @@ reads-leaf c r k w s e = absurd (let z : false ≡ true = e in cc)
 -- the known facts determine the next operator
 pub operator-next :
     {o : Operator} {fs : List Fact} {v : View} (h : ℕ) (k : SyntaxKind) (w : ℕ) → o ≡ record { height = h; kind = k; width = w } → h ≤ 12 → 1 ≤ w → w ≤ tokens v
-    → ((c : Bool) → Known c fs v) → are_told fs h 12 ≡ true → is_leaf (simple fs (operators_at h)) (raw_of k) w ≡ true → IsNext o v
+    → ((c : Condition) → Known c fs v) → are_told fs h 12 ≡ true → is_leaf (simple fs (operators_at h)) (raw_of k) w ≡ true → IsNext o v
 operator-next {o} {fs} {v} h k w is low some left known told one = subst (λ (p : Operator). IsNext p v) (sym is) (record {
   low = low;
   some = λ z. (some, left);
   sees = λ c j p q. starts-here (operators_at j) (known c) (one-told fs h 12 told j p q);
-  reads = λ c s p e. sym (is_simple c v fs (known c).at (operators_at h) s e) ∙ reads-leaf c (simple fs (operators_at h)) (raw_of k) w s one;
+  reads = λ c s p e. sym (is_simple (is_on c) v fs (known c).at (operators_at h) s e) ∙ reads-leaf (is_on c) (simple fs (operators_at h)) (raw_of k) w s one;
 })
 
 -- that none is
-pub none-next : {o : Operator} {fs : List Fact} {v : View} → o.height ≡ 0 → ((c : Bool) → Known c fs v) → are_told fs 0 12 ≡ true → IsNext o v
+pub none-next : {o : Operator} {fs : List Fact} {v : View} → o.height ≡ 0 → ((c : Condition) → Known c fs v) → are_told fs 0 12 ≡ true → IsNext o v
 none-next {o} {fs} {v} none known told = record {
   low = omega (arith, none);
   some = λ z. absurd (omega (arith, none, z));
@@ -85,7 +85,7 @@ none-next {o} {fs} {v} none known told = record {
 pub assigned-next :
     {o q : Operator} {v : View} (fs : Bool → List Fact) (joined : Bool) (h : ℕ) (k m : SyntaxKind)
     → o ≡ (if joined then record { height = 12; kind = m; width = 2 } else q) → q ≡ record { height = h; kind = k; width = 1 } → h ≤ 12 → 1 ≤ tokens v → (joined ≡ true → 2 ≤ tokens v)
-    → ((b : Bool) → joined ≡ b → (c : Bool) → Known c (fs b) v)
+    → ((b : Bool) → joined ≡ b → (c : Condition) → Known c (fs b) v)
     → are_told (fs true) 12 12 ≡ true → is_leaf (simple (fs true) (operators_at 12)) (raw_of m) 2 ≡ true
     → are_told (fs false) h 12 ≡ true → is_leaf (simple (fs false) (operators_at h)) (raw_of k) 1 ≡ true → IsNext o v
 assigned-next fs true h k m is plain low some more known told one told2 one2 = operator-next 12 m 2 is (omega arith) (omega arith) (more refl) (known true refl) told one

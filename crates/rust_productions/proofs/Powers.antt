@@ -1,43 +1,43 @@
 -- Layers of operators, one within the other, that one loop reads: it keeps the layers whose operators may still follow.
-use Rattle.std.proofs.Common.{◌≡◌, ◌<◌, Bool, true, false, List, [], ◌∷◌, ◌++◌, length, refl, sym, ap, ◌∙◌, arith}
+use Rattle.std.proofs.Common.{◌≡◌, ◌<◌, true, false, List, [], ◌∷◌, ◌++◌, length, refl, sym, ap, ◌∙◌, arith}
 use Rattle.parser_events.specs.View.{View}
 use Rattle.rust_productions.specs.Stands.{left}
 use Rattle.rust_productions.specs.Layers.{repeated}
 use Rattle.rust_grammar.specs.Rule.{Production, Rule, Then, Star, Call, begins}
 use Rattle.rust_grammar.specs.Meaning.{Reading, sees, fresh, after, read, meaning}
 use Rattle.rust_grammar.specs.Whole.{rule, whole}
-use Rattle.rust_productions.specs.Reads.{looks, Does, Gives, Reads, Anew, Saw}
+use Rattle.rust_productions.specs.Reads.{looks, Does, Gives, Reads, FromStart, Saw, Condition, is_on}
 use Rattle.rust_productions.proofs.ByHand.{does-then, does-as}
 use Rattle.rust_productions.proofs.Turns.{EndsAtEnd, no-turn, one-turn}
 use Rattle.rust_grammar.proofs.WholeTable.{whole-means}
 
 -- no layer has a turn here
-abbrev pub NoTurns : Bool → View → List Rule → Type 0
+abbrev pub NoTurns : Condition → View → List Rule → Type 0
 NoTurns c v [] = Unit {0}
 NoTurns c v (a ∷ xs) = Saw c (begins looks a) v false × NoTurns c v xs
 
 -- none of them begins where no token is left
-abbrev pub AllEnd : Bool → List Rule → Type 0
+abbrev pub AllEnd : Condition → List Rule → Type 0
 AllEnd c [] = Unit {0}
 AllEnd c (a ∷ xs) = EndsAtEnd c a × AllEnd c xs
 
 -- What is read from `entry` on is read once the turns of the layers that are still allowed are.
-pub record LayersFrom (c : Bool) (all allowed : List Rule) (entry now : View) : Type 0 where
+pub record LayersFrom (c : Condition) (all allowed : List Rule) (entry now : View) : Type 0 where
   pub rest : (end : View) → Reads c (repeated allowed) now end → Reads c (repeated all) entry end
 
-pub first-layers : {c : Bool} {all : List Rule} {v : View} → LayersFrom c all all v v
+pub first-layers : {c : Condition} {all : List Rule} {v : View} → LayersFrom c all all v v
 first-layers = record { rest = λ end p. p }
 
-module _ (c : Bool) where
+module _ (c : Condition) where
   abbrev does : Rule → Reading → Reading
-  does r s = read looks (meaning whole) c r s
+  does r s = read looks (meaning whole) (is_on c) r s
 
   -- layers that have no turn here are passed
   passed : (xs bs : List Rule) (v : View) → AllEnd c xs → NoTurns c v xs → (s : Reading) → left v ≡ s.rest → does (repeated (xs ++ bs)) s ≡ does (repeated bs) s
   unfolding read
   passed [] bs v ends none s e = refl
   passed (a ∷ xs) bs v (end, ends) (ended, none) s e =
-      ap (λ (t : Reading). does (repeated (xs ++ bs)) t) (no-turn (λ t. sees c t (begins looks a)) (does a) end s (ended.at s e))
+      ap (λ (t : Reading). does (repeated (xs ++ bs)) t) (no-turn (λ t. sees (is_on c) t (begins looks a)) (does a) end s (ended.at s e))
       ∙ passed xs bs v ends none s e
 
   -- One more turn, of a layer where those that bind more have none: from here on that layer and those that bind less are allowed.
@@ -50,7 +50,7 @@ module _ (c : Bool) where
     rest = λ last q.
         at.rest last (record {
           does = does-as (λ s e.
-              ap (λ (t : Reading). does (repeated looser) t) (sym (one-turn (λ t. sees c t (begins looks a)) (does a) end s (saw.at s e) (shorter s e)))
+              ap (λ (t : Reading). does (repeated looser) t) (sym (one-turn (λ t. sees (is_on c) t (begins looks a)) (does a) end s (saw.at s e) (shorter s e)))
               ∙ sym (passed tighter (a ∷ looser) now ends none s e))
               (does-then p.does q.does);
         });
@@ -63,7 +63,7 @@ module _ (c : Bool) where
   unfolding read
   nothing-left [] v ends none s e = refl
   nothing-left (a ∷ xs) v (end, ends) (ended, none) s e =
-      ap (λ (t : Reading). does (repeated xs) t) (no-turn (λ t. sees c t (begins looks a)) (does a) end s (ended.at s e))
+      ap (λ (t : Reading). does (repeated xs) t) (no-turn (λ t. sees (is_on c) t (begins looks a)) (does a) end s (ended.at s e))
       ∙ nothing-left xs v ends none s e
 
   -- no turn is left of any layer that is allowed
@@ -74,7 +74,7 @@ module _ (c : Bool) where
 
   -- A production that is these layers around a base: what it gives, with nothing given before it.
   abbrev pub Layered : Production → Production → List Rule → Type 0
-  Layered x base xs = (s : Reading) → meaning whole x c (fresh s) ≡ does (Then (Call base) (repeated xs)) (fresh s)
+  Layered x base xs = (s : Reading) → meaning whole x (is_on c) (fresh s) ≡ does (Then (Call base) (repeated xs)) (fresh s)
 
   joined : (xs : List Rule) (b : Rule) (s : Reading) → does (repeated (xs ++ (b ∷ []))) s ≡ does (Star b) (does (repeated xs) s)
   unfolding read
@@ -84,16 +84,16 @@ module _ (c : Bool) where
   -- the innermost layer
   pub one-layer : (x base : Production) (b : Rule) → rule x ≡ Then (Call base) (Star b) → Layered x base (b ∷ [])
   unfolding read
-  one-layer x base b is s = whole-means x c (fresh s) ∙ ap (λ (r : Rule). does r (fresh s)) is
+  one-layer x base b is s = whole-means x (is_on c) (fresh s) ∙ ap (λ (r : Rule). does r (fresh s)) is
 
   -- one more layer around them
   pub more-layers : (x y base : Production) (xs : List Rule) (b : Rule) → rule x ≡ Then (Call y) (Star b) → Layered y base xs → Layered x base (xs ++ (b ∷ []))
   unfolding read fresh after
   more-layers x y base xs b is inner s =
-      whole-means x c (fresh s)
+      whole-means x (is_on c) (fresh s)
       ∙ ap (λ (r : Rule). does r (fresh s)) is
       ∙ ap (λ (t : Reading). does (Star b) t) (inner s)
       ∙ sym (joined xs b (does (Call base) (fresh s)))
 
-  pub gives-layers : (x base : Production) (xs : List Rule) {old new : View} → Layered x base xs → Anew c (Then (Call base) (repeated xs)) old new → Gives x c old new
+  pub gives-layers : (x base : Production) (xs : List Rule) {old new : View} → Layered x base xs → FromStart c (Then (Call base) (repeated xs)) old new → Gives x c old new
   gives-layers x base xs is p = record { does = does-as (λ s e. ap (λ (t : Reading). after s t) (sym (is s))) p.does }

@@ -121,8 +121,8 @@ read-after f call c (Mode d a) g s e = read-after f call d a g s e
 read-after f call c (Lead a) g s e = absurd (let z : false ≡ true = e in cc)
 
 -- such a rule reads the same after what was given
-pub reads-anew : (c : Bool) (r : Rule) (s : Reading) → is_after looks r ≡ true → read (look_of whole) (meaning whole) c r s ≡ after s (read (look_of whole) (meaning whole) c r (fresh s))
+pub reads-from_start : (c : Bool) (r : Rule) (s : Reading) → is_after looks r ≡ true → read (look_of whole) (meaning whole) c r s ≡ after s (read (look_of whole) (meaning whole) c r (fresh s))
 unfolding after fresh
-reads-anew c r s plain =
+reads-from_start c r s plain =
     ap (λ (g : Forest). read (look_of whole) (meaning whole) c r (record { given = g; rest = s.rest })) (sym (then-end s.given))
     ∙ read-after (look_of whole) (meaning whole) c r s.given (fresh s) plain

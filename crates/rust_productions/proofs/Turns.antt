@@ -6,7 +6,7 @@ use Rattle.rust_productions.specs.Stands.{left}
 use Rattle.rust_grammar.specs.Rule.{Rule, Star, begins}
 use Rattle.rust_grammar.specs.Meaning.{Reading, sees, read, look_of, meaning, turns}
 use Rattle.rust_grammar.specs.Whole.{whole}
-use Rattle.rust_productions.specs.Reads.{looks, Does, Reads, Saw}
+use Rattle.rust_productions.specs.Reads.{looks, Does, Reads, Saw, Condition, is_on}
 use Rattle.rust_productions.specs.Turns.{TurnsFrom}
 use Rattle.rust_productions.proofs.ByHand.{does-then, does-as}
 
@@ -54,19 +54,19 @@ module _ (test : Reading → Bool) (turn : Reading → Reading) (ends : (t : Rea
   pub no-turn : (s : Reading) → test s ≡ false → turns (length s.rest) test turn s ≡ s
   no-turn s e = stays (length s.rest) s e
 
-pub first-turn : {c : Bool} {a : Rule} {v : View} → TurnsFrom c a v v
+pub first-turn : {c : Condition} {a : Rule} {v : View} → TurnsFrom c a v v
 first-turn = record { rest = λ end p. p }
 
 -- The rule does not begin where no token is left.
-abbrev pub EndsAtEnd : Bool → Rule → Type 0
-EndsAtEnd c a = (t : Reading) → length t.rest ≡ 0 → sees c t (begins looks a) ≡ false
+abbrev pub EndsAtEnd : Condition → Rule → Type 0
+EndsAtEnd c a = (t : Reading) → length t.rest ≡ 0 → sees (is_on c) t (begins looks a) ≡ false
 
-module _ (c : Bool) (a : Rule) (ends : EndsAtEnd c a) where
+module _ (c : Condition) (a : Rule) (ends : EndsAtEnd c a) where
   abbrev test : Reading → Bool
-  test t = sees c t (begins looks a)
+  test t = sees (is_on c) t (begins looks a)
 
   abbrev turn : Reading → Reading
-  turn = read (look_of whole) (meaning whole) c a
+  turn = read (look_of whole) (meaning whole) (is_on c) a
 
   -- one more turn, which takes a token
   pub next-turn : (entry now next : View) → TurnsFrom c a entry now → Saw c (begins looks a) now true → Reads c a now next → length (left next) < length (left now) → TurnsFrom c a entry next

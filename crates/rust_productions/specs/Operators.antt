@@ -9,7 +9,7 @@ use Rattle.rust_grammar.specs.Whole.{whole}
 use Rattle.rust_grammar.specs.Words.{'dots', 'dots_eq'}
 use Rattle.rust_productions.specs.Layers.{operators_at}
 use Rattle.rust_productions.specs.Looks.{tokens}
-use Rattle.rust_productions.specs.Reads.{looks, Saw}
+use Rattle.rust_productions.specs.Reads.{looks, Saw, Condition, is_on}
 use Rattle.rust_productions.specs.Stands.{left}
 use Rattle.rust_productions.specs.declared.grammar.operators.Operator.{Operator}
 use Rattle.rust_productions.specs.declared.grammar.operators.RangeMark.{RangeMark}
@@ -19,8 +19,8 @@ use Rattle.rust_productions.specs.declared.grammar.operators.RangeMark.TheVarian
 pub record IsNext (o : Operator) (v : View) : Type 0 where
   pub low : o.height ≤ 12
   pub some : 1 ≤ o.height → (1 ≤ o.width) × (o.width ≤ tokens v)
-  pub sees : (c : Bool) (h : ℕ) → 1 ≤ h → h ≤ 12 → Saw c (begins looks (operators_at h)) v (o.height == h)
-  pub reads : (c : Bool) (s : Reading) → 1 ≤ o.height → left v ≡ s.rest → read (look_of whole) (meaning whole) c (operators_at o.height) s ≡ leaf (raw_of o.kind) o.width s
+  pub sees : (c : Condition) (h : ℕ) → 1 ≤ h → h ≤ 12 → Saw c (begins looks (operators_at h)) v (o.height == h)
+  pub reads : (c : Condition) (s : Reading) → 1 ≤ o.height → left v ≡ s.rest → read (look_of whole) (meaning whole) (is_on c) (operators_at o.height) s ≡ leaf (raw_of o.kind) o.width s
 
 -- an operator of one of the layers is next
 pub record IsLayerNext (o : Operator) (v : View) : Type 0 where
@@ -43,6 +43,6 @@ is_inclusive m = false
 
 -- this mark is next, or none is
 pub record IsMark (m : Option RangeMark) (v : View) : Type 0 where
-  pub dots : (c : Bool) → Saw c (longest 'dots') v (is_exclusive m)
-  pub dots_eq : (c : Bool) → Saw c (longest 'dots_eq') v (is_inclusive m)
+  pub dots : (c : Condition) → Saw c (longest 'dots') v (is_exclusive m)
+  pub dots_eq : (c : Condition) → Saw c (longest 'dots_eq') v (is_inclusive m)
   pub some : IfSome m (λ mark. length (spelling_of mark).parts ≤ tokens v)

@@ -6,7 +6,7 @@
 //! The functions that write a step are `#[inline(never)]`: inlined, their calls that may allocate
 //! would nearly double the frames of the functions that nest.
 
-ghost use Rattle.std.specs.Prelude.{◌≡◌, ◌≢◌, ◌+◌, ◌≤◌, ◌==◌, Bool, not, ℕ, IsTrue, [], ◌∷◌};
+ghost use Rattle.std.specs.Prelude.{◌≡◌, ◌≢◌, ◌+◌, ◌≤◌, ◌==◌, not, ℕ, IsTrue, [], ◌∷◌};
 ghost use Rattle.parser_input.specs.Kind.{raw_of};
 ghost use Rattle.parser_input.specs.Kinds as kinds;
 ghost use Rattle.parser_events.specs.Forest.{Expected};
@@ -18,7 +18,7 @@ ghost use Rattle.rust_grammar.specs.Shared.{dots_dot};
 ghost use Rattle.rust_grammar.specs.Rule.{Kind, Contextual, Whole, Left, Say, Skip, Any, Want, Opt, there_at, One};
 ghost use Rattle.rust_grammar.specs.Meaning.{wrapped};
 ghost use Rattle.rust_grammar.specs.Words.{one, joined};
-ghost use Rattle.rust_productions.specs.Reads.{Opens, Closes, Leaves, Extends, Does, Reads, Saw};
+ghost use Rattle.rust_productions.specs.Reads.{Opens, Closes, Leaves, Extends, Does, Reads, Saw, Condition};
 
 use parser_events::message::Message;
 use parser_events::parser::{Marker, Parser};
@@ -58,8 +58,8 @@ pub fn tokens_left(p: &Parser<'_>) -> usize
 
 /// Returns the kind of the next token.
 pub fn current(p: &mut Parser<'_>) -> SyntaxKind
-    ensures sees { (c : Bool) (kind : ℕ) → Saw c (Kind 0 kind) p.old (raw_of result == kind) }
-    ensures end { (c : Bool) → Saw c Left p.old (not (raw_of result == kinds.EOF)) }
+    ensures sees { (c : Condition) (kind : ℕ) → Saw c (Kind 0 kind) p.old (raw_of result == kind) }
+    ensures end { (c : Condition) → Saw c Left p.old (not (raw_of result == kinds.EOF)) }
     ensures some { raw_of result ≢ kinds.EOF → 1 ≤ tokens p.old }
     ensures peeks { Peeks 1 p.old p.new }
 {
@@ -68,7 +68,7 @@ pub fn current(p: &mut Parser<'_>) -> SyntaxKind
 
 /// Returns the kind of the token `n` tokens ahead.
 pub fn nth(p: &mut Parser<'_>, n: usize) -> SyntaxKind
-    ensures sees { (c : Bool) (kind : ℕ) → Saw c (Kind n kind) p.old (raw_of result == kind) }
+    ensures sees { (c : Condition) (kind : ℕ) → Saw c (Kind n kind) p.old (raw_of result == kind) }
     ensures peeks { Peeks 1 p.old p.new }
 {
     p.kind_at(n)
@@ -76,7 +76,7 @@ pub fn nth(p: &mut Parser<'_>, n: usize) -> SyntaxKind
 
 /// Returns `true` if the next token is of this kind.
 pub fn at(p: &mut Parser<'_>, kind: SyntaxKind) -> bool
-    ensures sees { (c : Bool) → Saw c (Kind 0 (raw_of kind)) p.old result }
+    ensures sees { (c : Condition) → Saw c (Kind 0 (raw_of kind)) p.old result }
     ensures some { IsTrue result → raw_of kind ≢ kinds.EOF → 1 ≤ tokens p.old }
     ensures peeks { Peeks 1 p.old p.new }
 {
@@ -85,7 +85,7 @@ pub fn at(p: &mut Parser<'_>, kind: SyntaxKind) -> bool
 
 /// Returns `true` if the second token is of this kind.
 pub fn at_second(p: &mut Parser<'_>, kind: SyntaxKind) -> bool
-    ensures sees { (c : Bool) → Saw c (Kind 1 (raw_of kind)) p.old result }
+    ensures sees { (c : Condition) → Saw c (Kind 1 (raw_of kind)) p.old result }
     ensures some { IsTrue result → raw_of kind ≢ kinds.EOF → 2 ≤ tokens p.old }
     ensures peeks { Peeks 1 p.old p.new }
 {
@@ -94,7 +94,7 @@ pub fn at_second(p: &mut Parser<'_>, kind: SyntaxKind) -> bool
 
 /// Returns `true` if the third token is of this kind.
 pub fn at_third(p: &mut Parser<'_>, kind: SyntaxKind) -> bool
-    ensures sees { (c : Bool) → Saw c (Kind 2 (raw_of kind)) p.old result }
+    ensures sees { (c : Condition) → Saw c (Kind 2 (raw_of kind)) p.old result }
     ensures some { IsTrue result → raw_of kind ≢ kinds.EOF → 3 ≤ tokens p.old }
     ensures peeks { Peeks 1 p.old p.new }
 {
@@ -103,7 +103,7 @@ pub fn at_third(p: &mut Parser<'_>, kind: SyntaxKind) -> bool
 
 /// Returns `true` if the next token is an identifier that is of this kind as a contextual keyword.
 pub fn at_contextual(p: &mut Parser<'_>, kind: SyntaxKind) -> bool
-    ensures sees { (c : Bool) → Saw c (Contextual 0 (raw_of kind)) p.old result }
+    ensures sees { (c : Condition) → Saw c (Contextual 0 (raw_of kind)) p.old result }
     ensures some { IsTrue result → raw_of kind ≢ kinds.EOF → 1 ≤ tokens p.old }
     ensures same { Does (λ s. s) p.old p.new }
     ensures stays { Stays p.old p.new }
@@ -114,7 +114,7 @@ pub fn at_contextual(p: &mut Parser<'_>, kind: SyntaxKind) -> bool
 /// Returns `true` if the second token is an identifier that is of this kind as a contextual
 /// keyword.
 pub(crate) fn at_second_contextual(p: &mut Parser<'_>, kind: SyntaxKind) -> bool
-    ensures sees { (c : Bool) → Saw c (Contextual 1 (raw_of kind)) p.old result }
+    ensures sees { (c : Condition) → Saw c (Contextual 1 (raw_of kind)) p.old result }
     ensures some { IsTrue result → raw_of kind ≢ kinds.EOF → 2 ≤ tokens p.old }
     ensures same { Does (λ s. s) p.old p.new }
     ensures stays { Stays p.old p.new }
@@ -125,7 +125,7 @@ pub(crate) fn at_second_contextual(p: &mut Parser<'_>, kind: SyntaxKind) -> bool
 /// Returns `true` if the next token is read by the grammar of the whole language; `false` past the
 /// end. It counts no lookahead.
 pub fn at_whole(p: &mut Parser<'_>) -> bool
-    ensures sees { (c : Bool) → Saw c (Whole 0) p.old result }
+    ensures sees { (c : Condition) → Saw c (Whole 0) p.old result }
     ensures some { IsTrue result → 1 ≤ tokens p.old }
     ensures same { Does (λ s. s) p.old p.new }
     ensures stays { Stays p.old p.new }
@@ -136,7 +136,7 @@ pub fn at_whole(p: &mut Parser<'_>) -> bool
 /// Returns `true` if the next token is of this kind and is read by the grammar of the whole
 /// language.
 pub fn at_new(p: &mut Parser<'_>, kind: SyntaxKind) -> bool
-    ensures sees { (c : Bool) → Saw c (wide (next (one (raw_of kind)))) p.old result }
+    ensures sees { (c : Condition) → Saw c (wide (next (one (raw_of kind)))) p.old result }
     ensures some { IsTrue result → 1 ≤ tokens p.old }
     ensures peeks { Peeks 1 p.old p.new }
 {
@@ -148,7 +148,7 @@ pub fn at_new(p: &mut Parser<'_>, kind: SyntaxKind) -> bool
 
 /// Returns `true` if the next two tokens are of these kinds and touch.
 pub fn at_pair(p: &mut Parser<'_>, first: SyntaxKind, second: SyntaxKind) -> bool
-    ensures sees { (c : Bool) → Saw c (there_at 0 (raw_of first ∷ raw_of second ∷ [])) p.old result }
+    ensures sees { (c : Condition) → Saw c (there_at 0 (raw_of first ∷ raw_of second ∷ [])) p.old result }
     ensures some { IsTrue result → raw_of second ≢ kinds.EOF → 2 ≤ tokens p.old }
     ensures peeks { Peeks 2 p.old p.new }
 {
@@ -163,7 +163,7 @@ pub fn at_pair(p: &mut Parser<'_>, first: SyntaxKind, second: SyntaxKind) -> boo
 
 /// Returns `true` if the second and the third token are of these kinds and touch.
 pub fn at_pair_after(p: &mut Parser<'_>, first: SyntaxKind, second: SyntaxKind) -> bool
-    ensures sees { (c : Bool) → Saw c (there_at 1 (raw_of first ∷ raw_of second ∷ [])) p.old result }
+    ensures sees { (c : Condition) → Saw c (there_at 1 (raw_of first ∷ raw_of second ∷ [])) p.old result }
     ensures some { IsTrue result → raw_of second ≢ kinds.EOF → 3 ≤ tokens p.old }
     ensures peeks { Peeks 2 p.old p.new }
 {
@@ -178,7 +178,7 @@ pub fn at_pair_after(p: &mut Parser<'_>, first: SyntaxKind, second: SyntaxKind) 
 
 /// Returns `true` if the fourth token is of this kind.
 fn at_fourth(p: &mut Parser<'_>, kind: SyntaxKind) -> bool
-    ensures sees { (c : Bool) → Saw c (Kind 3 (raw_of kind)) p.old result }
+    ensures sees { (c : Condition) → Saw c (Kind 3 (raw_of kind)) p.old result }
     ensures peeks { Peeks 1 p.old p.new }
 {
     p.kind_at(3).to_raw() == kind.to_raw()
@@ -186,7 +186,7 @@ fn at_fourth(p: &mut Parser<'_>, kind: SyntaxKind) -> bool
 
 /// Returns `true` if the fifth token is of this kind.
 fn at_fifth(p: &mut Parser<'_>, kind: SyntaxKind) -> bool
-    ensures sees { (c : Bool) → Saw c (Kind 4 (raw_of kind)) p.old result }
+    ensures sees { (c : Condition) → Saw c (Kind 4 (raw_of kind)) p.old result }
     ensures some { IsTrue result → raw_of kind ≢ kinds.EOF → 5 ≤ tokens p.old }
     ensures peeks { Peeks 1 p.old p.new }
 {
@@ -195,7 +195,7 @@ fn at_fifth(p: &mut Parser<'_>, kind: SyntaxKind) -> bool
 
 /// Returns `true` if the fourth and the fifth token are of these kinds and touch.
 pub(crate) fn at_fourth_pair(p: &mut Parser<'_>, first: SyntaxKind, second: SyntaxKind) -> bool
-    ensures sees { (c : Bool) → Saw c (there_at 3 (raw_of first ∷ raw_of second ∷ [])) p.old result }
+    ensures sees { (c : Condition) → Saw c (there_at 3 (raw_of first ∷ raw_of second ∷ [])) p.old result }
     ensures some { IsTrue result → raw_of second ≢ kinds.EOF → 5 ≤ tokens p.old }
     ensures peeks { Peeks 2 p.old p.new }
 {
@@ -210,7 +210,7 @@ pub(crate) fn at_fourth_pair(p: &mut Parser<'_>, first: SyntaxKind, second: Synt
 
 /// Returns `true` if the third and the fourth token are of these kinds and touch.
 pub(crate) fn at_third_pair(p: &mut Parser<'_>, first: SyntaxKind, second: SyntaxKind) -> bool
-    ensures sees { (c : Bool) → Saw c (there_at 2 (raw_of first ∷ raw_of second ∷ [])) p.old result }
+    ensures sees { (c : Condition) → Saw c (there_at 2 (raw_of first ∷ raw_of second ∷ [])) p.old result }
     ensures peeks { Peeks 2 p.old p.new }
 {
     if !at_third(p, first) {
@@ -224,7 +224,7 @@ pub(crate) fn at_third_pair(p: &mut Parser<'_>, first: SyntaxKind, second: Synta
 
 /// Returns `true` if three dots are next, of which the second and the third touch.
 pub fn at_dots_dot(p: &mut Parser<'_>) -> bool
-    ensures sees { (c : Bool) → Saw c dots_dot p.old result }
+    ensures sees { (c : Condition) → Saw c dots_dot p.old result }
     ensures some { IsTrue result → 3 ≤ tokens p.old }
     ensures peeks { Peeks 3 p.old p.new }
 {
@@ -261,7 +261,6 @@ pub fn complete(p: &mut Parser<'_>, marker: Marker, kind: SyntaxKind)
 }
 
 /// Abandons the marker's node.
-#[inline(never)]
 pub fn abandon(p: &mut Parser<'_>, marker: Marker)
     requires { IsInnermost marker p.old.nodes }
     ensures leaves { Leaves p.old p.new }
@@ -284,7 +283,7 @@ pub fn extend_left(p: &mut Parser<'_>, marker: Marker)
 /// Emits an error.
 #[inline(never)]
 pub fn error(p: &mut Parser<'_>, message: Message)
-    ensures reads { (c : Bool) → Reads c (Say (message_of message)) p.old p.new }
+    ensures reads { (c : Condition) → Reads c (Say (message_of message)) p.old p.new }
     ensures stays { Stays p.old p.new }
 {
     p.error(message);
@@ -294,7 +293,7 @@ pub fn error(p: &mut Parser<'_>, message: Message)
 #[inline(never)]
 pub fn take(p: &mut Parser<'_>, kind: SyntaxKind)
     requires { 1 ≤ tokens p.old }
-    ensures reads { (c : Bool) → Reads c (One (one (raw_of kind))) p.old p.new }
+    ensures reads { (c : Condition) → Reads c (One (one (raw_of kind))) p.old p.new }
     ensures left { tokens p.new + 1 ≡ tokens p.old }
     ensures looks { spent p.new + 4096 ≡ spent p.old }
 {
@@ -305,7 +304,7 @@ pub fn take(p: &mut Parser<'_>, kind: SyntaxKind)
 #[inline(never)]
 pub fn take_pair(p: &mut Parser<'_>, kind: SyntaxKind)
     requires { 2 ≤ tokens p.old }
-    ensures reads { (c : Bool) (first second : ℕ)
+    ensures reads { (c : Condition) (first second : ℕ)
         → Reads c (One (joined (raw_of kind) (first ∷ second ∷ []))) p.old p.new }
     ensures left { tokens p.new + 2 ≡ tokens p.old }
     ensures looks { spent p.new + 8192 ≡ spent p.old }
@@ -317,7 +316,7 @@ pub fn take_pair(p: &mut Parser<'_>, kind: SyntaxKind)
 #[inline(never)]
 pub fn take_contextual(p: &mut Parser<'_>, word: SyntaxKind)
     requires { 1 ≤ tokens p.old }
-    ensures reads { (c : Bool) → Reads c (One (joined (raw_of word) (kinds.IDENT ∷ []))) p.old p.new }
+    ensures reads { (c : Condition) → Reads c (One (joined (raw_of word) (kinds.IDENT ∷ []))) p.old p.new }
     ensures left { tokens p.new + 1 ≡ tokens p.old }
     ensures looks { spent p.new + 4096 ≡ spent p.old }
 {
@@ -328,7 +327,7 @@ pub fn take_contextual(p: &mut Parser<'_>, word: SyntaxKind)
 #[inline(never)]
 pub fn take_any(p: &mut Parser<'_>)
     requires { 1 ≤ tokens p.old }
-    ensures reads { (c : Bool) → Reads c Any p.old p.new }
+    ensures reads { (c : Condition) → Reads c Any p.old p.new }
     ensures left { tokens p.new + 1 ≡ tokens p.old }
     ensures looks { spent p.new + 4095 ≤ spent p.old }
 {
@@ -340,7 +339,7 @@ pub fn take_any(p: &mut Parser<'_>)
 #[inline(never)]
 pub fn eat(p: &mut Parser<'_>, kind: SyntaxKind)
     requires { raw_of kind ≢ kinds.EOF }
-    ensures reads { (c : Bool) → Reads c (Opt (One (one (raw_of kind)))) p.old p.new }
+    ensures reads { (c : Condition) → Reads c (Opt (One (one (raw_of kind)))) p.old p.new }
     ensures asks { Asks 1 p.old p.new }
 {
     if !at(p, kind) {
@@ -353,7 +352,7 @@ pub fn eat(p: &mut Parser<'_>, kind: SyntaxKind)
 #[inline(never)]
 pub fn expect(p: &mut Parser<'_>, kind: SyntaxKind)
     requires { raw_of kind ≢ kinds.EOF }
-    ensures reads { (c : Bool) → Reads c (Want (One (one (raw_of kind))) (Expected (raw_of kind))) p.old p.new }
+    ensures reads { (c : Condition) → Reads c (Want (One (one (raw_of kind))) (Expected (raw_of kind))) p.old p.new }
     ensures asks { Asks 1 p.old p.new }
 {
     if at(p, kind) {
@@ -367,7 +366,7 @@ pub fn expect(p: &mut Parser<'_>, kind: SyntaxKind)
 #[inline(never)]
 pub fn skip(p: &mut Parser<'_>, message: Message)
     requires { 1 ≤ tokens p.old }
-    ensures reads { (c : Bool) → Reads c (Skip (message_of message)) p.old p.new }
+    ensures reads { (c : Condition) → Reads c (Skip (message_of message)) p.old p.new }
     ensures left { tokens p.new + 1 ≡ tokens p.old }
     ensures looks { spent p.new + 4095 ≤ spent p.old }
 {

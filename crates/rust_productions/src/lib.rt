@@ -2,4 +2,5 @@
 //! `grammar_reader`: the table, and what a rule means on an input, are `rust_grammar`'s.
 #![tactic(auto)]
 
+pub mod condition;
 pub mod grammar;

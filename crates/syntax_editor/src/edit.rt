@@ -145,26 +145,25 @@ pub(crate) struct Told {
 }
 
 impl Told {
-    /// Collects the changed and the annotated elements of the tree of `root`. In preorder,
-    /// `origins` are the origins of its elements, and `put` is `true` for each inserted one.
+    /// Collects the changed and the annotated elements of the tree of `root`, whose elements have
+    /// the origins `origins`.
     pub(crate) fn of(
         alloc: Global,
         mapping: &SyntaxMapping,
         annotations: &[(SyntaxElement, SyntaxAnnotation)],
         root: &SyntaxNode,
-        origins: &[SyntaxElement],
-        put: &[bool],
+        origins: &Origins,
     ) -> Result<Told, AllocError>
-        ensures changed { (m : Marked) → ArePutMarks m root.now put.now → IfOk result
+        ensures changed { (m : Marked) → ArePutMarks m root.now origins.now.put.items → IfOk result
             (λ t. map element_of t.changed_elements.items ≡ map (element_at root.now.number root.now.place.root) (changed m)) }
-        ensures annotated { (m : Marked) → AreOrigins m root.now (map element_of origins.now)
+        ensures annotated { (m : Marked) → AreOrigins m root.now (map element_of origins.now.elements.items)
             → IfOk result
             (λ t. elements_of t.annotated.items ≡ elements_at root.now (annotated mapping.now (elements_of annotations.now) m)) }
         ensures groups { IfOk result (λ t. (n : ℕ) →
             map element_of (group_of t.groups n) ≡ of_annotation n (map inside.annotated t.annotated.items)) }
     {
-        let changed_elements = changed(alloc, root, put)?;
-        let annotated = annotated(alloc, mapping, annotations, root, origins)?;
+        let changed_elements = changed(alloc, root, &origins.put)?;
+        let annotated = annotated(alloc, mapping, annotations, root, &origins.elements)?;
         let groups = grouped(alloc, &annotated)?;
         Ok(Told {
             changed_elements,
@@ -209,12 +208,9 @@ impl SyntaxEditor {
             changed,
             pieces,
         } = made(alloc, &old_root, changes, &mapping)?;
-        let Origins {
-            elements: origins,
-            put,
-        } = origins_of(alloc, &pieces)?;
+        let origins = origins_of(alloc, &pieces)?;
         let new_root = SyntaxNode::new_root(alloc, green, ids)?;
-        let Ok(told) = Told::of(alloc, &mapping, &annotations, &new_root, &origins, &put) else {
+        let Ok(told) = Told::of(alloc, &mapping, &annotations, &new_root, &origins) else {
             // (nothing has the number, so it is the next one again)
             *ids = TreeIds::starting_at(new_root.tree());
             return Err(FinishError::NoMemory);
@@ -224,6 +220,10 @@ impl SyntaxEditor {
             annotated,
             groups,
         } = told;
+        let Origins {
+            elements: origins,
+            put: _put,
+        } = origins;
         Ok(SyntaxEdit {
             old_root,
             new_root,

@@ -127,7 +127,7 @@ impl StrSink for Rows {
 
     ghost takes = { IsTaken };
 
-    ghost refuses = { λ old step error new. Unit {0} };
+    ghost fails_at = { λ old step error new. Unit {0} };
 
     fn step(&mut self, step: StrStep<'_>) -> Result<(), AllocError> {
         match step {

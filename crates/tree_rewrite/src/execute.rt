@@ -10,41 +10,33 @@ ghost use Rattle.tree_rewrite.specs.Fill.{HavePut};
 ghost use Rattle.tree_rewrite.specs.Listed.{IsListed};
 ghost use Rattle.tree_rewrite.specs.Pieces.{Adds, Say};
 
-use crate::fill::{Overlay, push_standing, push_whole};
+use crate::fill::{push_standing, push_whole};
 use crate::job::Job;
 use crate::on_payloads::OnPayloads;
+use crate::overlay::Overlay;
 use crate::piece::{Piece, Put};
 use std::alloc::{AllocError, Global};
 use syntax_tree::SyntaxElement;
 
 /// Appends an element of a payload, with the executed changes of that payload if it is a target
-/// tree (`own` is not `None`).
+/// tree (`overlay.sheet` is not `None`).
 fn push_payload(
-    alloc: Global,
-    jobs: &[Job],
-    made: &[Put],
+    overlay: &Overlay<'_>,
     listed: &OnPayloads,
-    own: &Option<Vec<usize>>,
     element: &SyntaxElement,
     pieces: &mut Vec<Piece>,
 ) -> Result<(), AllocError>
-    requires { IsListed jobs.now made.now listed.now }
-    ensures { (js : List Job) → HavePut jobs.now made.now js → OnOk result
+    requires { IsListed overlay.now.jobs.now overlay.now.made.now listed.now }
+    ensures { (js : List Job) → HavePut overlay.now.jobs.now overlay.now.made.now js → OnOk result
         (Adds pieces.old.items pieces.new.items
-        (reading_of (sheet_of (puts js) (way_of own.now)) (element_of element.now))) }
+        (reading_of (sheet_of (puts js) (way_of overlay.now.sheet.now)) (element_of element.now))) }
 {
     let copy = element.clone()?;
-    match own {
+    match overlay.sheet {
         None => push_whole(copy, pieces)?,
         Some(way) => {
-            let numbers = listed.numbers(alloc, way)?;
-            let overlay = Overlay {
-                alloc,
-                jobs,
-                made,
-                sheet: own,
-            };
-            push_standing(&overlay, &numbers, copy, pieces)?;
+            let numbers = listed.numbers(overlay.alloc, way)?;
+            push_standing(overlay, &numbers, copy, pieces)?;
         }
     }
     Ok(())
@@ -62,10 +54,16 @@ fn content_of(
     ensures { (js : List Job) → HavePut jobs.now made.now js
         → IfOk result (λ v. Say v.items (terms_of (puts js) job.now)) }
 {
+    let overlay = Overlay {
+        alloc,
+        jobs,
+        made,
+        sheet: job.own(),
+    };
     let mut pieces = Vec::new(alloc);
     pieces.push(Piece::Group(job.is_outer()))?;
     for element in job.payload() {
-        push_payload(alloc, jobs, made, listed, job.own(), element, &mut pieces)?;
+        push_payload(&overlay, listed, element, &mut pieces)?;
     }
     pieces.push(Piece::Close)?;
     Ok(pieces)

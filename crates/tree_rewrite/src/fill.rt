@@ -13,21 +13,12 @@ ghost use Rattle.tree_rewrite.specs.Below.{lists_of, AreLists};
 ghost use Rattle.tree_rewrite.specs.Pieces.{Stand, added, after, Adds};
 ghost use Rattle.tree_rewrite.specs.declared.fill.Level.{Level};
 
-use crate::job::Job;
 use crate::lists::{list_at, lists_below};
-use crate::piece::{Piece, Put};
+use crate::overlay::Overlay;
+use crate::piece::Piece;
 use crate::sheet::{is_touched, push_gap, push_slot};
-use std::alloc::{AllocError, Global};
+use std::alloc::AllocError;
 use syntax_tree::{SyntaxElement, SyntaxElementChildren, SyntaxNode};
-
-/// The executed changes `made` of the planned changes `jobs`, for the target tree `sheet`.
-#[derive(Clone, Copy)]
-pub struct Overlay<'a> {
-    pub alloc: Global,
-    pub jobs: &'a [Job],
-    pub made: &'a [Put],
-    pub sheet: &'a Option<Vec<usize>>,
-}
 
 /// An open node: its children that are not appended yet, and the index of the first of them.
 struct Level {
@@ -93,7 +84,7 @@ impl Overlay<'_> {
         ensures size { IfOk result (λ l. level_size l < 2 * size_of node.now) }
     {
         let count = node.cursor().green().children().len();
-        let lists = lists_below(self.alloc, self.jobs, self.made, numbers, depth, count + 1)?;
+        let lists = lists_below(self, numbers, depth, count + 1)?;
         let children = node.children_with_tokens(self.alloc)?;
         Ok(Level {
             children,
@@ -128,7 +119,7 @@ impl Overlay<'_> {
         ensures size { IfOk result (λ o. level_sizes (with_opened o [])
             < 2 * size_of (element_of element)) }
     {
-        if push_slot(self.jobs, self.made, numbers, self.sheet, path, pieces)? {
+        if push_slot(self, numbers, path, pieces)? {
             leave(path);
             return Ok(None);
         }
@@ -141,7 +132,7 @@ impl Overlay<'_> {
             }
             SyntaxElement::Node(node) => {
                 let _stands = node.cursor().green();
-                if !is_touched(self.jobs, self.made, numbers, self.sheet, path.len()) {
+                if !is_touched(self, numbers, path.len()) {
                     leave(path);
                     push_whole(SyntaxElement::Node(node), pieces)?;
                     return Ok(None);
@@ -186,15 +177,7 @@ impl Overlay<'_> {
             push_whole(child, pieces)?;
             return Ok(None);
         }
-        push_gap(
-            self.jobs,
-            self.made,
-            numbers,
-            self.sheet,
-            path,
-            level.index,
-            pieces,
-        )?;
+        push_gap(self, numbers, path, level.index, pieces)?;
         path.push(level.index)?;
         self.enter(numbers, child, path, pieces)
     }
@@ -217,15 +200,7 @@ impl Overlay<'_> {
             (reverse path.new.items ≡ way_above (reverse path.old.items)) }
     {
         let last = list_at(&level.lists, level.index);
-        push_gap(
-            self.jobs,
-            self.made,
-            last,
-            self.sheet,
-            path,
-            level.index,
-            pieces,
-        )?;
+        push_gap(self, last, path, level.index, pieces)?;
         pieces.push(Piece::Close)?;
         leave(path);
         Ok(())

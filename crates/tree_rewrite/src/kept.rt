@@ -8,7 +8,7 @@ ghost use Rattle.tree_rewrite.specs.Rewrite.{payload_at, own_of, job_of, jobs};
 ghost use Rattle.tree_rewrite.specs.Recorded.{way_of};
 
 use crate::job::Job;
-use crate::moved::change_in;
+use crate::moved::{Replacement, change_in};
 use crate::nesting::{change_at, is_dropped, is_node_by_node, owner_of};
 use crate::tree_change::{Target, TreeChange};
 use crate::way_trie::WayTrie;
@@ -47,22 +47,37 @@ fn own_of(
     }
 }
 
+/// The changes that were recorded on the tree of `root`: `held` finds the one that replaces an
+/// element, and `mapping` the places in payloads.
+#[derive(Clone, Copy)]
+struct Recording<'a> {
+    root: &'a SyntaxNode,
+    changes: &'a [TreeChange],
+    held: &'a WayTrie,
+    mapping: &'a SyntaxMapping,
+}
+
 /// Returns the planned change of `change`, which is not discarded; `None` if it has no place in the
 /// payload that contains it.
 fn job_of(
     alloc: Global,
-    root: &SyntaxNode,
-    changes: &[TreeChange],
-    held: &WayTrie,
-    mapping: &SyntaxMapping,
+    recording: Recording<'_>,
     change: &TreeChange,
 ) -> Result<Option<Job>, AllocError>
-    requires top { root.now.place.up ≡ [] }
-    requires apart { has_collision changes.now ≡ false }
-    requires holds { Holds held.now changes.now }
-    requires kept { is_dropped root.now.place.root changes.now change.now ≡ false }
-    ensures { IfOk result (λ r. r ≡ job_of root.now changes.now mapping.now change.now) }
+    requires top { recording.root.now.place.up ≡ [] }
+    requires apart { has_collision recording.changes.now ≡ false }
+    requires holds { Holds recording.held.now recording.changes.now }
+    requires kept { is_dropped recording.root.now.place.root recording.changes.now change.now
+        ≡ false }
+    ensures { IfOk result (λ r. r ≡ job_of recording.entry.root.now recording.entry.changes.now
+        recording.entry.mapping.now change.now) }
 {
+    let Recording {
+        root,
+        changes,
+        held,
+        mapping,
+    } = recording;
     let own = own_of(alloc, root.cursor().green(), change)?;
     let Some(holder) = owner_of(changes, held, change) else {
         return Ok(Some(Job::new(None, change.copied(alloc)?, own)));
@@ -75,7 +90,11 @@ fn job_of(
         }
         None => return Ok(None),
     };
-    match change_in(alloc, root, mapping, holder, payload, change)? {
+    let replacement = Replacement {
+        way: holder,
+        payload,
+    };
+    match change_in(alloc, root, mapping, replacement, change)? {
         Some(moved) => {
             let sheet = Vec::from_slice(alloc, holder)?;
             Ok(Some(Job::new(Some(sheet), moved, own)))
@@ -99,11 +118,17 @@ pub fn jobs_of(
     requires holds { Holds held.now changes.now }
     ensures { IfOk result (λ r. option_map (λ v. v.items) r ≡ jobs root.now changes.now mapping.now) }
 {
+    let recording = Recording {
+        root,
+        changes,
+        held,
+        mapping,
+    };
     let mut jobs = Vec::new(alloc);
     for change in changes {
         let dropped = is_dropped(alloc, root.cursor().green(), changes, held, change)?;
         if !dropped {
-            let Some(job) = job_of(alloc, root, changes, held, mapping, change)? else {
+            let Some(job) = job_of(alloc, recording, change)? else {
                 return Ok(None);
             };
             jobs.push(job)?;

@@ -23,6 +23,7 @@ mod moved;
 mod nesting;
 mod on_payloads;
 pub mod origins;
+mod overlay;
 pub mod piece;
 pub mod plan;
 mod put;

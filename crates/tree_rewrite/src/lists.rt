@@ -9,8 +9,7 @@ ghost use Rattle.tree_rewrite.specs.Recorded.{way_of};
 ghost use Rattle.tree_rewrite.specs.Fill.{Given, IsGiven, HaveGiven, HavePut};
 ghost use Rattle.tree_rewrite.specs.Below.{IsBeyond, LeavesChild, with_row, lists_of, AreLists, OnSheet};
 
-use crate::job::Job;
-use crate::piece::Put;
+use crate::overlay::Overlay;
 use crate::sheet::job_of;
 use std::alloc::{AllocError, Global};
 
@@ -52,30 +51,31 @@ fn push_row(
 /// Returns the children that the executed change at index `number` may affect in a node at depth
 /// `depth`: the index of the first, and the number of further ones. Returns `None` if it affects
 /// none.
-fn row_of(jobs: &[Job], made: &[Put], number: usize, depth: usize) -> Option<(usize, usize)>
-    ensures { (g : Given) (w : Way) (i : ℕ) → IsGiven jobs.now (slice_get made.now number) g
-        → length w ≡ depth
-        → IsBeyond result i → LeavesChild g.0.change w i }
+fn row_of(overlay: &Overlay<'_>, number: usize, depth: usize) -> Option<(usize, usize)>
+    ensures { (g : Given) (w : Way) (i : ℕ)
+        → IsGiven overlay.now.jobs.now (slice_get overlay.now.made.now number) g
+        → length w ≡ depth → IsBeyond result i → LeavesChild g.0.change w i }
 {
-    let job = job_of(jobs, made, number)?;
+    let job = job_of(overlay, number)?;
     job.row_below(depth)
 }
 
 /// Appends `number` to the lists of the children that the executed change at that index may affect.
 fn push_number(
-    jobs: &[Job],
-    made: &[Put],
+    overlay: &Overlay<'_>,
     number: usize,
     depth: usize,
     lists: &mut Vec<Vec<usize>>,
 ) -> Result<(), AllocError>
     ensures lists { (gs : List Given) (g : Given) (n : Option Way) (w : Way)
-        → IsGiven jobs.now (slice_get made.now number) g
-        → length w ≡ depth → AreLists jobs.now made.now (lists_of lists.old.items) n w gs
-        → OnOk result (AreLists jobs.now made.now (lists_of lists.new.items) n w (g ∷ gs)) }
+        → IsGiven overlay.now.jobs.now (slice_get overlay.now.made.now number) g
+        → length w ≡ depth → AreLists overlay.now.jobs.now overlay.now.made.now
+        (lists_of lists.old.items) n w gs
+        → OnOk result (AreLists overlay.now.jobs.now overlay.now.made.now
+        (lists_of lists.new.items) n w (g ∷ gs)) }
     ensures count { OnOk result (length lists.new.items ≡ length lists.old.items) }
 {
-    match row_of(jobs, made, number, depth) {
+    match row_of(overlay, number, depth) {
         Some((start, more)) => push_row(number, start, more, lists),
         None => Ok(()),
     }
@@ -84,21 +84,20 @@ fn push_number(
 /// Returns a list for each of `count` children of a node at depth `depth`: those of `numbers` whose
 /// executed changes may affect the gap before the child, its slot, or the elements below it.
 pub fn lists_below(
-    alloc: Global,
-    jobs: &[Job],
-    made: &[Put],
+    overlay: &Overlay<'_>,
     numbers: &[usize],
     depth: usize,
     count: usize,
 ) -> Result<Vec<Vec<usize>>, AllocError>
     ensures count { IfOk result (λ v. length v.items ≡ count) }
     ensures lists { (gs : List Given) (n : Option Way) (w : Way)
-        → HaveGiven jobs.now made.now numbers.now gs → length w ≡ depth
-        → IfOk result (λ v. AreLists jobs.now made.now (lists_of v.items) n w gs) }
+        → HaveGiven overlay.now.jobs.now overlay.now.made.now numbers.now gs → length w ≡ depth
+        → IfOk result (λ v. AreLists overlay.now.jobs.now overlay.now.made.now
+        (lists_of v.items) n w gs) }
 {
-    let mut lists = empty_lists(alloc, count)?;
+    let mut lists = empty_lists(overlay.alloc, count)?;
     for number in numbers {
-        push_number(jobs, made, *number, depth, &mut lists)?;
+        push_number(overlay, *number, depth, &mut lists)?;
     }
     Ok(lists)
 }
@@ -111,49 +110,43 @@ pub fn list_at(lists: &[Vec<usize>], index: usize) -> &[usize]
     lists[index].as_slice()
 }
 
-/// Returns `true` if the executed change at index `number` applies to target tree `sheet`.
-fn is_on(jobs: &[Job], made: &[Put], number: usize, sheet: &Option<Vec<usize>>) -> bool
-    ensures { (g : Given) → IsGiven jobs.now (slice_get made.now number) g
-        → result ≡ same_sheet g.0.sheet (way_of sheet.now) }
+/// Returns `true` if the executed change at index `number` applies to the target tree.
+fn is_on(overlay: &Overlay<'_>, number: usize) -> bool
+    ensures { (g : Given) → IsGiven overlay.now.jobs.now (slice_get overlay.now.made.now number) g
+        → result ≡ same_sheet g.0.sheet (way_of overlay.now.sheet.now) }
 {
-    match job_of(jobs, made, number) {
-        Some(job) => job.is_on(sheet),
+    match job_of(overlay, number) {
+        Some(job) => job.is_on(overlay.sheet),
         None => false,
     }
 }
 
-/// Appends `number` to `numbers` if the executed change at that index applies to target tree
-/// `sheet`.
-fn push_on(
-    jobs: &[Job],
-    made: &[Put],
-    number: usize,
-    sheet: &Option<Vec<usize>>,
-    numbers: &mut Vec<usize>,
-) -> Result<(), AllocError>
-    ensures { (j : Job) (js : List Job) → IsGiven jobs.now (slice_get made.now number) (j, terms_of (puts js) j)
-        → OnSheet jobs.now made.now numbers.old.items (way_of sheet.now) js
-        → OnOk result (OnSheet jobs.now made.now numbers.new.items (way_of sheet.now) (j ∷ js)) }
+/// Appends `number` to `numbers` if the executed change at that index applies to the target
+/// tree.
+fn push_on(overlay: &Overlay<'_>, number: usize, numbers: &mut Vec<usize>) -> Result<(), AllocError>
+    ensures { (j : Job) (js : List Job)
+        → IsGiven overlay.now.jobs.now (slice_get overlay.now.made.now number)
+        (j, terms_of (puts js) j)
+        → OnSheet overlay.now.jobs.now overlay.now.made.now numbers.old.items
+        (way_of overlay.now.sheet.now) js
+        → OnOk result (OnSheet overlay.now.jobs.now overlay.now.made.now numbers.new.items
+        (way_of overlay.now.sheet.now) (j ∷ js)) }
 {
-    if is_on(jobs, made, number, sheet) {
+    if is_on(overlay, number) {
         numbers.push(number)?;
     }
     Ok(())
 }
 
-/// Returns the indices of the executed changes that apply to target tree `sheet`.
-pub fn on_sheet(
-    alloc: Global,
-    jobs: &[Job],
-    made: &[Put],
-    sheet: &Option<Vec<usize>>,
-) -> Result<Vec<usize>, AllocError>
-    ensures { (js : List Job) → HavePut jobs.now made.now js → IfOk result
-        (λ v. OnSheet jobs.now made.now v.items (way_of sheet.now) js) }
+/// Returns the indices of the executed changes that apply to the target tree.
+pub fn on_sheet(overlay: &Overlay<'_>) -> Result<Vec<usize>, AllocError>
+    ensures { (js : List Job) → HavePut overlay.now.jobs.now overlay.now.made.now js → IfOk result
+        (λ v. OnSheet overlay.now.jobs.now overlay.now.made.now v.items
+        (way_of overlay.now.sheet.now) js) }
 {
-    let mut numbers = Vec::new(alloc);
-    for number in 0..made.len() {
-        push_on(jobs, made, number, sheet, &mut numbers)?;
+    let mut numbers = Vec::new(overlay.alloc);
+    for number in 0..overlay.made.len() {
+        push_on(overlay, number, &mut numbers)?;
     }
     Ok(numbers)
 }

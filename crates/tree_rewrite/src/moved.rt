@@ -117,23 +117,29 @@ fn same_children(
     }
 }
 
-/// Returns `change`, which is inside the node at `replaced`, as a change of the payload, where that
-/// node has become the one at up-path `to`. Returns `None` if the payload has no such gap or
-/// elements.
+/// A node that is replaced by a node: its up-path, and its payload.
+#[derive(Clone, Copy)]
+pub struct Replacement<'a> {
+    pub way: &'a [usize],
+    pub payload: &'a SyntaxNode,
+}
+
+/// Returns `change`, which is inside a replaced node, as a change of the payload, where that node
+/// has become the one at up-path `to`. Returns `None` if the payload has no such gap or elements.
 fn change_below(
     alloc: Global,
     root: &GreenNode,
-    replaced: &[usize],
-    payload: &SyntaxNode,
+    replacement: Replacement<'_>,
     to: &[usize],
     change: &TreeChange,
 ) -> Result<Option<TreeChange>, AllocError>
-    ensures { IfOk result (λ r. r ≡ change_below root.now replaced.now payload.now to.now change.now) }
+    ensures { IfOk result (λ r. r ≡ change_below root.now replacement.entry.way.now
+        replacement.entry.payload.now to.now change.now) }
 {
-    let green = payload.cursor().green();
+    let green = replacement.payload.cursor().green();
     match change.target() {
         Target::Gap { parent, index } => {
-            let way = carried(alloc, replaced, to, parent)?;
+            let way = carried(alloc, replacement.way, to, parent)?;
             if !has_gap(element_by(root, parent), element_by(green, &way), *index) {
                 return Ok(None);
             }
@@ -149,7 +155,7 @@ fn change_below(
             single,
         } => {
             let (number, above) = number_and_parent(first);
-            let way = carried(alloc, replaced, to, above)?;
+            let way = carried(alloc, replacement.way, to, above)?;
             if !same_children(
                 element_by(root, above),
                 element_by(green, &way),
@@ -177,22 +183,23 @@ fn with_number(alloc: Global, number: usize, way: &[usize]) -> Result<Vec<usize>
     Ok(below)
 }
 
-/// Returns `change`, which is inside the node at `replaced`, as a change of the payload of that
-/// node; `None` if it has no place there.
+/// Returns `change`, which is inside a replaced node, as a change of the payload of that node;
+/// `None` if it has no place there.
 pub fn change_in(
     alloc: Global,
     root: &SyntaxNode,
     mapping: &SyntaxMapping,
-    replaced: &[usize],
-    payload: &SyntaxNode,
+    replacement: Replacement<'_>,
     change: &TreeChange,
 ) -> Result<Option<TreeChange>, AllocError>
     requires { root.now.place.up ≡ [] }
-    ensures { IfOk result (λ r. r ≡ change_in root.now mapping.now replaced.now payload.now change.now) }
+    ensures { IfOk result (λ r. r ≡ change_in root.now mapping.now replacement.entry.way.now
+        replacement.entry.payload.now change.now) }
 {
+    let Replacement { way, payload } = replacement;
     let green = root.cursor().green();
-    match way_to(alloc, mapping, payload, root.tree(), replaced)? {
-        Some(to) => change_below(alloc, green, replaced, payload, &to, change),
+    match way_to(alloc, mapping, payload, root.tree(), way)? {
+        Some(to) => change_below(alloc, green, replacement, &to, change),
         None => Ok(None),
     }
 }

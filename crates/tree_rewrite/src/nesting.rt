@@ -270,6 +270,13 @@ fn is_lost(root: &GreenNode, changes: &[TreeChange], held: &WayTrie, way: &[usiz
     lost
 }
 
+/// Gap `index` of the node at up-path `parent`.
+#[derive(Clone, Copy)]
+struct Gap<'a> {
+    parent: &'a [usize],
+    index: usize,
+}
+
 /// Returns `true` if `change` replaces the elements on both sides of a gap, unless it replaces a
 /// node by a node.
 fn closes(root: &GreenNode, change: &TreeChange, parent: &[usize], index: usize) -> bool
@@ -278,21 +285,21 @@ fn closes(root: &GreenNode, change: &TreeChange, parent: &[usize], index: usize)
     change.splits(parent, index) && !is_node_by_node(root, change)
 }
 
-/// Returns `true` if a change replaces the elements on both sides of gap `index` of the node at
-/// up-path `parent`, unless it replaces a node by a node.
+/// Returns `true` if a change replaces the elements on both sides of `gap`, unless it replaces a
+/// node by a node.
 fn is_closed(
     alloc: Global,
     root: &GreenNode,
     changes: &[TreeChange],
     held: &WayTrie,
-    parent: &[usize],
-    index: usize,
+    gap: Gap<'_>,
 ) -> Result<bool, AllocError>
     requires apart { has_collision changes.now ≡ false }
     requires holds { Holds held.now changes.now }
-    ensures { IfOk result (λ b. b ≡
-        list_any (λ r. splits parent.now index r && not (is_node_by_node root.now r)) changes.now) }
+    ensures { IfOk result (λ b. b ≡ list_any (λ r. splits gap.entry.parent.now gap.entry.index r
+        && not (is_node_by_node root.now r)) changes.now) }
 {
+    let Gap { parent, index } = gap;
     if index == 0 {
         return Ok(false);
     }
@@ -321,7 +328,11 @@ pub fn is_dropped(
             if is_lost(root, changes, held, parent) {
                 return Ok(true);
             }
-            is_closed(alloc, root, changes, held, parent, *index)
+            let gap = Gap {
+                parent,
+                index: *index,
+            };
+            is_closed(alloc, root, changes, held, gap)
         }
         Target::Slots { first, .. } => {
             let Some((_, above)) = first.split_first() else {

@@ -18,12 +18,13 @@ use crate::changed::changed_of;
 use crate::depth::deepest_first;
 use crate::error::{ExecuteError, PlanError};
 use crate::execute::make_all;
-use crate::fill::{Overlay, push_standing};
+use crate::fill::push_standing;
 use crate::green::{green_of, one_node};
 use crate::held_ways::held_ways;
 use crate::job::{Job, is_order};
 use crate::kept::jobs_of;
 use crate::lists::on_sheet;
+use crate::overlay::Overlay;
 use crate::piece::Piece;
 use crate::tree_change::TreeChange;
 use rowan_green::{GreenNode, TextRange};
@@ -180,13 +181,13 @@ impl Plan {
         let mut pieces = Vec::new(alloc);
         let _stands = self.top.cursor().green();
         let top = SyntaxElement::Node(self.top.clone()?);
-        let numbers = on_sheet(alloc, &self.jobs, &made, &None)?;
         let overlay = Overlay {
             alloc,
             jobs: &self.jobs,
             made: &made,
             sheet: &None,
         };
+        let numbers = on_sheet(&overlay)?;
         push_standing(&overlay, &numbers, top, &mut pieces)?;
         Ok(pieces)
     }

@@ -1,6 +1,6 @@
-//! Contents of the gaps and slots of a target tree after some executed changes. Only the executed
-//! changes whose indices are given are examined. Elements are named by paths: child indices from the
-//! root down.
+//! Contents of the gaps and slots of an overlay's target tree after some executed changes. Only the
+//! executed changes whose indices are given are examined. Elements are named by paths: child
+//! indices from the root down.
 ghost use Rattle.std.specs.Prelude.{◌≡◌, List, Some, ℕ, ◌&&◌, length, reverse, slice_get, is_some, if◌then◌else◌, IfOk, OnOk};
 ghost use Rattle.std.specs.Bool.{OnFalse};
 ghost use Rattle.std.specs.List.{list_any};
@@ -13,88 +13,75 @@ ghost use Rattle.tree_rewrite.specs.Fill.{Given, laid, IsGiven, HaveGiven, touch
 ghost use Rattle.tree_rewrite.specs.Pieces.{Adds};
 
 use crate::job::Job;
+use crate::overlay::Overlay;
 use crate::piece::{Piece, Put, push_pieces};
 use std::alloc::AllocError;
 
 /// Returns the planned change of the executed change at index `number`.
-pub(crate) fn job_of<'a>(jobs: &'a [Job], made: &[Put], number: usize) -> Option<&'a Job>
-    ensures { (g : Given) → IsGiven jobs.now (slice_get made.now number) g
+pub(crate) fn job_of<'a>(overlay: &Overlay<'a>, number: usize) -> Option<&'a Job>
+    ensures { (g : Given) → IsGiven overlay.now.jobs.now (slice_get overlay.now.made.now number) g
         → option_copied result ≡ Some g.0 }
 {
-    let put = made.get(number)?;
-    jobs.get(put.number)
+    let put = overlay.made.get(number)?;
+    overlay.jobs.get(put.number)
 }
 
 /// Returns `true` if the executed change at index `number` inserts into gap `index` of the node at
-/// up-path `way` in target tree `sheet`.
-fn sets_gap(
-    jobs: &[Job],
-    made: &[Put],
-    number: usize,
-    sheet: &Option<Vec<usize>>,
-    path: &[usize],
-    index: usize,
-) -> bool
-    ensures { (g : Given) → IsGiven jobs.now (slice_get made.now number) g
-        → result ≡ (same_sheet g.0.sheet (way_of sheet.now)
+/// `path` in the target tree.
+fn sets_gap(overlay: &Overlay<'_>, number: usize, path: &[usize], index: usize) -> bool
+    ensures { (g : Given) → IsGiven overlay.now.jobs.now (slice_get overlay.now.made.now number) g
+        → result ≡ (same_sheet g.0.sheet (way_of overlay.now.sheet.now)
         && sets g.0.change (gap (reverse path.now) index)) }
 {
-    match job_of(jobs, made, number) {
-        Some(job) => job.sets_gap(sheet, path, index),
+    match job_of(overlay, number) {
+        Some(job) => job.sets_gap(overlay.sheet, path, index),
         None => false,
     }
 }
 
 /// Returns `true` if the executed change at index `number` replaces the element at `path` in
-/// target tree `sheet`.
-fn sets_slot(
-    jobs: &[Job],
-    made: &[Put],
-    number: usize,
-    sheet: &Option<Vec<usize>>,
-    path: &[usize],
-) -> bool
-    ensures { (g : Given) → IsGiven jobs.now (slice_get made.now number) g
-        → result ≡ (same_sheet g.0.sheet (way_of sheet.now)
+/// the target tree.
+fn sets_slot(overlay: &Overlay<'_>, number: usize, path: &[usize]) -> bool
+    ensures { (g : Given) → IsGiven overlay.now.jobs.now (slice_get overlay.now.made.now number) g
+        → result ≡ (same_sheet g.0.sheet (way_of overlay.now.sheet.now)
         && sets g.0.change (slot (reverse path.now))) }
 {
-    match job_of(jobs, made, number) {
-        Some(job) => job.sets_slot(sheet, path),
+    match job_of(overlay, number) {
+        Some(job) => job.sets_slot(overlay.sheet, path),
         None => false,
     }
 }
 
 /// Returns `true` if `path` leads to the first element that the executed change at index `number`
 /// replaces; for an insertion, if `path` leads to the root.
-fn begins_at(jobs: &[Job], made: &[Put], number: usize, path: &[usize]) -> bool
-    ensures { (g : Given) → IsGiven jobs.now (slice_get made.now number) g
+fn begins_at(overlay: &Overlay<'_>, number: usize, path: &[usize]) -> bool
+    ensures { (g : Given) → IsGiven overlay.now.jobs.now (slice_get overlay.now.made.now number) g
         → result ≡ same_way (first_way g.0.change) (reverse path.now) }
 {
-    match job_of(jobs, made, number) {
+    match job_of(overlay, number) {
         Some(job) => job.begins_at(path),
         None => false,
     }
 }
 
 /// Appends the pieces that the executed changes at `numbers` inserted into gap `index` of the node
-/// at `path` in target tree `sheet`, the last executed change first.
+/// at `path` in the target tree, the last executed change first.
 pub fn push_gap(
-    jobs: &[Job],
-    made: &[Put],
+    overlay: &Overlay<'_>,
     numbers: &[usize],
-    sheet: &Option<Vec<usize>>,
     path: &[usize],
     index: usize,
     pieces: &mut Vec<Piece>,
 ) -> Result<(), AllocError>
-    ensures { (gs : List Given) → HaveGiven jobs.now made.now numbers.now gs → OnOk result
+    ensures { (gs : List Given)
+        → HaveGiven overlay.now.jobs.now overlay.now.made.now numbers.now gs → OnOk result
         (Adds pieces.old.items pieces.new.items
-        (at_gap gs (way_of sheet.now) (reverse path.now) index)) }
+        (at_gap gs (way_of overlay.now.sheet.now) (reverse path.now) index)) }
 {
     let mut rest = numbers;
     while let Some((number, before)) = rest.split_last() {
-        let is_there = sets_gap(jobs, made, *number, sheet, path, index);
-        push_if(is_there, made, *number, pieces)?;
+        let is_there = sets_gap(overlay, *number, path, index);
+        push_if(is_there, overlay.made, *number, pieces)?;
         rest = before;
     }
     Ok(())
@@ -134,26 +121,31 @@ fn push_if(
     Ok(())
 }
 
-/// Appends the pieces that replace the element at `path` in target tree `sheet`. Returns
+/// Appends the pieces that replace the element at `path` in the target tree. Returns
 /// `true` if the element is replaced.
 pub fn push_slot(
-    jobs: &[Job],
-    made: &[Put],
+    overlay: &Overlay<'_>,
     numbers: &[usize],
-    sheet: &Option<Vec<usize>>,
     path: &[usize],
     pieces: &mut Vec<Piece>,
 ) -> Result<bool, AllocError>
-    ensures replaced { (gs : List Given) → HaveGiven jobs.now made.now numbers.now gs → IfOk result
-        (λ b. b ≡ is_some (laid gs (way_of sheet.now) (slot (reverse path.now)))) }
-    ensures added { (gs : List Given) → HaveGiven jobs.now made.now numbers.now gs → OnOk result
+    ensures replaced { (gs : List Given)
+        → HaveGiven overlay.now.jobs.now overlay.now.made.now numbers.now gs → IfOk result
+        (λ b. b ≡ is_some (laid gs (way_of overlay.now.sheet.now) (slot (reverse path.now)))) }
+    ensures added { (gs : List Given)
+        → HaveGiven overlay.now.jobs.now overlay.now.made.now numbers.now gs → OnOk result
         (Adds pieces.old.items pieces.new.items
-        (at_slot gs (way_of sheet.now) (reverse path.now))) }
+        (at_slot gs (way_of overlay.now.sheet.now) (reverse path.now))) }
 {
     let mut rest = numbers;
     while let Some((number, before)) = rest.split_last() {
-        if sets_slot(jobs, made, *number, sheet, path) {
-            push_if(begins_at(jobs, made, *number, path), made, *number, pieces)?;
+        if sets_slot(overlay, *number, path) {
+            push_if(
+                begins_at(overlay, *number, path),
+                overlay.made,
+                *number,
+                pieces,
+            )?;
             return Ok(true);
         }
         rest = before;
@@ -161,43 +153,33 @@ pub fn push_slot(
     Ok(false)
 }
 
-/// Returns `true` if the executed change at index `number` affects, in target tree `sheet`,
+/// Returns `true` if the executed change at index `number` affects, in the target tree,
 /// children of an element at depth `depth`, or elements below these.
-fn is_deep(
-    jobs: &[Job],
-    made: &[Put],
-    number: usize,
-    sheet: &Option<Vec<usize>>,
-    depth: usize,
-) -> bool
-    ensures { (g : Given) → IsGiven jobs.now (slice_get made.now number) g
-        → result ≡ is_deep_on (way_of sheet.now) depth g }
+fn is_deep(overlay: &Overlay<'_>, number: usize, depth: usize) -> bool
+    ensures { (g : Given) → IsGiven overlay.now.jobs.now (slice_get overlay.now.made.now number) g
+        → result ≡ is_deep_on (way_of overlay.now.sheet.now) depth g }
 {
-    match job_of(jobs, made, number) {
-        Some(job) => job.is_deep(sheet, depth),
+    match job_of(overlay, number) {
+        Some(job) => job.is_deep(overlay.sheet, depth),
         None => true,
     }
 }
 
 /// Returns `true` if one of the executed changes at `numbers` affects elements below one at depth
-/// `depth` in target tree `sheet`. Only depths are compared: each of them must lead through that
+/// `depth` in the target tree. Only depths are compared: each of them must lead through that
 /// element if it leads as deep, as those do that `lists_below` lists for it. If the result is
 /// `false`, the elements below are unchanged.
-pub fn is_touched(
-    jobs: &[Job],
-    made: &[Put],
-    numbers: &[usize],
-    sheet: &Option<Vec<usize>>,
-    depth: usize,
-) -> bool
-    ensures touched { (gs : List Given) (w : Way) → HaveGiven jobs.now made.now numbers.now gs
-        → length w ≡ depth → AreAlong w gs → result ≡ list_any (touches (way_of sheet.now) w) gs }
-    ensures blank { (gs : List Given) (w : Way) → HaveGiven jobs.now made.now numbers.now gs
-        → length w ≡ depth → OnFalse result (IsBlankBelow gs (way_of sheet.now) w) }
+pub fn is_touched(overlay: &Overlay<'_>, numbers: &[usize], depth: usize) -> bool
+    ensures touched { (gs : List Given) (w : Way)
+        → HaveGiven overlay.now.jobs.now overlay.now.made.now numbers.now gs → length w ≡ depth
+        → AreAlong w gs → result ≡ list_any (touches (way_of overlay.now.sheet.now) w) gs }
+    ensures blank { (gs : List Given) (w : Way)
+        → HaveGiven overlay.now.jobs.now overlay.now.made.now numbers.now gs → length w ≡ depth
+        → OnFalse result (IsBlankBelow gs (way_of overlay.now.sheet.now) w) }
 {
     let mut rest = numbers;
     while let Some((number, before)) = rest.split_last() {
-        if is_deep(jobs, made, *number, sheet, depth) {
+        if is_deep(overlay, *number, depth) {
             return true;
         }
         rest = before;

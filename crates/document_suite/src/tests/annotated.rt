@@ -1,19 +1,9 @@
 //! Annotated elements, found again where a commit put them.
-use super::{Place, found, open, range};
-use parser_input::edition::Edition;
-use parser_input::syntax_kind::SyntaxKind;
-use ra_parser::TopEntryPoint;
-use rust_document::{
-    Annotations, Committed, Document, PayloadEntry, SyntaxAnnotation, SyntaxEditor, payload,
-};
+use super::{ONE, Place, TWO, expression, found, open, range};
+use rust_document::{Annotations, Committed, Document, SyntaxAnnotation, SyntaxEditor};
 use std::alloc::Global;
 use std::test::Fail;
 use syntax_tree::{SyntaxElement, TreeIds};
-
-/// The literals of `fn f() { g(1, 2); }`.
-const ONE: Place = (SyntaxKind::LITERAL, 11, 12);
-
-const TWO: Place = (SyntaxKind::LITERAL, 14, 15);
 
 /// Records that an element is put for the one at a place of a document.
 fn put_at(
@@ -49,8 +39,7 @@ fn recorded(
     mark: SyntaxAnnotation,
     ids: &mut TreeIds,
 ) -> Result<SyntaxEditor, Fail> {
-    let entry = PayloadEntry::Top(TopEntryPoint::Expr);
-    let new = payload(alloc, entry, Edition::Edition2021, put, ids)?;
+    let new = expression(alloc, put, ids)?;
     let mut editor = document.editor(alloc)?;
     record(alloc, document, &mut editor, &new, mark)?;
     Ok(editor)

@@ -28,7 +28,7 @@ const ATTACHED: Row = Row {
 };
 
 /// An empty line between keeps it out.
-const APART: Row = Row {
+pub(super) const APART: Row = Row {
     text: "// a\n\nstruct S;",
     tree: &[
         ((SyntaxKind::COMMENT, 0, 4), &[0]),

@@ -7,7 +7,7 @@ use rust_document::{
 };
 use std::alloc::Global;
 use std::test::Fail;
-use syntax_tree::{SyntaxElement, TreeIds};
+use syntax_tree::TreeIds;
 
 /// The only range that a commit tells.
 fn only_range(committed: &Committed) -> Option<TextRange> {
@@ -28,18 +28,6 @@ pub(super) fn commit(
     Ok(only_range(&committed))
 }
 
-/// An editor that puts an element for another.
-fn recorded(
-    alloc: Global,
-    document: &Document,
-    place: Place,
-    new: &SyntaxElement,
-) -> Result<SyntaxEditor, Fail> {
-    let target = found(alloc, document, place)?;
-    let editor = document.editor(alloc)?;
-    replacing(alloc, editor, &target, new)
-}
-
 /// An editor that puts a token for an element.
 pub(super) fn put(
     alloc: Global,
@@ -49,7 +37,7 @@ pub(super) fn put(
     ids: &mut TreeIds,
 ) -> Result<SyntaxEditor, Fail> {
     let new = payload(alloc, PayloadEntry::Token, edition, text, ids)?;
-    recorded(alloc, document, place, &new)
+    replacing(alloc, document, place, &new)
 }
 
 /// A token of an edition that is put for the name in `struct S;` of another; the range that is changed, and the text.
@@ -62,28 +50,25 @@ struct Row {
     number: u32,
 }
 
-/// Whether a document answers this to a token that is put for its name.
-fn is_answer(
-    alloc: Global,
-    document: &mut Document,
-    row: &Row,
-    ids: &mut TreeIds,
-) -> Result<bool, Fail> {
-    let editor = put(alloc, document, IDENT, row.token, ids)?;
-    let answer = commit(alloc, document, editor, ids);
-    Ok(match row.answer {
+/// Returns `true` if an answer is the expected one: the start and the end of the changed range, or an error.
+pub(super) fn is_answer(
+    answer: Result<Option<TextRange>, CommitError>,
+    expected: Result<(u32, u32), CommitError>,
+) -> bool {
+    match expected {
         Ok((start, end)) => answer == Ok(Some(range(start, end))),
         Err(error) => answer == Err(error),
-    })
+    }
 }
 
 /// Whether a commit does what its row says.
 fn is_answered(alloc: Global, row: &Row) -> Result<bool, Fail> {
     let mut ids = TreeIds::new();
     let mut document = Document::open(alloc, row.edition, "struct S;", &mut ids)?;
-    let answered = is_answer(alloc, &mut document, row, &mut ids)?;
+    let editor = put(alloc, &document, IDENT, row.token, &mut ids)?;
+    let answer = commit(alloc, &mut document, editor, &mut ids);
     let number = document.root().tree() == row.number;
-    Ok(answered & number & has_text(&document, row.text))
+    Ok(is_answer(answer, row.answer) & number & has_text(&document, row.text))
 }
 
 const OLD: Edition = Edition::Edition2015;
@@ -205,7 +190,7 @@ fn the_limit(rt: HostRuntime) -> Result<(), Fail> {
 fn put_again(alloc: Global) -> Result<(Result<Option<TextRange>, CommitError>, u32), Fail> {
     let mut document = open(alloc, "struct S;")?;
     let root = found(alloc, &document, ROOT)?;
-    let editor = recorded(alloc, &document, ROOT, &root)?;
+    let editor = replacing(alloc, &document, ROOT, &root)?;
     let answer = commit(alloc, &mut document, editor, &mut TreeIds::starting_at(7));
     Ok((answer, document.root().tree()))
 }

@@ -1,9 +1,8 @@
 //! Where the new text reads as another tree than the rewritten one.
-use super::{Place, found};
+use super::{Place, expression, replacing};
 use parser_input::edition::Edition;
 use parser_input::syntax_kind::SyntaxKind;
-use ra_parser::TopEntryPoint;
-use rust_document::{Difference, Document, PayloadEntry, payload};
+use rust_document::{Difference, Document};
 use std::alloc::Global;
 use std::test::Fail;
 use syntax_tree::TreeIds;
@@ -25,11 +24,8 @@ fn difference(
     row: &Row,
     ids: &mut TreeIds,
 ) -> Result<Option<Difference>, Fail> {
-    let target = found(alloc, document, row.place)?;
-    let entry = PayloadEntry::Top(TopEntryPoint::Expr);
-    let new = payload(alloc, entry, Edition::Edition2021, row.new, ids)?;
-    let mut editor = document.editor(alloc)?;
-    editor.replace(alloc, &target, &new)?;
+    let new = expression(alloc, row.new, ids)?;
+    let editor = replacing(alloc, document, row.place, &new)?;
     Ok(document.difference(alloc, &editor)?)
 }
 
@@ -81,7 +77,7 @@ const ROWS: &[Row] = &[
 #[test]
 fn first_difference_is_told(rt: HostRuntime) -> Result<(), Fail> {
     for row in ROWS {
-        assert!(rt; is_answered(rt.alloc(), row)?);
+        assert!(rt; is_answered(rt.alloc(), row)?, "{}", row.new);
     }
     Ok(())
 }

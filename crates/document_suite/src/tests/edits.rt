@@ -1,6 +1,6 @@
 //! Edits by hand.
 use super::opening::{Row, is_row};
-use super::{IDENT, SEMICOLON, SPACE, open, range, spaces};
+use super::{IDENT, SEMICOLON, SPACE, edit, open, range, spaces};
 use parser_input::edition::Edition;
 use parser_input::syntax_kind::SyntaxKind;
 use rowan_green::TextRange;
@@ -9,7 +9,7 @@ use std::alloc::Global;
 use std::test::Fail;
 use syntax_tree::TreeIds;
 
-/// Edits a document; the refusal, if it is refused. A range that no edit may have fails the test.
+/// Returns why an edit is refused, if it is.
 fn put(
     alloc: Global,
     document: &mut Document,
@@ -17,13 +17,7 @@ fn put(
     text: &str,
     ids: &mut TreeIds,
 ) -> Result<Option<EditError>, Fail> {
-    if !document.can_edit(at) {
-        return Err(Fail::new("no range that can be edited"));
-    }
-    match document.edit(alloc, at, text, ids) {
-        Ok(_) => Ok(None),
-        Err(error) => Ok(Some(error)),
-    }
+    Ok(edit(alloc, document, at, text, ids)?.err())
 }
 
 /// A text, a range of it, and what an edit puts there; then the text with all that is read of it.
@@ -35,12 +29,12 @@ struct Edit {
 }
 
 /// Whether an edit of a text of edition 2021 makes what it says.
-fn is_edited(alloc: Global, edit: &Edit) -> Result<bool, Fail> {
+fn is_edited(alloc: Global, row: &Edit) -> Result<bool, Fail> {
     let mut ids = TreeIds::new();
-    let mut document = Document::open(alloc, Edition::Edition2021, edit.text, &mut ids)?;
-    let at = range(edit.at.0, edit.at.1);
-    let refused = put(alloc, &mut document, at, edit.new, &mut ids)?;
-    Ok(refused.is_none() & is_row(alloc, &document, &edit.becomes)?)
+    let mut document = Document::open(alloc, Edition::Edition2021, row.text, &mut ids)?;
+    let at = range(row.at.0, row.at.1);
+    let refused = put(alloc, &mut document, at, row.new, &mut ids)?;
+    Ok(refused.is_none() & is_row(alloc, &document, &row.becomes)?)
 }
 
 /// A comment swallows an item.
@@ -184,8 +178,8 @@ const EDITS: &[Edit] = &[SWALLOWED, NO_FIELD, UNCLOSED, LONGER_NAME];
 
 #[test]
 fn texts_are_read_again(rt: HostRuntime) -> Result<(), Fail> {
-    for edit in EDITS {
-        assert!(rt; is_edited(rt.alloc(), edit)?, "at {}", edit.text);
+    for row in EDITS {
+        assert!(rt; is_edited(rt.alloc(), row)?, "at {}", row.text);
     }
     Ok(())
 }
@@ -221,25 +215,10 @@ const INSIDE: &[(u32, u32)] = &[(0, 0), (1, 3), (4, 4), (0, 4)];
 /// Ranges that none may have: in the midst of a character, or past the end.
 const OUTSIDE: &[(u32, u32)] = &[(0, 2), (2, 3), (4, 5), (7, 7)];
 
-fn can_edit_all(document: &Document, ranges: &[(u32, u32)]) -> bool {
-    let mut can = true;
-    for (start, end) in ranges {
-        can &= document.can_edit(range(*start, *end));
-    }
-    can
-}
-
-fn can_edit_any(document: &Document, ranges: &[(u32, u32)]) -> bool {
-    let mut can = false;
-    for (start, end) in ranges {
-        can |= document.can_edit(range(*start, *end));
-    }
-    can
-}
-
 fn are_told_apart(alloc: Global) -> Result<bool, Fail> {
     let document = open(alloc, "aéb")?;
-    Ok(can_edit_all(&document, INSIDE) & !can_edit_any(&document, OUTSIDE))
+    let can_edit = |at: &(u32, u32)| document.can_edit(range(at.0, at.1));
+    Ok(INSIDE.iter().all(&can_edit) & !OUTSIDE.iter().any(&can_edit))
 }
 
 #[test]

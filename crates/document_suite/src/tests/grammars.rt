@@ -1,10 +1,9 @@
 //! Documents of the whole language, and the same texts by the profile.
 use super::commits::commit;
-use super::{Place, found, has_text, open, range, replacing};
+use super::{Place, edit, has_text, open, range, replacing};
 use parser_input::edition::Edition;
 use parser_input::syntax_kind::SyntaxKind;
 use ra_parser::{Grammar, TopEntryPoint};
-use rowan_green::TextRange;
 use rust_document::{Document, OpenError, PayloadEntry, PayloadError, payload};
 use std::alloc::Global;
 use std::test::Fail;
@@ -68,30 +67,15 @@ fn texts_of_the_whole_language(rt: HostRuntime) -> Result<(), Fail> {
     Ok(())
 }
 
-/// Edits a document, and returns the number of lookaheads.
-fn edited(
-    alloc: Global,
-    document: &mut Document,
-    at: TextRange,
-    text: &str,
-    ids: &mut TreeIds,
-) -> Result<u64, Fail> {
-    if !document.can_edit(at) {
-        return Err(Fail::new("no range that can be edited"));
-    }
-    let edited = document.edit(alloc, at, text, ids)?;
-    Ok(edited.steps)
-}
-
 /// One more field is put into the union, then its name is changed: no lookahead is made there.
 fn edits(alloc: Global) -> Result<bool, Fail> {
     let mut ids = TreeIds::starting_at(2);
     let mut document = whole(alloc, UNION.0)?;
-    let more = edited(alloc, &mut document, range(15, 15), ", b: u8", &mut ids)?;
-    let name = edited(alloc, &mut document, range(6, 7), "V", &mut ids)?;
+    let more = edit(alloc, &mut document, range(15, 15), ", b: u8", &mut ids)??;
+    let name = edit(alloc, &mut document, range(6, 7), "V", &mut ids)??;
     let read = is_read(alloc, &document, (SyntaxKind::UNION, 0, 24))?;
     let text = has_text(&document, "union V { a: u8, b: u8 }");
-    Ok(read & text & (more > 0) & (name == 0))
+    Ok(read & text & (more.steps > 0) & (name.steps == 0))
 }
 
 #[test]
@@ -121,9 +105,8 @@ fn payloads_are_read_by_the_grammar(rt: HostRuntime) -> Result<(), Fail> {
 fn commits(alloc: Global) -> Result<bool, Fail> {
     let mut ids = TreeIds::starting_at(2);
     let mut document = whole(alloc, UNION.0)?;
-    let name = found(alloc, &document, (SyntaxKind::IDENT, 6, 7))?;
     let new = document.payload(alloc, PayloadEntry::Token, "Vw", &mut ids)?;
-    let editor = replacing(alloc, document.editor(alloc)?, &name, &new)?;
+    let editor = replacing(alloc, &document, (SyntaxKind::IDENT, 6, 7), &new)?;
     let answer = commit(alloc, &mut document, editor, &mut ids)?;
     let read = is_read(alloc, &document, (SyntaxKind::UNION, 0, 18))?;
     Ok(read & has_text(&document, "union Vw { a: u8 }") & (answer == Some(range(6, 8))))

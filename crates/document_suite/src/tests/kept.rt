@@ -1,10 +1,11 @@
 //! Edits and commits that keep tokens and the parser's output.
+use super::comments::APART;
 use super::commits::put;
-use super::opening::{Row, is_row};
-use super::{IDENT, range};
+use super::opening::is_row;
+use super::{IDENT, edit, range};
 use parser_input::edition::Edition;
 use parser_input::syntax_kind::SyntaxKind;
-use rust_document::{Document, Edited, PayloadEntry, payload};
+use rust_document::{Document, PayloadEntry, payload};
 use std::alloc::Global;
 use std::test::Fail;
 use syntax_tree::TreeIds;
@@ -20,23 +21,10 @@ type Kept = (
     bool,
 );
 
-fn edit(
-    alloc: Global,
-    document: &mut Document,
-    (at, new): ((u32, u32), &str),
-    ids: &mut TreeIds,
-) -> Result<Edited, Fail> {
-    let at = range(at.0, at.1);
-    if !document.can_edit(at) {
-        return Err(Fail::new("no range that can be edited"));
-    }
-    Ok(document.edit(alloc, at, new, ids)?)
-}
-
 fn is_kept(alloc: Global, (edition, text, at, new, counts, is_same): &Kept) -> Result<bool, Fail> {
     let mut ids = TreeIds::new();
     let mut document = Document::open(alloc, *edition, text, &mut ids)?;
-    let edited = edit(alloc, &mut document, (*at, *new), &mut ids)?;
+    let edited = edit(alloc, &mut document, range(at.0, at.1), new, &mut ids)??;
     let found = (edited.front, edited.lexed, edited.back);
     Ok((found == *counts) & ((edited.steps == 0) == *is_same))
 }
@@ -93,29 +81,10 @@ fn edits_keep_tokens_and_output(rt: HostRuntime) -> Result<(), Fail> {
     Ok(())
 }
 
-/// A comment that an empty line parts from the item after it.
-const APART: Row = Row {
-    text: "// a\n\nstruct S;",
-    tree: &[
-        ((SyntaxKind::COMMENT, 0, 4), &[0]),
-        ((SyntaxKind::WHITESPACE, 4, 6), &[1]),
-        ((SyntaxKind::STRUCT, 6, 15), &[2]),
-    ],
-    tokens: &[
-        (SyntaxKind::COMMENT, 0, 4),
-        (SyntaxKind::WHITESPACE, 4, 6),
-        (SyntaxKind::STRUCT_KW, 6, 12),
-        (SyntaxKind::WHITESPACE, 12, 13),
-        (SyntaxKind::IDENT, 13, 14),
-        (SyntaxKind::SEMICOLON, 14, 15),
-    ],
-    errors: &[],
-};
-
 fn comment_moves(alloc: Global) -> Result<bool, Fail> {
     let mut ids = TreeIds::new();
     let mut document = Document::open(alloc, OLD, "// a\nstruct S;", &mut ids)?;
-    let edited = edit(alloc, &mut document, ((4, 4), "\n"), &mut ids)?;
+    let edited = edit(alloc, &mut document, range(4, 4), "\n", &mut ids)??;
     Ok((edited.steps == 0) & is_row(alloc, &document, &APART)?)
 }
 
@@ -132,7 +101,7 @@ fn steps(alloc: Global, token: &str) -> Result<(u64, u64), Fail> {
     let mut document = Document::open(alloc, OLD, "struct S;", &mut ids)?;
     let editor = put(alloc, &document, IDENT, (OLD, token), &mut ids)?;
     let committed = document.commit(alloc, editor, &mut ids)?;
-    let edited = edit(alloc, &mut document, ((10, 11), ""), &mut ids)?;
+    let edited = edit(alloc, &mut document, range(10, 11), "", &mut ids)??;
     Ok((committed.steps, edited.steps))
 }
 

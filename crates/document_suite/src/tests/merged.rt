@@ -1,22 +1,14 @@
 //! Merged editors of one document.
-use super::{Place, found, open};
-use parser_input::syntax_kind::SyntaxKind;
+use super::{FIRST, Place, SECOND, deleting, found, merging, open};
 use rust_document::{CommitError, Document, SyntaxEditor};
 use std::alloc::Global;
 use std::test::Fail;
 use syntax_tree::TreeIds;
 
-/// The structs of `struct S; struct T;`.
-const FIRST: Place = (SyntaxKind::STRUCT, 0, 9);
-
-const SECOND: Place = (SyntaxKind::STRUCT, 10, 19);
-
-/// An editor that deletes an element of a document.
-fn deleting(alloc: Global, document: &Document, place: Place) -> Result<SyntaxEditor, Fail> {
+/// Returns an editor that deletes the element at a place.
+fn deleting_at(alloc: Global, document: &Document, place: Place) -> Result<SyntaxEditor, Fail> {
     let target = found(alloc, document, place)?;
-    let mut editor = document.editor(alloc)?;
-    editor.delete(alloc, &target)?;
-    Ok(editor)
+    deleting(alloc, document, &target)
 }
 
 /// Returns an editor that deletes two elements, merged from one editor for each.
@@ -25,12 +17,9 @@ fn merged(
     document: &Document,
     (one, other): (Place, Place),
 ) -> Result<SyntaxEditor, Fail> {
-    let mut editor = deleting(alloc, document, one)?;
-    let second = deleting(alloc, document, other)?;
-    if editor.merge(second).is_err() {
-        return Err(Fail::new("not merged"));
-    }
-    Ok(editor)
+    let editor = deleting_at(alloc, document, one)?;
+    let second = deleting_at(alloc, document, other)?;
+    merging(editor, second)
 }
 
 /// Returns `true` if committing two merged editors, each of which deletes a struct, returns

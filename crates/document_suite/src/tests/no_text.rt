@@ -1,6 +1,6 @@
 //! A node without text: insertions into it, and why it cannot be deleted.
-use super::open;
 use super::opening::{Row, is_row};
+use super::{deleting, merging, open};
 use parser_input::edition::Edition;
 use parser_input::syntax_kind::SyntaxKind;
 use rust_document::{CommitError, Document, PayloadEntry, SyntaxEditor, payload};
@@ -63,22 +63,17 @@ fn naming(alloc: Global, document: &Document, ids: &mut TreeIds) -> Result<Synta
     Ok(editor)
 }
 
-/// An editor that deletes the list.
-fn deleting(alloc: Global, document: &Document) -> Result<SyntaxEditor, Fail> {
+/// Returns an editor that deletes the list.
+fn deleting_list(alloc: Global, document: &Document) -> Result<SyntaxEditor, Fail> {
     let list = bounds(alloc, document)?;
-    let mut editor = document.editor(alloc)?;
-    editor.delete(alloc, &list)?;
-    Ok(editor)
+    deleting(alloc, document, &list)
 }
 
 /// Returns two merged editors, each of which deletes the list.
 fn deleting_twice(alloc: Global, document: &Document) -> Result<SyntaxEditor, Fail> {
-    let mut editor = deleting(alloc, document)?;
-    let second = deleting(alloc, document)?;
-    if editor.merge(second).is_err() {
-        return Err(Fail::new("not merged"));
-    }
-    Ok(editor)
+    let editor = deleting_list(alloc, document)?;
+    let second = deleting_list(alloc, document)?;
+    merging(editor, second)
 }
 
 /// A change of the list.
@@ -98,7 +93,7 @@ fn refusal(
     let mut ids = TreeIds::starting_at(2);
     let editor = match change {
         Change::Named => naming(alloc, document, &mut ids)?,
-        Change::Deleted => deleting(alloc, document)?,
+        Change::Deleted => deleting_list(alloc, document)?,
         Change::DeletedTwice => deleting_twice(alloc, document)?,
     };
     Ok(document.commit(alloc, editor, &mut ids).err())

@@ -2,9 +2,8 @@
 //! repeated call then has the result that it has with ample memory. `bench/refused.py` runs these
 //! with each allocation failing in turn.
 use super::opening::{CALL, FLOAT, NO_ATTRIBUTE, Row, is_row};
-use super::{Place, range};
+use super::{ONE, Place, TWO, range};
 use parser_input::edition::Edition;
-use parser_input::syntax_kind::SyntaxKind;
 use ra_parser::TopEntryPoint;
 use rowan_green::TextRange;
 use rust_document::{CommitError, Document, EditError, PayloadEntry, SyntaxEditor, payload};
@@ -68,11 +67,10 @@ fn recorded(
 /// Whether the text of `fn f() { g(1, 2); }` is this once both literals became an expression, recorded and committed again where memory
 /// was refused.
 fn is_committed(alloc: Global, put: &str, becomes: &str) -> Result<bool, Fail> {
-    let places = [(SyntaxKind::LITERAL, 11, 12), (SyntaxKind::LITERAL, 14, 15)];
     let mut ids = TreeIds::new();
     let mut document = opened(alloc, CALL.text, &mut ids)?;
     for _ in 0..2 {
-        if let Some(editor) = recorded(alloc, &document, places, put, &mut ids) {
+        if let Some(editor) = recorded(alloc, &document, [ONE, TWO], put, &mut ids) {
             let refused = document.commit(alloc, editor, &mut ids).err();
             if refused != Some(CommitError::NoMemory) {
                 return Ok(refused.is_none() & (document.text() == becomes));

@@ -1,7 +1,7 @@
 //! Renames: an identifier is replaced with another one.
-use super::commits::{commit, put};
+use super::commits::{commit, is_answer, put};
 use super::opening::has_errors;
-use super::{Place, has_text, range, spaces};
+use super::{Place, has_text, spaces};
 use parser_input::edition::Edition;
 use parser_input::syntax_kind::SyntaxKind;
 use rust_document::{CommitError, Document, MAX_TEXT, PayloadEntry, SyntaxEditor, payload};
@@ -27,10 +27,7 @@ fn is_renamed(alloc: Global, edition: Edition, row: &Rename) -> Result<bool, Fai
     let name: Place = (SyntaxKind::IDENT, row.name.0, row.name.1);
     let editor = put(alloc, &document, name, (edition, row.new), &mut ids)?;
     let answer = commit(alloc, &mut document, editor, &mut ids);
-    let answered = match row.answer {
-        Ok((start, end)) => answer == Ok(Some(range(start, end))),
-        Err(error) => answer == Err(error),
-    };
+    let answered = is_answer(answer, row.answer);
     Ok(answered & has_text(&document, row.then) & has_errors(alloc, &document, row.errors)?)
 }
 

@@ -1,6 +1,6 @@
 //! Commits of several changes: all are applied atomically, or the first error that fits is
 //! returned.
-use super::{Place, found, has_text, open, range};
+use super::{FIRST, ONE, Place, SECOND, TWO, expression, found, has_text, open, range};
 use parser_input::edition::Edition;
 use parser_input::syntax_kind::SyntaxKind;
 use ra_parser::TopEntryPoint;
@@ -71,76 +71,28 @@ fn made(alloc: Global, new: New, ids: &mut TreeIds) -> Result<SyntaxElement, Fai
     let edition = Edition::Edition2021;
     match new {
         New::Token(text) => Ok(payload(alloc, PayloadEntry::Token, edition, text, ids)?),
-        New::Expr(text) => {
-            let entry = PayloadEntry::Top(TopEntryPoint::Expr);
-            Ok(payload(alloc, entry, edition, text, ids)?)
-        }
+        New::Expr(text) => expression(alloc, text, ids),
         New::Struct(text) => item(alloc, SyntaxKind::STRUCT, text, ids),
         New::Use(text) => item(alloc, SyntaxKind::USE, text, ids),
     }
 }
 
-/// Records that an element is replaced.
-fn replace(
+/// Records what a change does with its new element, `new`, at an element.
+fn record_new(
     alloc: Global,
     editor: &mut SyntaxEditor,
-    target: &SyntaxElement,
-    new: New,
+    (target, change): (&SyntaxElement, Change),
+    new: &SyntaxElement,
     ids: &mut TreeIds,
 ) -> Result<(), Fail> {
-    let new = made(alloc, new, ids)?;
-    editor.replace(alloc, target, &new)?;
-    Ok(())
-}
-
-/// Records that an element comes before another.
-fn insert_before(
-    alloc: Global,
-    editor: &mut SyntaxEditor,
-    target: &SyntaxElement,
-    new: &SyntaxElement,
-) -> Result<(), Fail> {
-    editor.insert(alloc, Position::before(target)?, new)?;
-    Ok(())
-}
-
-/// Records that an element comes after another.
-fn insert_after(
-    alloc: Global,
-    editor: &mut SyntaxEditor,
-    target: &SyntaxElement,
-    new: &SyntaxElement,
-) -> Result<(), Fail> {
-    editor.insert(alloc, Position::after(target)?, new)?;
-    Ok(())
-}
-
-/// Records the insertion of an element next to another.
-fn insert(
-    alloc: Global,
-    editor: &mut SyntaxEditor,
-    (target, is_before): (&SyntaxElement, bool),
-    new: New,
-    ids: &mut TreeIds,
-) -> Result<(), Fail> {
-    let new = made(alloc, new, ids)?;
-    if is_before {
-        insert_before(alloc, editor, target, &new)
-    } else {
-        insert_after(alloc, editor, target, &new)
+    match change {
+        Change::Before(_) => editor.insert(alloc, Position::before(target)?, new)?,
+        Change::After(_) => editor.insert(alloc, Position::after(target)?, new)?,
+        Change::Spaced(_) => {
+            editor.insert_with_whitespace(alloc, Position::after(target)?, new, ids)?;
+        }
+        _ => editor.replace(alloc, target, new)?,
     }
-}
-
-/// Records the insertion of an element after another, with whitespace between them.
-fn insert_spaced(
-    alloc: Global,
-    editor: &mut SyntaxEditor,
-    target: &SyntaxElement,
-    new: New,
-    ids: &mut TreeIds,
-) -> Result<(), Fail> {
-    let new = made(alloc, new, ids)?;
-    editor.insert_with_whitespace(alloc, Position::after(target)?, &new, ids)?;
     Ok(())
 }
 
@@ -157,11 +109,6 @@ fn delete_to(
     Ok(())
 }
 
-/// Records that an element is deleted.
-fn delete(alloc: Global, editor: &mut SyntaxEditor, target: &SyntaxElement) -> Result<(), Fail> {
-    Ok(editor.delete(alloc, target)?)
-}
-
 /// Records a change of an element of a document.
 fn record_of(
     alloc: Global,
@@ -171,11 +118,11 @@ fn record_of(
     ids: &mut TreeIds,
 ) -> Result<(), Fail> {
     match change {
-        Change::Put(new) => replace(alloc, editor, target, new, ids),
-        Change::Before(new) => insert(alloc, editor, (target, true), new, ids),
-        Change::After(new) => insert(alloc, editor, (target, false), new, ids),
-        Change::Spaced(new) => insert_spaced(alloc, editor, target, new, ids),
-        Change::Delete => delete(alloc, editor, target),
+        Change::Put(new) | Change::Before(new) | Change::After(new) | Change::Spaced(new) => {
+            let new = made(alloc, new, ids)?;
+            record_new(alloc, editor, (target, change), &new, ids)
+        }
+        Change::Delete => Ok(editor.delete(alloc, target)?),
         Change::DeleteTo(last) => delete_to(alloc, document, editor, target, last),
     }
 }
@@ -252,22 +199,12 @@ fn holds(alloc: Global, row: &Row) -> Result<bool, Fail> {
     Ok(answered & has_text(&document, row.becomes))
 }
 
-/// The literals of `fn f() { g(1, 2); }`, and the only one of `fn f() { g(1); }`.
-const ONE: Place = (SyntaxKind::LITERAL, 11, 12);
-
-const TWO: Place = (SyntaxKind::LITERAL, 14, 15);
-
 /// The call in `fn f() { g(1); }`, its statement, and what ends that.
 const CALL: Place = (SyntaxKind::CALL_EXPR, 9, 13);
 
 const STATEMENT: Place = (SyntaxKind::EXPR_STMT, 9, 14);
 
 const END: Place = (SyntaxKind::SEMICOLON, 13, 14);
-
-/// The structs of `struct S; struct T;`, of which the first is that of `struct S;` too.
-const FIRST: Place = (SyntaxKind::STRUCT, 0, 9);
-
-const SECOND: Place = (SyntaxKind::STRUCT, 10, 19);
 
 const TWO_NAMES: Row = Row {
     text: "fn f() { let x = a * 2; }",

@@ -1,9 +1,8 @@
 //! Commits that are only tried.
-use super::{found, has_text};
+use super::{expression, has_text, replacing};
 use parser_input::edition::Edition;
 use parser_input::syntax_kind::SyntaxKind;
-use ra_parser::TopEntryPoint;
-use rust_document::{CommitError, Document, PayloadEntry, SyntaxEditor, payload};
+use rust_document::{CommitError, Document, SyntaxEditor};
 use std::alloc::Global;
 use std::test::Fail;
 use syntax_tree::TreeIds;
@@ -17,12 +16,8 @@ fn recorded(
     new: &str,
     ids: &mut TreeIds,
 ) -> Result<SyntaxEditor, Fail> {
-    let target = found(alloc, document, (SyntaxKind::PATH_EXPR, 11, 12))?;
-    let entry = PayloadEntry::Top(TopEntryPoint::Expr);
-    let new = payload(alloc, entry, Edition::Edition2021, new, ids)?;
-    let mut editor = document.editor(alloc)?;
-    editor.replace(alloc, &target, &new)?;
-    Ok(editor)
+    let new = expression(alloc, new, ids)?;
+    replacing(alloc, document, (SyntaxKind::PATH_EXPR, 11, 12), &new)
 }
 
 #[test]

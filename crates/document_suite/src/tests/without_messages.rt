@@ -1,14 +1,11 @@
 //! Commits that ask for texts without messages.
-use super::{Place, SEMICOLON, found, has_text};
+use super::{Place, SEMICOLON, deleting, expression, found, has_text, replacing};
 use parser_input::edition::Edition;
 use parser_input::syntax_kind::SyntaxKind;
-use ra_parser::TopEntryPoint;
-use rust_document::{
-    CommitError, Document, PayloadEntry, SyntaxEditor, WithoutMessagesError, payload,
-};
+use rust_document::{CommitError, Document, SyntaxEditor, WithoutMessagesError};
 use std::alloc::Global;
 use std::test::Fail;
-use syntax_tree::{SyntaxElement, TreeIds};
+use syntax_tree::TreeIds;
 
 /// A change of one element, which becomes an expression or is deleted.
 #[derive(Clone, Copy)]
@@ -21,80 +18,47 @@ struct Row {
     committed: &'static str,
 }
 
-/// Records that an expression comes for an element.
-fn replaced(
-    alloc: Global,
-    mut editor: SyntaxEditor,
-    target: &SyntaxElement,
-    new: &str,
-    ids: &mut TreeIds,
-) -> Result<SyntaxEditor, Fail> {
-    let entry = PayloadEntry::Top(TopEntryPoint::Expr);
-    let new = payload(alloc, entry, Edition::Edition2021, new, ids)?;
-    editor.replace(alloc, target, &new)?;
-    Ok(editor)
-}
-
-/// Records that an element is deleted.
-fn deleted(
-    alloc: Global,
-    mut editor: SyntaxEditor,
-    target: &SyntaxElement,
-) -> Result<SyntaxEditor, Fail> {
-    editor.delete(alloc, target)?;
-    Ok(editor)
-}
-
-/// An editor with the change of a row.
+/// Returns an editor with the change of a row.
 fn recorded(
     alloc: Global,
     document: &Document,
     row: &Row,
     ids: &mut TreeIds,
 ) -> Result<SyntaxEditor, Fail> {
-    let target = found(alloc, document, row.place)?;
-    let editor = document.editor(alloc)?;
     match row.new {
-        Some(new) => replaced(alloc, editor, &target, new, ids),
-        None => deleted(alloc, editor, &target),
+        Some(new) => {
+            let new = expression(alloc, new, ids)?;
+            replacing(alloc, document, row.place, &new)
+        }
+        None => {
+            let target = found(alloc, document, row.place)?;
+            deleting(alloc, document, &target)
+        }
     }
 }
 
-/// Returns `true` if a commit without messages answers as the row says.
-fn is_refused(
+/// Returns why a commit without messages is refused, if it is.
+fn refusal(
     alloc: Global,
     document: &mut Document,
     row: &Row,
     ids: &mut TreeIds,
-) -> Result<bool, Fail> {
+) -> Result<Option<WithoutMessagesError>, Fail> {
     let editor = recorded(alloc, document, row, ids)?;
-    match document.commit_without_messages(alloc, editor, ids) {
-        Ok(_committed) => Ok(row.refusal.is_none()),
-        Err(error) => Ok(row.refusal == Some(error)),
-    }
-}
-
-/// Returns `true` if a commit that allows messages is accepted.
-fn is_committed(
-    alloc: Global,
-    document: &mut Document,
-    row: &Row,
-    ids: &mut TreeIds,
-) -> Result<bool, Fail> {
-    let editor = recorded(alloc, document, row, ids)?;
-    Ok(document.commit(alloc, editor, ids).is_ok())
+    Ok(document.commit_without_messages(alloc, editor, ids).err())
 }
 
 /// Returns `true` if both commits do what a row says: the first changes nothing if it is refused.
 fn is_answered(alloc: Global, row: &Row) -> Result<bool, Fail> {
     let mut ids = TreeIds::new();
     let mut document = Document::open(alloc, Edition::Edition2021, row.text, &mut ids)?;
-    let is_right = is_refused(alloc, &mut document, row, &mut ids)?;
+    let is_right = refusal(alloc, &mut document, row, &mut ids)? == row.refusal;
     if row.refusal.is_none() {
         return Ok(is_right & has_text(&document, row.committed));
     }
     let is_kept = has_text(&document, row.text);
-    let is_accepted = is_committed(alloc, &mut document, row, &mut ids)?;
+    let editor = recorded(alloc, &document, row, &mut ids)?;
+    let is_accepted = document.commit(alloc, editor, &mut ids).is_ok();
     Ok(is_right & is_kept & is_accepted & has_text(&document, row.committed))
 }
 
@@ -126,12 +90,9 @@ const ROWS: &[Row] = &[
 
 #[test]
 fn texts_without_messages(rt: HostRuntime) -> Result<(), Fail> {
-    let alloc = rt.alloc();
-    let mut are_answered = true;
     for row in ROWS {
-        are_answered &= is_answered(alloc, row)?;
+        assert!(rt; is_answered(rt.alloc(), row)?, "{}", row.text);
     }
-    assert!(rt; are_answered);
     Ok(())
 }
 
@@ -148,7 +109,7 @@ fn unfaithful_comes_first(rt: HostRuntime) -> Result<(), Fail> {
         committed: "",
     };
     let mut document = Document::open(alloc, Edition::Edition2021, row.text, &mut ids)?;
-    let is_right = is_refused(alloc, &mut document, &row, &mut ids)?;
+    let is_right = refusal(alloc, &mut document, &row, &mut ids)? == row.refusal;
     let is_kept = has_text(&document, row.text);
     drop(document);
     assert!(rt; is_right & is_kept);

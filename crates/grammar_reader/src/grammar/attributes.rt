@@ -1,6 +1,6 @@
 //! Attributes.
 
-ghost use Rattle.std.specs.Prelude.{◌≤◌, Bool, true, false};
+ghost use Rattle.std.specs.Prelude.{◌≤◌, true};
 ghost use Rattle.rust_grammar.specs.Calls.{Meta};
 ghost use Rattle.rust_grammar.specs.Notation.{⁅◌⁆, ◌! };
 ghost use Rattle.rust_grammar.specs.Rule as rules;
@@ -8,11 +8,14 @@ ghost use Rattle.rust_grammar.specs.Items as rows;
 ghost use Rattle.rust_grammar.specs.Shared as shared;
 ghost use Rattle.rust_productions.specs.Looks.{tokens, Takes, Asks};
 ghost use Rattle.rust_productions.specs.Reads.{looks, Gives, Reads, Saw};
+ghost use Rattle.rust_productions.specs.declared.condition.Condition.{Condition};
+ghost use Rattle.rust_productions.specs.declared.condition.Condition.TheVariants.{Off};
 
 use crate::grammar::expressions::{Level, expect_expression};
 use parser_events::message::Message;
 use parser_events::parser::Parser;
 use parser_input::syntax_kind::SyntaxKind;
+use rust_productions::condition::Condition;
 use rust_productions::grammar::attributes::at_meta;
 use rust_productions::grammar::paths::{expect_path, path};
 use rust_productions::grammar::token_trees::{at_token_tree, token_tree};
@@ -23,7 +26,7 @@ use rust_productions::grammar::{at, at_new, complete, eat, error, expect, start,
 #[cycle(grammar)]
 pub(crate) fn attribute(p: &mut Parser<'_>)
     requires some { 1 ≤ tokens p.old }
-    ensures gives { (c : Bool) → Gives rules.attribute c p.old p.new }
+    ensures gives { (c : Condition) → Gives rules.attribute c p.old p.new }
     ensures takes { Takes 4080 p.old p.new }
 {
     let attribute = start(p);
@@ -39,7 +42,7 @@ pub(crate) fn attribute(p: &mut Parser<'_>)
 // #[a] #[b]
 #[cycle(grammar)]
 pub(crate) fn outer_attributes(p: &mut Parser<'_>)
-    ensures reads { (c : Bool) → Reads c shared.outer_attributes p.old p.new }
+    ensures reads { (c : Condition) → Reads c shared.outer_attributes p.old p.new }
     ensures asks { Asks 1 p.old p.new }
 {
     'turns: while at_new(p, SyntaxKind::POUND) {
@@ -50,11 +53,11 @@ pub(crate) fn outer_attributes(p: &mut Parser<'_>)
 /// Parses the meta item of an attribute; emits an error if there is none.
 #[cycle(grammar)]
 fn expect_meta(p: &mut Parser<'_>)
-    ensures reads { Reads false (Meta !) p.old p.new }
+    ensures reads { Reads Off (Meta !) p.old p.new }
     ensures asks { Asks 4 p.old p.new }
 {
     if at_meta(p) {
-        meta(p, false);
+        meta(p, Condition::Off);
         return;
     }
     error(p, Message::Expected(SyntaxKind::META));
@@ -64,8 +67,8 @@ fn expect_meta(p: &mut Parser<'_>)
 /// `unsafe(..)`.
 // cfg(test)
 #[cycle(grammar)]
-pub fn meta(p: &mut Parser<'_>, condition: bool)
-    requires begins { (c : Bool) → Saw c (looks rules.meta) p.old true }
+pub fn meta(p: &mut Parser<'_>, condition: Condition)
+    requires begins { (c : Condition) → Saw c (looks rules.meta) p.old true }
     requires some { 1 ≤ tokens p.old }
     ensures gives { Gives rules.meta condition p.old p.new }
     ensures takes { Takes 3980 p.old p.new }
@@ -80,8 +83,8 @@ pub fn meta(p: &mut Parser<'_>, condition: bool)
 /// Parses a meta item: a path with an optional value or token tree.
 // cfg(test)
 #[cycle(grammar)]
-fn path_meta(p: &mut Parser<'_>, condition: bool)
-    requires begins { (c : Bool) → Saw c (looks rules.path) p.old true }
+fn path_meta(p: &mut Parser<'_>, condition: Condition)
+    requires begins { (c : Condition) → Saw c (looks rules.path) p.old true }
     requires some { 1 ≤ tokens p.old }
     ensures reads { Reads condition rows.path_meta p.old p.new }
     ensures takes { Takes 3990 p.old p.new }
@@ -95,7 +98,7 @@ fn path_meta(p: &mut Parser<'_>, condition: bool)
 /// Parses a meta item in `unsafe(..)`.
 // unsafe(no_mangle)
 #[cycle(grammar)]
-fn unsafe_meta(p: &mut Parser<'_>, condition: bool)
+fn unsafe_meta(p: &mut Parser<'_>, condition: Condition)
     requires some { 1 ≤ tokens p.old }
     ensures reads { Reads condition rows.unsafe_meta p.old p.new }
     ensures takes { Takes 4080 p.old p.new }
@@ -112,7 +115,7 @@ fn unsafe_meta(p: &mut Parser<'_>, condition: bool)
 /// Parses the optional value or token tree of a meta item.
 // = "text"
 #[cycle(grammar)]
-fn opt_value(p: &mut Parser<'_>, condition: bool)
+fn opt_value(p: &mut Parser<'_>, condition: Condition)
     ensures reads { Reads condition ⁅ rows.attr_input ⁆ p.old p.new }
     ensures asks { Asks 2 p.old p.new }
 {

@@ -1,6 +1,5 @@
 //! Const arguments, and defaults of const parameters.
 
-ghost use Rattle.std.specs.Prelude.{Bool};
 ghost use Rattle.parser_input.specs.Kinds.{PATH_EXPR};
 ghost use Rattle.rust_grammar.specs.Calls.{ExprPath};
 ghost use Rattle.rust_grammar.specs.Notation.{◌!, ◌⟨◌⟩};
@@ -8,6 +7,7 @@ ghost use Rattle.rust_grammar.specs.Paths as rows;
 ghost use Rattle.rust_grammar.specs.Rule as rules;
 ghost use Rattle.rust_productions.specs.Looks.{Asks};
 ghost use Rattle.rust_productions.specs.Reads.{Gives, Reads};
+ghost use Rattle.rust_productions.specs.declared.condition.Condition.{Condition};
 
 use crate::grammar::expressions::blocks::block;
 use crate::grammar::paths::{Mode, path_with_args};
@@ -25,7 +25,7 @@ use rust_productions::grammar::{at, complete, error, start};
 // -1
 #[cycle(grammar)]
 pub(crate) fn expect_const_arg(p: &mut Parser<'_>)
-    ensures reads { (c : Bool) → Reads c (rows.const_arg !) p.old p.new }
+    ensures reads { (c : Condition) → Reads c (rows.const_arg !) p.old p.new }
     ensures asks { Asks 20 p.old p.new }
 {
     if at_const_arg(p) {
@@ -40,7 +40,7 @@ pub(crate) fn expect_const_arg(p: &mut Parser<'_>)
 // -1
 #[cycle(grammar)]
 pub(crate) fn const_arg(p: &mut Parser<'_>)
-    ensures reads { (c : Bool) → Reads c rows.const_arg p.old p.new }
+    ensures reads { (c : Condition) → Reads c rows.const_arg p.old p.new }
     ensures asks { Asks 7 p.old p.new }
 {
     let node = start(p);
@@ -52,7 +52,7 @@ pub(crate) fn const_arg(p: &mut Parser<'_>)
 // -1
 #[cycle(grammar)]
 fn const_value(p: &mut Parser<'_>)
-    ensures reads { (c : Bool) → Reads c rows.const_value p.old p.new }
+    ensures reads { (c : Condition) → Reads c rows.const_value p.old p.new }
     ensures asks { Asks 7 p.old p.new }
 {
     if at(p, SyntaxKind::L_CURLY) {
@@ -74,7 +74,7 @@ fn const_value(p: &mut Parser<'_>)
 // N
 #[cycle(grammar)]
 pub(crate) fn const_path(p: &mut Parser<'_>)
-    ensures reads { (c : Bool) → Reads c (PATH_EXPR ⟨ ExprPath ⟩) p.old p.new }
+    ensures reads { (c : Condition) → Reads c (PATH_EXPR ⟨ ExprPath ⟩) p.old p.new }
     ensures asks { Asks 3 p.old p.new }
 {
     let node = start(p);
@@ -86,7 +86,7 @@ pub(crate) fn const_path(p: &mut Parser<'_>)
 // a::N
 #[cycle(grammar)]
 fn expr_path(p: &mut Parser<'_>)
-    ensures gives { (c : Bool) → Gives rules.expr_path c p.old p.new }
+    ensures gives { (c : Condition) → Gives rules.expr_path c p.old p.new }
     ensures asks { Asks 3 p.old p.new }
 {
     if at_path(p) {

@@ -1,9 +1,10 @@
 //! What a whole input is read as, where nothing is left over.
 
-ghost use Rattle.std.specs.Prelude.{◌≤◌, ◌+◌, false};
+ghost use Rattle.std.specs.Prelude.{◌≤◌, ◌+◌};
 ghost use Rattle.rust_grammar.specs.Rule as rules;
 ghost use Rattle.rust_productions.specs.Looks.{tokens, spent};
 ghost use Rattle.rust_productions.specs.Reads.{Gives, looks};
+ghost use Rattle.rust_productions.specs.declared.condition.Condition.TheVariants.{Off};
 
 use crate::grammar::expressions::blocks::statements;
 use crate::grammar::items::items;
@@ -15,7 +16,7 @@ use rust_productions::grammar::{complete, eat, start};
 /// Parses a source file: an optional shebang, an optional frontmatter, and items.
 // mod a; fn f() {}
 pub fn source_file(p: &mut Parser<'_>)
-    ensures gives { Gives rules.source_file false p.old p.new }
+    ensures gives { Gives rules.source_file Off p.old p.new }
     ensures left { tokens p.new ≤ tokens p.old }
     ensures looks { spent p.new ≤ spent p.old + 4 }
 {
@@ -29,7 +30,7 @@ pub fn source_file(p: &mut Parser<'_>)
 /// Parses the items that a macro expands to.
 // mod a; fn f() {}
 pub fn macro_items(p: &mut Parser<'_>)
-    ensures gives { Gives rules.macro_items false p.old p.new }
+    ensures gives { Gives rules.macro_items Off p.old p.new }
     ensures left { tokens p.new ≤ tokens p.old }
     ensures looks { spent p.new ≤ spent p.old + 2 }
 {
@@ -41,7 +42,7 @@ pub fn macro_items(p: &mut Parser<'_>)
 /// Parses the statements that a macro expands to.
 // f(); a
 pub fn macro_statements(p: &mut Parser<'_>)
-    ensures gives { Gives rules.macro_statements false p.old p.new }
+    ensures gives { Gives rules.macro_statements Off p.old p.new }
     ensures left { tokens p.new ≤ tokens p.old }
     ensures looks { spent p.new ≤ spent p.old + 901 }
 {

@@ -1,6 +1,6 @@
 //! Expressions: operations, ranges, operands after `|>`, and assignments.
 
-ghost use Rattle.std.specs.Prelude.{◌≤◌, Bool, Some, None, true};
+ghost use Rattle.std.specs.Prelude.{◌≤◌, Some, None, true};
 ghost use Rattle.parser_events.specs.Forest.{ExpectedExpression};
 ghost use Rattle.parser_events.specs.Stack.{IsInnermost};
 ghost use Rattle.rust_grammar.specs.Calls.{Expression, Operation};
@@ -15,6 +15,7 @@ ghost use Rattle.rust_productions.specs.Operators.{IsMark, IsNext, spelling_of};
 ghost use Rattle.rust_productions.specs.Reads.{looks, Gives, Reads, Saw};
 ghost use Rattle.rust_productions.specs.Starts.{Starts, StartsIn};
 ghost use Rattle.rust_productions.specs.Moves.{Keeps};
+ghost use Rattle.rust_productions.specs.declared.condition.Condition.{Condition};
 ghost use Rattle.grammar_reader.specs.Next.{EndsRange};
 
 use crate::grammar::expressions::layers::{climb, expect_layer, layers};
@@ -22,6 +23,7 @@ use crate::grammar::expressions::operand::prefixed;
 use parser_events::message::Message;
 use parser_events::parser::{Marker, Parser};
 use parser_input::syntax_kind::SyntaxKind;
+use rust_productions::condition::Condition;
 use rust_productions::grammar::expressions::{at_expression, at_operation, at_range_operand};
 use rust_productions::grammar::operators::{
     Operator, RangeMark, current_op, present_mark, range_mark, take_mark, take_operator,
@@ -49,7 +51,7 @@ pub(crate) enum Level {
 /// Parses an expression with operators up to `level`; emits an error if there is none.
 // a + b
 #[cycle(grammar)]
-pub(crate) fn expect_expression(p: &mut Parser<'_>, level: Level, condition: bool)
+pub(crate) fn expect_expression(p: &mut Parser<'_>, level: Level, condition: Condition)
     ensures reads { Reads condition (Want (Call (level_of level)) ExpectedExpression) p.old p.new }
     ensures asks { Asks 20 p.old p.new }
 {
@@ -65,7 +67,7 @@ pub(crate) fn expect_expression(p: &mut Parser<'_>, level: Level, condition: boo
 /// Parses an expression; emits an error if there is none.
 // a + b
 #[cycle(grammar)]
-fn expect_any(p: &mut Parser<'_>, condition: bool)
+fn expect_any(p: &mut Parser<'_>, condition: Condition)
     ensures reads { Reads condition (Expression !) p.old p.new }
     ensures asks { Asks 19 p.old p.new }
 {
@@ -79,7 +81,7 @@ fn expect_any(p: &mut Parser<'_>, condition: bool)
 /// Parses an operation; emits an error if there is none.
 // a = b
 #[cycle(grammar)]
-fn expect_operation(p: &mut Parser<'_>, condition: bool)
+fn expect_operation(p: &mut Parser<'_>, condition: Condition)
     ensures reads { Reads condition (Operation !) p.old p.new }
     ensures asks { Asks 19 p.old p.new }
 {
@@ -94,16 +96,16 @@ fn expect_operation(p: &mut Parser<'_>, condition: bool)
 // a == b
 #[cycle(grammar)]
 pub(crate) fn expect_condition(p: &mut Parser<'_>)
-    ensures reads { (c : Bool) → Reads c (rows.condition !) p.old p.new }
+    ensures reads { (c : Condition) → Reads c (rows.condition !) p.old p.new }
     ensures asks { Asks 20 p.old p.new }
 {
-    expect_expression(p, Level::Operation, true);
+    expect_expression(p, Level::Operation, Condition::On);
 }
 
 /// Parses an expression.
 // a + b * c
 #[cycle(grammar)]
-pub fn expression(p: &mut Parser<'_>, condition: bool)
+pub fn expression(p: &mut Parser<'_>, condition: Condition)
     requires begins { Saw condition (looks rules.expression) p.old true }
     requires some { 1 ≤ tokens p.old }
     ensures gives { Gives rules.expression condition p.old p.new }
@@ -115,7 +117,7 @@ pub fn expression(p: &mut Parser<'_>, condition: bool)
 /// Parses an operation: an operand with all operators after it, a range, or an assignment.
 // a = b..c
 #[cycle(grammar)]
-pub(crate) fn operation(p: &mut Parser<'_>, condition: bool)
+pub(crate) fn operation(p: &mut Parser<'_>, condition: Condition)
     requires begins { Saw condition (looks rules.operation) p.old true }
     requires some { 1 ≤ tokens p.old }
     ensures gives { Gives rules.operation condition p.old p.new }
@@ -131,7 +133,7 @@ pub(crate) fn operation(p: &mut Parser<'_>, condition: bool)
 // a + b
 #[inline(never)]
 #[cycle(grammar)]
-fn operands(p: &mut Parser<'_>, condition: bool)
+fn operands(p: &mut Parser<'_>, condition: Condition)
     requires unmarked { IsMark None p.old }
     requires begins { StartsIn condition (looks rules.prefixed) p.old }
     ensures gives { Gives rules.operation condition p.old p.new }
@@ -147,7 +149,7 @@ fn operands(p: &mut Parser<'_>, condition: bool)
 /// Parses an operation that starts with a range operator.
 // ..a
 #[cycle(grammar)]
-fn range(p: &mut Parser<'_>, mark: RangeMark, condition: bool)
+fn range(p: &mut Parser<'_>, mark: RangeMark, condition: Condition)
     requires marked { IsMark (Some mark) p.old }
     ensures gives { Gives rules.operation condition p.old p.new }
     ensures takes { Takes 4060 p.old p.new }
@@ -167,7 +169,7 @@ fn range(p: &mut Parser<'_>, mark: RangeMark, condition: bool)
 /// Parses a range without a start, as an operand.
 // ..a
 #[cycle(grammar)]
-pub(crate) fn open_range(p: &mut Parser<'_>, condition: bool)
+pub(crate) fn open_range(p: &mut Parser<'_>, condition: Condition)
     requires begins { Starts rows.mark_begins p.old }
     ensures reads { Reads condition (RANGE_EXPR ⟨ rows.open_range ⟩) p.old p.new }
     ensures takes { Takes 4060 p.old p.new }
@@ -181,7 +183,7 @@ pub(crate) fn open_range(p: &mut Parser<'_>, condition: bool)
 /// Parses a range operator and its optional end. Returns `true` if there is an end.
 // ..=a
 #[cycle(grammar)]
-fn range_end(p: &mut Parser<'_>, mark: RangeMark, condition: bool) -> bool
+fn range_end(p: &mut Parser<'_>, mark: RangeMark, condition: Condition) -> bool
     requires marked { IsMark (Some mark) p.old }
     ensures ends { EndsRange condition (spelling_of mark) result p.old p.new }
     ensures keeps { Keeps p.old p.new }
@@ -198,7 +200,7 @@ fn range_end(p: &mut Parser<'_>, mark: RangeMark, condition: bool) -> bool
 /// Parses the operators of all layers after an operand, and what follows those.
 // * a + b
 #[cycle(grammar)]
-pub(crate) fn after_operand(p: &mut Parser<'_>, frame: Marker, condition: bool) -> Marker
+pub(crate) fn after_operand(p: &mut Parser<'_>, frame: Marker, condition: Condition) -> Marker
     requires innermost { IsInnermost frame p.old.nodes }
     ensures reads { Reads condition rows.after_operand p.old p.new }
     ensures asks { AsksIn result 11 p.old p.new }
@@ -211,7 +213,7 @@ pub(crate) fn after_operand(p: &mut Parser<'_>, frame: Marker, condition: bool) 
 // ..b = c
 #[inline(never)]
 #[cycle(grammar)]
-pub(crate) fn operation_tail(p: &mut Parser<'_>, frame: Marker, condition: bool) -> Marker
+pub(crate) fn operation_tail(p: &mut Parser<'_>, frame: Marker, condition: Condition) -> Marker
     requires innermost { IsInnermost frame p.old.nodes }
     ensures reads { Reads condition (more rules.operation_tail) p.old p.new }
     ensures asks { AsksIn result 7 p.old p.new }
@@ -233,7 +235,7 @@ pub(crate) fn operation_tail(p: &mut Parser<'_>, frame: Marker, condition: bool)
 // a |> f() |> g() = b
 #[inline(never)]
 #[cycle(grammar)]
-fn pipe_tail(p: &mut Parser<'_>, frame: Marker, condition: bool) -> Marker
+fn pipe_tail(p: &mut Parser<'_>, frame: Marker, condition: Condition) -> Marker
     requires innermost { IsInnermost frame p.old.nodes }
     ensures reads { Reads condition (more rules.pipe_tail) p.old p.new }
     ensures asks { AsksIn result 4 p.old p.new }
@@ -251,9 +253,13 @@ fn pipe_tail(p: &mut Parser<'_>, frame: Marker, condition: bool) -> Marker
 
 /// Parses an optional assignment operator and its right operand. `operator` is the next operator.
 // = b
-#[inline(never)]
 #[cycle(grammar)]
-fn opt_assignment(p: &mut Parser<'_>, frame: Marker, operator: Operator, condition: bool) -> Marker
+fn opt_assignment(
+    p: &mut Parser<'_>,
+    frame: Marker,
+    operator: Operator,
+    condition: Condition,
+) -> Marker
     requires next { IsNext operator p.old }
     requires innermost { IsInnermost frame p.old.nodes }
     ensures reads { Reads condition rows.opt_assignment p.old p.new }

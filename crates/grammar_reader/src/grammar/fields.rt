@@ -1,6 +1,6 @@
 //! Fields of record expressions and of record patterns.
 
-ghost use Rattle.std.specs.Prelude.{◌≡◌, ◌≤◌, ◌+◌, Bool, true};
+ghost use Rattle.std.specs.Prelude.{◌≡◌, ◌≤◌, ◌+◌, true};
 ghost use Rattle.parser_input.specs.Kinds.{IDENT_PAT, RECORD_EXPR_FIELD, RECORD_PAT_FIELD};
 ghost use Rattle.parser_events.specs.Stack.{IsInnermost};
 ghost use Rattle.rust_grammar.specs.Calls.{Expression, Name, Pattern};
@@ -12,7 +12,8 @@ ghost use Rattle.rust_grammar.specs.Words.{':', 'mut', 'ref'};
 ghost use Rattle.rust_grammar.specs.Expressions as expression_rows;
 ghost use Rattle.rust_grammar.specs.Patterns as pattern_rows;
 ghost use Rattle.rust_productions.specs.Looks.{tokens, spent, Takes, Asks};
-ghost use Rattle.rust_productions.specs.Reads.{looks, Anew, Completes, Gives, Reads, Saw};
+ghost use Rattle.rust_productions.specs.Reads.{looks, FromStart, Completes, Gives, Reads, Saw};
+ghost use Rattle.rust_productions.specs.declared.condition.Condition.{Condition};
 
 use crate::grammar::attributes::attribute;
 use crate::grammar::const_args::const_path;
@@ -23,6 +24,7 @@ use crate::grammar::paths::{Mode, path_with_args};
 use crate::grammar::patterns::rest_pat;
 use parser_events::parser::{Marker, Parser};
 use parser_input::syntax_kind::SyntaxKind;
+use rust_productions::condition::Condition;
 use rust_productions::grammar::expressions::at_expression;
 use rust_productions::grammar::names::{expect_name, name};
 use rust_productions::grammar::patterns::{at_attributed_named_field, at_named_field};
@@ -34,7 +36,7 @@ use rust_productions::grammar::{
 // a: 1
 #[inline(never)]
 #[cycle(grammar)]
-pub(crate) fn field_value(p: &mut Parser<'_>, condition: bool)
+pub(crate) fn field_value(p: &mut Parser<'_>, condition: Condition)
     requires begins { Saw condition (looks rules.field_value) p.old true }
     requires some { 1 ≤ tokens p.old }
     ensures gives { Gives rules.field_value condition p.old p.new }
@@ -58,9 +60,9 @@ pub(crate) fn field_value(p: &mut Parser<'_>, condition: bool)
 /// Parses a field of a record expression that has attributes.
 // #[a] b: 1
 #[cycle(grammar)]
-fn attributed_value(p: &mut Parser<'_>, condition: bool)
+fn attributed_value(p: &mut Parser<'_>, condition: Condition)
     requires some { 1 ≤ tokens p.old }
-    ensures anew { Anew condition (attributed expression_rows.attributed_value) p.old p.new }
+    ensures from_start { FromStart condition (attributed expression_rows.attributed_value) p.old p.new }
     ensures takes { Takes 4000 p.old p.new }
 {
     let node = start(p);
@@ -72,7 +74,7 @@ fn attributed_value(p: &mut Parser<'_>, condition: bool)
 /// Parses a field of a record expression after its attributes, and closes its node.
 // b: 1
 #[cycle(grammar)]
-fn value_after_attributes(p: &mut Parser<'_>, node: Marker, condition: bool)
+fn value_after_attributes(p: &mut Parser<'_>, node: Marker, condition: Condition)
     requires innermost { IsInnermost node p.old.nodes }
     ensures completes { Completes condition expression_rows.attributed_value p.old p.new }
     ensures asks { Asks 40 p.old p.new }
@@ -97,7 +99,7 @@ fn value_after_attributes(p: &mut Parser<'_>, node: Marker, condition: bool)
 // a
 fn name_or_number(p: &mut Parser<'_>)
     requires { 1 ≤ tokens p.old }
-    ensures reads { (c : Bool) → Reads c ident_or_int p.old p.new }
+    ensures reads { (c : Condition) → Reads c ident_or_int p.old p.new }
     ensures left { tokens p.new + 1 ≡ tokens p.old }
     ensures looks { spent p.new + 4095 ≤ spent p.old }
 {
@@ -111,7 +113,7 @@ fn name_or_number(p: &mut Parser<'_>)
 // 0
 fn name_of_field(p: &mut Parser<'_>)
     requires { 1 ≤ tokens p.old }
-    ensures reads { (c : Bool) → Reads c field_name p.old p.new }
+    ensures reads { (c : Condition) → Reads c field_name p.old p.new }
     ensures left { tokens p.new + 1 ≡ tokens p.old }
     ensures looks { spent p.new + 4095 ≤ spent p.old }
 {
@@ -122,8 +124,9 @@ fn name_of_field(p: &mut Parser<'_>)
 
 /// Parses a field of a record expression with its value.
 // a: 1
+#[inline(never)]
 #[cycle(grammar)]
-fn named_value(p: &mut Parser<'_>, condition: bool)
+fn named_value(p: &mut Parser<'_>, condition: Condition)
     requires some { 2 ≤ tokens p.old }
     ensures reads { Reads condition
         (RECORD_EXPR_FIELD ⟨ field_name ▸ One ':' ▸ Expression ! ⟩) p.old p.new }
@@ -139,7 +142,7 @@ fn named_value(p: &mut Parser<'_>, condition: bool)
 /// Parses the `..` of a record expression and its optional base.
 // ..b
 #[cycle(grammar)]
-fn other_fields(p: &mut Parser<'_>, condition: bool)
+fn other_fields(p: &mut Parser<'_>, condition: Condition)
     requires some { 2 ≤ tokens p.old }
     ensures reads { Reads condition expression_rows.struct_base p.old p.new }
     ensures takes { Takes 7000 p.old p.new }
@@ -151,7 +154,7 @@ fn other_fields(p: &mut Parser<'_>, condition: bool)
 /// Parses an optional expression.
 // b
 #[cycle(grammar)]
-fn opt_expression(p: &mut Parser<'_>, condition: bool)
+fn opt_expression(p: &mut Parser<'_>, condition: Condition)
     ensures reads { Reads condition ⁅ Expression ⁆ p.old p.new }
     ensures asks { Asks 19 p.old p.new }
 {
@@ -164,9 +167,9 @@ fn opt_expression(p: &mut Parser<'_>, condition: bool)
 // a
 #[cycle(grammar)]
 fn path_value(p: &mut Parser<'_>)
-    requires begins { (c : Bool) → Saw c (looks rules.path) p.old true }
+    requires begins { (c : Condition) → Saw c (looks rules.path) p.old true }
     requires some { 1 ≤ tokens p.old }
-    ensures reads { (c : Bool) → Reads c expression_rows.shorthand p.old p.new }
+    ensures reads { (c : Condition) → Reads c expression_rows.shorthand p.old p.new }
     ensures takes { Takes 4000 p.old p.new }
 {
     let node = start(p);
@@ -181,9 +184,9 @@ fn path_value(p: &mut Parser<'_>)
 #[inline(never)]
 #[cycle(grammar)]
 pub(crate) fn pattern_field(p: &mut Parser<'_>)
-    requires begins { (c : Bool) → Saw c (looks rules.pattern_field) p.old true }
+    requires begins { (c : Condition) → Saw c (looks rules.pattern_field) p.old true }
     requires some { 1 ≤ tokens p.old }
-    ensures gives { (c : Bool) → Gives rules.pattern_field c p.old p.new }
+    ensures gives { (c : Condition) → Gives rules.pattern_field c p.old p.new }
     ensures takes { Takes 4060 p.old p.new }
 {
     if at_new(p, SyntaxKind::POUND) {
@@ -206,7 +209,7 @@ pub(crate) fn pattern_field(p: &mut Parser<'_>)
 #[cycle(grammar)]
 fn attributed_pattern_field(p: &mut Parser<'_>)
     requires some { 1 ≤ tokens p.old }
-    ensures anew { (c : Bool) → Anew c (attributed pattern_rows.attributed_field) p.old p.new }
+    ensures from_start { (c : Condition) → FromStart c (attributed pattern_rows.attributed_field) p.old p.new }
     ensures takes { Takes 4070 p.old p.new }
 {
     let node = start(p);
@@ -220,7 +223,7 @@ fn attributed_pattern_field(p: &mut Parser<'_>)
 #[cycle(grammar)]
 fn after_attributes(p: &mut Parser<'_>, node: Marker)
     requires innermost { IsInnermost node p.old.nodes }
-    ensures completes { (c : Bool) → Completes c pattern_rows.attributed_field p.old p.new }
+    ensures completes { (c : Condition) → Completes c pattern_rows.attributed_field p.old p.new }
     ensures asks { Asks 7 p.old p.new }
 {
     if at_pair(p, SyntaxKind::DOT, SyntaxKind::DOT) {
@@ -242,7 +245,7 @@ fn after_attributes(p: &mut Parser<'_>, node: Marker)
 /// Parses the binding of a shorthand field; emits an error if there is no name.
 // ref mut a
 fn any_binding(p: &mut Parser<'_>)
-    ensures reads { (c : Bool) → Reads c (IDENT_PAT ⟨ pattern_rows.binding ⟩) p.old p.new }
+    ensures reads { (c : Condition) → Reads c (IDENT_PAT ⟨ pattern_rows.binding ⟩) p.old p.new }
     ensures asks { Asks 3 p.old p.new }
 {
     let node = start(p);
@@ -257,7 +260,7 @@ fn any_binding(p: &mut Parser<'_>)
 #[cycle(grammar)]
 fn named_pattern(p: &mut Parser<'_>)
     requires some { 2 ≤ tokens p.old }
-    ensures reads { (c : Bool) → Reads c
+    ensures reads { (c : Condition) → Reads c
         (RECORD_PAT_FIELD ⟨ field_name ▸ One ':' ▸ Pattern ! ⟩) p.old p.new }
     ensures takes { Takes 8000 p.old p.new }
 {
@@ -271,9 +274,9 @@ fn named_pattern(p: &mut Parser<'_>)
 /// Parses a shorthand field of a record pattern.
 // ref mut a
 fn shorthand(p: &mut Parser<'_>)
-    requires begins { (c : Bool) → Saw c (begins looks pattern_rows.binding) p.old true }
+    requires begins { (c : Condition) → Saw c (begins looks pattern_rows.binding) p.old true }
     requires some { 1 ≤ tokens p.old }
-    ensures reads { (c : Bool) → Reads c pattern_rows.shorthand p.old p.new }
+    ensures reads { (c : Condition) → Reads c pattern_rows.shorthand p.old p.new }
     ensures takes { Takes 4090 p.old p.new }
 {
     let field = start(p);
@@ -286,9 +289,9 @@ fn shorthand(p: &mut Parser<'_>)
 /// Parses a name with an optional `ref` and an optional `mut`.
 // ref mut a
 fn bound_name(p: &mut Parser<'_>)
-    requires begins { (c : Bool) → Saw c (begins looks pattern_rows.binding) p.old true }
+    requires begins { (c : Condition) → Saw c (begins looks pattern_rows.binding) p.old true }
     requires some { 1 ≤ tokens p.old }
-    ensures reads { (c : Bool) → Reads c pattern_rows.binding p.old p.new }
+    ensures reads { (c : Condition) → Reads c pattern_rows.binding p.old p.new }
     ensures takes { Takes 4090 p.old p.new }
 {
     match current(p) {
@@ -302,7 +305,7 @@ fn bound_name(p: &mut Parser<'_>)
 // ref mut a
 fn name_after_ref(p: &mut Parser<'_>)
     requires { 1 ≤ tokens p.old }
-    ensures reads { (c : Bool) → Reads c (One 'ref' ▸ ⁅ One 'mut' ⁆ ▸ Name !) p.old p.new }
+    ensures reads { (c : Condition) → Reads c (One 'ref' ▸ ⁅ One 'mut' ⁆ ▸ Name !) p.old p.new }
     ensures takes { Takes 4094 p.old p.new }
 {
     take(p, SyntaxKind::REF_KW);
@@ -314,7 +317,7 @@ fn name_after_ref(p: &mut Parser<'_>)
 // mut a
 fn name_after_mut(p: &mut Parser<'_>)
     requires { 1 ≤ tokens p.old }
-    ensures reads { (c : Bool) → Reads c (One 'mut' ▸ Name !) p.old p.new }
+    ensures reads { (c : Condition) → Reads c (One 'mut' ▸ Name !) p.old p.new }
     ensures takes { Takes 4095 p.old p.new }
 {
     take(p, SyntaxKind::MUT_KW);

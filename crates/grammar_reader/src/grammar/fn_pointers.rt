@@ -1,6 +1,6 @@
 //! Function pointer types.
 
-ghost use Rattle.std.specs.Prelude.{Bool, false};
+ghost use Rattle.std.specs.Prelude.{false};
 ghost use Rattle.rust_grammar.specs.Notation.{◌! };
 ghost use Rattle.rust_grammar.specs.Rule as rules;
 ghost use Rattle.rust_grammar.specs.Rule.{begins};
@@ -9,6 +9,7 @@ ghost use Rattle.rust_grammar.specs.Types as rows;
 ghost use Rattle.rust_productions.specs.Looks.{Takes, Asks};
 ghost use Rattle.rust_productions.specs.Reads.{looks, Gives, Reads, Saw};
 ghost use Rattle.rust_productions.specs.Starts.{Starts};
+ghost use Rattle.rust_productions.specs.declared.condition.Condition.{Condition};
 
 use crate::grammar::attributes::{attribute, outer_attributes};
 use crate::grammar::parts::{Part, expect_part};
@@ -30,7 +31,7 @@ use rust_productions::grammar::{
 #[cycle(grammar)]
 pub(crate) fn fn_ptr_type(p: &mut Parser<'_>)
     requires begins { Starts rows.fn_ptr_begins p.old }
-    ensures reads { (c : Bool) → Reads c rows.fn_ptr_type p.old p.new }
+    ensures reads { (c : Condition) → Reads c rows.fn_ptr_type p.old p.new }
     ensures takes { Takes 4000 p.old p.new }
 {
     let node = start(p);
@@ -44,7 +45,7 @@ pub(crate) fn fn_ptr_type(p: &mut Parser<'_>)
 // unsafe extern "C" fn
 fn fn_ptr_words(p: &mut Parser<'_>)
     requires begins { Starts rows.fn_ptr_begins p.old }
-    ensures reads { (c : Bool) → Reads c rows.fn_ptr_words p.old p.new }
+    ensures reads { (c : Condition) → Reads c rows.fn_ptr_words p.old p.new }
     ensures takes { Takes 4080 p.old p.new }
 {
     match current(p) {
@@ -67,7 +68,7 @@ fn fn_ptr_words(p: &mut Parser<'_>)
 #[cycle(grammar)]
 pub(crate) fn fn_ptr_param(p: &mut Parser<'_>)
     requires begins { Starts (begins looks rows.fn_ptr_param) p.old }
-    ensures reads { (c : Bool) → Reads c rows.fn_ptr_param p.old p.new }
+    ensures reads { (c : Condition) → Reads c rows.fn_ptr_param p.old p.new }
     ensures takes { Takes 2700 p.old p.new }
 {
     let node = start(p);
@@ -80,7 +81,7 @@ pub(crate) fn fn_ptr_param(p: &mut Parser<'_>)
 #[cycle(grammar)]
 fn attributed_or_bare(p: &mut Parser<'_>)
     requires begins { Starts (begins looks rows.fn_ptr_param) p.old }
-    ensures reads { (c : Bool) → Reads c rows.in_fn_ptr_param p.old p.new }
+    ensures reads { (c : Condition) → Reads c rows.in_fn_ptr_param p.old p.new }
     ensures takes { Takes 2700 p.old p.new }
 {
     if at_new(p, SyntaxKind::POUND) {
@@ -97,7 +98,7 @@ fn attributed_or_bare(p: &mut Parser<'_>)
 #[cycle(grammar)]
 fn bare_param(p: &mut Parser<'_>)
     requires begins { Starts (begins looks rows.dots_name_or_type) p.old }
-    ensures reads { (c : Bool) → Reads c rows.dots_name_or_type p.old p.new }
+    ensures reads { (c : Condition) → Reads c rows.dots_name_or_type p.old p.new }
     ensures takes { Takes 2710 p.old p.new }
 {
     if at_dots_dot(p) {
@@ -115,7 +116,7 @@ fn bare_param(p: &mut Parser<'_>)
 // b: u8
 #[cycle(grammar)]
 fn dots_name_or_type(p: &mut Parser<'_>)
-    ensures reads { (c : Bool) → Reads c rows.dots_name_or_type p.old p.new }
+    ensures reads { (c : Condition) → Reads c rows.dots_name_or_type p.old p.new }
     ensures asks { Asks 40 p.old p.new }
 {
     if at_dots_dot(p) {
@@ -136,8 +137,8 @@ fn dots_name_or_type(p: &mut Parser<'_>)
 /// Parses the type of a parameter where none starts: emits an error within the nodes of its path.
 #[cycle(grammar)]
 fn missing_type(p: &mut Parser<'_>)
-    requires none { (c : Bool) → Saw c (looks rules.any_type) p.old false }
-    ensures gives { (c : Bool) → Gives rules.any_type c p.old p.new }
+    requires none { (c : Condition) → Saw c (looks rules.any_type) p.old false }
+    ensures gives { (c : Condition) → Gives rules.any_type c p.old p.new }
     ensures asks { Asks 14 p.old p.new }
 {
     let node = start(p);
@@ -148,8 +149,8 @@ fn missing_type(p: &mut Parser<'_>)
 /// Parses the path of a type where none starts: emits an error within the nodes of the path.
 #[cycle(grammar)]
 fn missing_path(p: &mut Parser<'_>)
-    requires none { (c : Bool) → Saw c (looks rules.any_type) p.old false }
-    ensures gives { (c : Bool) → Gives rules.type_path c p.old p.new }
+    requires none { (c : Condition) → Saw c (looks rules.any_type) p.old false }
+    ensures gives { (c : Condition) → Gives rules.type_path c p.old p.new }
     ensures asks { Asks 13 p.old p.new }
 {
     let frame = start(p);
@@ -162,8 +163,8 @@ fn missing_path(p: &mut Parser<'_>)
 /// optional arguments after it.
 #[cycle(grammar)]
 fn missing_segment(p: &mut Parser<'_>)
-    requires none { (c : Bool) → Saw c (looks rules.any_type) p.old false }
-    ensures reads { (c : Bool) → Reads c (first_segment type_args) p.old p.new }
+    requires none { (c : Condition) → Saw c (looks rules.any_type) p.old false }
+    ensures reads { (c : Condition) → Reads c (first_segment type_args) p.old p.new }
     ensures asks { Asks 9 p.old p.new }
 {
     let path = start(p);
@@ -179,7 +180,7 @@ fn missing_segment(p: &mut Parser<'_>)
 #[cycle(grammar)]
 fn named_param(p: &mut Parser<'_>)
     requires begins { Starts (looks rules.single_pattern) p.old }
-    ensures reads { (c : Bool) → Reads c rows.named_param p.old p.new }
+    ensures reads { (c : Condition) → Reads c rows.named_param p.old p.new }
     ensures takes { Takes 2800 p.old p.new }
 {
     single_pattern(p);
@@ -191,7 +192,7 @@ fn named_param(p: &mut Parser<'_>)
 // u8
 #[cycle(grammar)]
 fn dots_or_type(p: &mut Parser<'_>)
-    ensures reads { (c : Bool) → Reads c rows.dots_or_type p.old p.new }
+    ensures reads { (c : Condition) → Reads c rows.dots_or_type p.old p.new }
     ensures asks { Asks 19 p.old p.new }
 {
     if at_dots_dot(p) {

@@ -1,6 +1,6 @@
 //! Arguments of generics.
 
-ghost use Rattle.std.specs.Prelude.{◌≡◌, ◌≤◌, ◌+◌, Bool, false};
+ghost use Rattle.std.specs.Prelude.{◌≡◌, ◌≤◌, ◌+◌, false};
 ghost use Rattle.parser_input.specs.Kinds as kinds;
 ghost use Rattle.parser_input.specs.Kinds.{ASSOC_TYPE_ARG, CONST_ARG, NAME_REF};
 ghost use Rattle.rust_grammar.specs.Calls.{AnyType, Literal};
@@ -12,8 +12,9 @@ ghost use Rattle.rust_grammar.specs.Whole.{rule};
 ghost use Rattle.rust_grammar.specs.Words.{'=', '-', 'ident'};
 ghost use Rattle.rust_grammar.specs.Paths as rows;
 ghost use Rattle.rust_productions.specs.Looks.{tokens, spent, Takes, Asks, TakesIn, AsksIn};
-ghost use Rattle.rust_productions.specs.Reads.{looks, Anew, Gives, Reads, Saw};
+ghost use Rattle.rust_productions.specs.Reads.{looks, FromStart, Gives, Reads, Saw};
 ghost use Rattle.rust_productions.specs.Starts.{Starts};
+ghost use Rattle.rust_productions.specs.declared.condition.Condition.{Condition};
 
 use crate::grammar::const_args::const_arg;
 use crate::grammar::expressions::blocks::block;
@@ -33,7 +34,7 @@ use rust_productions::grammar::{abandon, at, at_second, complete, current, start
 #[cycle(grammar)]
 pub(crate) fn generic_arg(p: &mut Parser<'_>)
     requires begins { Starts (looks rules.generic_arg) p.old }
-    ensures gives { (c : Bool) → Gives rules.generic_arg c p.old p.new }
+    ensures gives { (c : Condition) → Gives rules.generic_arg c p.old p.new }
     ensures takes { Takes 2880 p.old p.new }
 {
     if at_new_arg(p) {
@@ -62,7 +63,7 @@ pub(crate) fn generic_arg(p: &mut Parser<'_>)
 fn new_arg(p: &mut Parser<'_>, frame: Marker) -> Marker
     requires begins { Starts (wide rows.new_arg_begins) p.old }
     requires innermost { IsInnermost frame p.old.nodes }
-    ensures reads { (c : Bool) → Reads c rows.new_arg p.old p.new }
+    ensures reads { (c : Condition) → Reads c rows.new_arg p.old p.new }
     ensures takes { TakesIn result 2890 p.old p.new }
 {
     if at(p, SyntaxKind::LIFETIME_IDENT) {
@@ -83,7 +84,7 @@ fn new_arg(p: &mut Parser<'_>, frame: Marker) -> Marker
 #[cycle(grammar)]
 fn block_arg(p: &mut Parser<'_>)
     requires some { 1 ≤ tokens p.old }
-    ensures reads { (c : Bool) → Reads c rows.block_arg p.old p.new }
+    ensures reads { (c : Condition) → Reads c rows.block_arg p.old p.new }
     ensures takes { Takes 2980 p.old p.new }
 {
     let node = start(p);
@@ -96,7 +97,7 @@ fn block_arg(p: &mut Parser<'_>)
 #[cycle(grammar)]
 fn named_arg(p: &mut Parser<'_>, frame: Marker) -> Marker
     requires innermost { IsInnermost frame p.old.nodes }
-    ensures reads { (c : Bool) → Reads c rows.named_arg p.old p.new }
+    ensures reads { (c : Condition) → Reads c rows.named_arg p.old p.new }
     ensures asks { AsksIn result 20 p.old p.new }
 {
     if at(p, SyntaxKind::EQ) {
@@ -116,7 +117,7 @@ fn named_arg(p: &mut Parser<'_>, frame: Marker) -> Marker
 // u8
 #[cycle(grammar)]
 fn const_or_type(p: &mut Parser<'_>)
-    ensures reads { (c : Bool) → Reads c rows.const_or_type p.old p.new }
+    ensures reads { (c : Condition) → Reads c rows.const_or_type p.old p.new }
     ensures asks { Asks 20 p.old p.new }
 {
     if at_const_value(p) {
@@ -131,7 +132,7 @@ fn const_or_type(p: &mut Parser<'_>)
 #[cycle(grammar)]
 fn front_of_type(p: &mut Parser<'_>, frame: Marker) -> Marker
     requires innermost { IsInnermost frame p.old.nodes }
-    ensures reads { (c : Bool) → Reads c rows.front_of_type p.old p.new }
+    ensures reads { (c : Condition) → Reads c rows.front_of_type p.old p.new }
     ensures asks { AsksIn result 7 p.old p.new }
 {
     let frame = wrap(p, frame, SyntaxKind::PATH_SEGMENT);
@@ -146,7 +147,7 @@ fn front_of_type(p: &mut Parser<'_>, frame: Marker) -> Marker
 // 'a
 fn lifetime_arg(p: &mut Parser<'_>)
     requires { 1 ≤ tokens p.old }
-    ensures reads { (c : Bool) → Reads c rows.lifetime_arg p.old p.new }
+    ensures reads { (c : Condition) → Reads c rows.lifetime_arg p.old p.new }
     ensures left { tokens p.new + 1 ≡ tokens p.old }
     ensures looks { spent p.new + 4096 ≡ spent p.old }
 {
@@ -159,7 +160,7 @@ fn lifetime_arg(p: &mut Parser<'_>)
 // -1
 fn negative_arg(p: &mut Parser<'_>)
     requires { 1 ≤ tokens p.old }
-    ensures reads { (c : Bool) → Reads c (CONST_ARG ⟨ One '-' ▸ Literal ! ⟩) p.old p.new }
+    ensures reads { (c : Condition) → Reads c (CONST_ARG ⟨ One '-' ▸ Literal ! ⟩) p.old p.new }
     ensures takes { Takes 4090 p.old p.new }
 {
     let node = start(p);
@@ -172,7 +173,7 @@ fn negative_arg(p: &mut Parser<'_>)
 // 1
 fn literal_arg(p: &mut Parser<'_>)
     requires { 1 ≤ tokens p.old }
-    ensures reads { (c : Bool) → Reads c (CONST_ARG ⟨ Literal ⟩) p.old p.new }
+    ensures reads { (c : Condition) → Reads c (CONST_ARG ⟨ Literal ⟩) p.old p.new }
     ensures left { tokens p.new + 1 ≡ tokens p.old }
     ensures looks { spent p.new + 4095 ≤ spent p.old }
 {
@@ -186,8 +187,8 @@ fn literal_arg(p: &mut Parser<'_>)
 #[cycle(grammar)]
 fn word_arg(p: &mut Parser<'_>)
     requires word { Starts (Kind 0 kinds.IDENT) p.old }
-    requires other { (c : Bool) → Saw c (wide rows.new_arg_begins) p.old false }
-    ensures anew { (c : Bool) → Anew c (rule rules.generic_arg) p.old p.new }
+    requires other { (c : Condition) → Saw c (wide rows.new_arg_begins) p.old false }
+    ensures from_start { (c : Condition) → FromStart c (rule rules.generic_arg) p.old p.new }
     ensures takes { Takes 2900 p.old p.new }
 {
     if at_second(p, SyntaxKind::EQ) {
@@ -202,7 +203,7 @@ fn word_arg(p: &mut Parser<'_>)
 #[cycle(grammar)]
 fn assoc_type_arg(p: &mut Parser<'_>)
     requires some { 2 ≤ tokens p.old }
-    ensures reads { (c : Bool) → Reads c
+    ensures reads { (c : Condition) → Reads c
         (ASSOC_TYPE_ARG ⟨ NAME_REF ⟨ One 'ident' ⟩ ▸ One '=' ▸ AnyType ! ⟩) p.old p.new }
     ensures takes { Takes 8000 p.old p.new }
 {
@@ -219,7 +220,7 @@ fn assoc_type_arg(p: &mut Parser<'_>)
 #[cycle(grammar)]
 pub(crate) fn type_arg(p: &mut Parser<'_>)
     requires begins { Starts (looks rules.any_type) p.old }
-    ensures reads { (c : Bool) → Reads c rows.type_arg p.old p.new }
+    ensures reads { (c : Condition) → Reads c rows.type_arg p.old p.new }
     ensures takes { Takes 2910 p.old p.new }
 {
     let node = start(p);

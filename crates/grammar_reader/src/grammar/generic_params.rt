@@ -1,6 +1,6 @@
 //! Generic parameters, bounds and where clauses.
 
-ghost use Rattle.std.specs.Prelude.{◌≤◌, Bool, true, false};
+ghost use Rattle.std.specs.Prelude.{◌≤◌, true, false};
 ghost use Rattle.parser_input.specs.Kinds.{TYPE_BOUND, WHERE_PRED};
 ghost use Rattle.rust_grammar.specs.Calls.{AnyType, Bound};
 ghost use Rattle.rust_grammar.specs.Notation.{◌▸◌, ⁅◌⁆, ◌*, ◌!, ◌⟨◌⟩, wide};
@@ -12,6 +12,7 @@ ghost use Rattle.rust_grammar.specs.Shared as shared;
 ghost use Rattle.rust_productions.specs.Looks.{tokens, Takes, Asks};
 ghost use Rattle.rust_productions.specs.Reads.{looks, Gives, Reads, Saw};
 ghost use Rattle.rust_productions.specs.Starts.{Starts};
+ghost use Rattle.rust_productions.specs.declared.condition.Condition.{Condition};
 
 use crate::grammar::new_bounds::new_bound;
 use crate::grammar::new_params::new_param;
@@ -29,9 +30,9 @@ use rust_productions::grammar::{at, complete, current, error, expect, start, tak
 // ?Sized
 #[cycle(grammar)]
 fn bound(p: &mut Parser<'_>)
-    requires begins { (c : Bool) → Saw c (looks rules.bound) p.old true }
+    requires begins { (c : Condition) → Saw c (looks rules.bound) p.old true }
     requires some { 1 ≤ tokens p.old }
-    ensures gives { (c : Bool) → Gives rules.bound c p.old p.new }
+    ensures gives { (c : Condition) → Gives rules.bound c p.old p.new }
     ensures asks { Asks 15 p.old p.new }
 {
     if at_new_bound(p) {
@@ -46,8 +47,8 @@ fn bound(p: &mut Parser<'_>)
 #[cycle(grammar)]
 fn plain_bound(p: &mut Parser<'_>)
     requires begins { Starts (looks rules.bound) p.old }
-    requires plain { (c : Bool) → Saw c (wide rows.new_bound_begins) p.old false }
-    ensures reads { (c : Bool) → Reads c (TYPE_BOUND ⟨ rows.lifetime_or_path ⟩) p.old p.new }
+    requires plain { (c : Condition) → Saw c (wide rows.new_bound_begins) p.old false }
+    ensures reads { (c : Condition) → Reads c (TYPE_BOUND ⟨ rows.lifetime_or_path ⟩) p.old p.new }
     ensures takes { Takes 3990 p.old p.new }
 {
     let node = start(p);
@@ -60,8 +61,8 @@ fn plain_bound(p: &mut Parser<'_>)
 #[cycle(grammar)]
 fn lifetime_or_path(p: &mut Parser<'_>)
     requires begins { Starts (looks rules.bound) p.old }
-    requires plain { (c : Bool) → Saw c (wide rows.new_bound_begins) p.old false }
-    ensures reads { (c : Bool) → Reads c rows.lifetime_or_path p.old p.new }
+    requires plain { (c : Condition) → Saw c (wide rows.new_bound_begins) p.old false }
+    ensures reads { (c : Condition) → Reads c rows.lifetime_or_path p.old p.new }
     ensures takes { Takes 3990 p.old p.new }
 {
     match current(p) {
@@ -76,7 +77,7 @@ fn lifetime_or_path(p: &mut Parser<'_>)
 #[cycle(grammar)]
 fn path_after_question(p: &mut Parser<'_>)
     requires some { 1 ≤ tokens p.old }
-    ensures reads { (c : Bool) → Reads c (One '?' ▸ shared.path_type !) p.old p.new }
+    ensures reads { (c : Condition) → Reads c (One '?' ▸ shared.path_type !) p.old p.new }
     ensures takes { Takes 4090 p.old p.new }
 {
     take(p, SyntaxKind::QUESTION);
@@ -87,7 +88,7 @@ fn path_after_question(p: &mut Parser<'_>)
 // A + 'a
 #[cycle(grammar)]
 pub(crate) fn bounds(p: &mut Parser<'_>)
-    ensures gives { (c : Bool) → Gives rules.bounds c p.old p.new }
+    ensures gives { (c : Condition) → Gives rules.bounds c p.old p.new }
     ensures asks { Asks 24 p.old p.new }
 {
     let list = start(p);
@@ -99,7 +100,7 @@ pub(crate) fn bounds(p: &mut Parser<'_>)
 // A + 'a
 #[cycle(grammar)]
 fn opt_bounds(p: &mut Parser<'_>)
-    ensures reads { (c : Bool) → Reads c ⁅ rows.bound_list ⁆ p.old p.new }
+    ensures reads { (c : Condition) → Reads c ⁅ rows.bound_list ⁆ p.old p.new }
     ensures asks { Asks 24 p.old p.new }
 {
     if at_bound(p) {
@@ -112,7 +113,7 @@ fn opt_bounds(p: &mut Parser<'_>)
 // + B + 'a
 #[cycle(grammar)]
 pub(crate) fn further_bounds(p: &mut Parser<'_>)
-    ensures reads { (c : Bool) → Reads c (rows.further_bound *) p.old p.new }
+    ensures reads { (c : Condition) → Reads c (rows.further_bound *) p.old p.new }
     ensures asks { Asks 1 p.old p.new }
 {
     'turns: while at(p, SyntaxKind::PLUS) {
@@ -125,7 +126,7 @@ pub(crate) fn further_bounds(p: &mut Parser<'_>)
 #[cycle(grammar)]
 fn further_bound(p: &mut Parser<'_>)
     requires some { 1 ≤ tokens p.old }
-    ensures reads { (c : Bool) → Reads c rows.further_bound p.old p.new }
+    ensures reads { (c : Condition) → Reads c rows.further_bound p.old p.new }
     ensures takes { Takes 4070 p.old p.new }
 {
     take(p, SyntaxKind::PLUS);
@@ -136,7 +137,7 @@ fn further_bound(p: &mut Parser<'_>)
 // B
 #[cycle(grammar)]
 pub(crate) fn opt_bound(p: &mut Parser<'_>)
-    ensures reads { (c : Bool) → Reads c ⁅ Bound ⁆ p.old p.new }
+    ensures reads { (c : Condition) → Reads c ⁅ Bound ⁆ p.old p.new }
     ensures asks { Asks 24 p.old p.new }
 {
     if at_bound(p) {
@@ -148,7 +149,7 @@ pub(crate) fn opt_bound(p: &mut Parser<'_>)
 // : A + B
 #[cycle(grammar)]
 pub(crate) fn bounds_after_colon(p: &mut Parser<'_>)
-    ensures reads { (c : Bool) → Reads c ⁅ rows.bounds_after_colon ⁆ p.old p.new }
+    ensures reads { (c : Condition) → Reads c ⁅ rows.bounds_after_colon ⁆ p.old p.new }
     ensures asks { Asks 1 p.old p.new }
 {
     if at(p, SyntaxKind::COLON) {
@@ -162,7 +163,7 @@ pub(crate) fn bounds_after_colon(p: &mut Parser<'_>)
 #[cycle(grammar)]
 pub(crate) fn for_binder(p: &mut Parser<'_>)
     requires some { 1 ≤ tokens p.old }
-    ensures reads { (c : Bool) → Reads c shared.for_binder p.old p.new }
+    ensures reads { (c : Condition) → Reads c shared.for_binder p.old p.new }
     ensures takes { Takes 4090 p.old p.new }
 {
     take(p, SyntaxKind::FOR_KW);
@@ -174,7 +175,7 @@ pub(crate) fn for_binder(p: &mut Parser<'_>)
 #[cycle(grammar)]
 pub(crate) fn lifetime_and_bounds(p: &mut Parser<'_>)
     requires some { 1 ≤ tokens p.old }
-    ensures reads { (c : Bool) → Reads c rows.lifetime_and_bounds p.old p.new }
+    ensures reads { (c : Condition) → Reads c rows.lifetime_and_bounds p.old p.new }
     ensures takes { Takes 4090 p.old p.new }
 {
     lifetime(p);
@@ -186,7 +187,7 @@ pub(crate) fn lifetime_and_bounds(p: &mut Parser<'_>)
 #[cycle(grammar)]
 fn lifetime_param(p: &mut Parser<'_>)
     requires some { 1 ≤ tokens p.old }
-    ensures reads { (c : Bool) → Reads c rows.lifetime_param p.old p.new }
+    ensures reads { (c : Condition) → Reads c rows.lifetime_param p.old p.new }
     ensures takes { Takes 4090 p.old p.new }
 {
     let node = start(p);
@@ -199,7 +200,7 @@ fn lifetime_param(p: &mut Parser<'_>)
 #[cycle(grammar)]
 fn type_param(p: &mut Parser<'_>)
     requires some { 1 ≤ tokens p.old }
-    ensures reads { (c : Bool) → Reads c rows.type_param p.old p.new }
+    ensures reads { (c : Condition) → Reads c rows.type_param p.old p.new }
     ensures takes { Takes 4090 p.old p.new }
 {
     let node = start(p);
@@ -215,7 +216,7 @@ fn type_param(p: &mut Parser<'_>)
 #[cycle(grammar)]
 pub(crate) fn generic_param(p: &mut Parser<'_>)
     requires some { 1 ≤ tokens p.old }
-    ensures gives { (c : Bool) → Gives rules.generic_param c p.old p.new }
+    ensures gives { (c : Condition) → Gives rules.generic_param c p.old p.new }
     ensures takes { Takes 4000 p.old p.new }
 {
     if at_new_param(p) {
@@ -234,8 +235,8 @@ pub(crate) fn generic_param(p: &mut Parser<'_>)
 #[cycle(grammar)]
 fn lifetime_or_type(p: &mut Parser<'_>)
     requires begins { Starts (looks rules.where_pred) p.old }
-    requires plain { (c : Bool) → Saw c (wide shared.binder_begins) p.old false }
-    ensures reads { (c : Bool) → Reads c rows.lifetime_or_type p.old p.new }
+    requires plain { (c : Condition) → Saw c (wide shared.binder_begins) p.old false }
+    ensures reads { (c : Condition) → Reads c rows.lifetime_or_type p.old p.new }
     ensures takes { Takes 2800 p.old p.new }
 {
     if at(p, SyntaxKind::LIFETIME_IDENT) {
@@ -249,7 +250,7 @@ fn lifetime_or_type(p: &mut Parser<'_>)
 // : A + B
 #[cycle(grammar)]
 fn pred_bounds(p: &mut Parser<'_>)
-    ensures reads { (c : Bool) → Reads c rows.pred_bounds p.old p.new }
+    ensures reads { (c : Condition) → Reads c rows.pred_bounds p.old p.new }
     ensures asks { Asks 25 p.old p.new }
 {
     expect(p, SyntaxKind::COLON);
@@ -258,10 +259,11 @@ fn pred_bounds(p: &mut Parser<'_>)
 
 /// Parses a where predicate.
 // T: A
+#[inline(never)]
 #[cycle(grammar)]
 pub(crate) fn where_pred(p: &mut Parser<'_>)
     requires begins { Starts (looks rules.where_pred) p.old }
-    ensures gives { (c : Bool) → Gives rules.where_pred c p.old p.new }
+    ensures gives { (c : Condition) → Gives rules.where_pred c p.old p.new }
     ensures takes { Takes 2700 p.old p.new }
 {
     if at_new_pred(p) {
@@ -276,7 +278,7 @@ pub(crate) fn where_pred(p: &mut Parser<'_>)
 #[cycle(grammar)]
 fn binder_pred(p: &mut Parser<'_>)
     requires some { 1 ≤ tokens p.old }
-    ensures reads { (c : Bool) → Reads c
+    ensures reads { (c : Condition) → Reads c
         (WHERE_PRED ⟨ shared.for_binder ▸ AnyType ! ▸ rows.pred_bounds ⟩) p.old p.new }
     ensures takes { Takes 4000 p.old p.new }
 {
@@ -292,8 +294,8 @@ fn binder_pred(p: &mut Parser<'_>)
 #[cycle(grammar)]
 fn plain_pred(p: &mut Parser<'_>)
     requires begins { Starts (looks rules.where_pred) p.old }
-    requires plain { (c : Bool) → Saw c (wide shared.binder_begins) p.old false }
-    ensures reads { (c : Bool) → Reads c
+    requires plain { (c : Condition) → Saw c (wide shared.binder_begins) p.old false }
+    ensures reads { (c : Condition) → Reads c
         (WHERE_PRED ⟨ rows.lifetime_or_type ▸ rows.pred_bounds ⟩) p.old p.new }
     ensures takes { Takes 2710 p.old p.new }
 {
@@ -305,10 +307,11 @@ fn plain_pred(p: &mut Parser<'_>)
 
 /// Parses a where clause.
 // where T: A, U: B
+#[inline(never)]
 #[cycle(grammar)]
 pub(crate) fn where_clause(p: &mut Parser<'_>)
     requires some { 1 ≤ tokens p.old }
-    ensures gives { (c : Bool) → Gives rules.where_clause c p.old p.new }
+    ensures gives { (c : Condition) → Gives rules.where_clause c p.old p.new }
     ensures takes { Takes 4070 p.old p.new }
 {
     let node = start(p);
@@ -321,7 +324,7 @@ pub(crate) fn where_clause(p: &mut Parser<'_>)
 // T: A, U: B
 #[cycle(grammar)]
 fn opt_preds(p: &mut Parser<'_>)
-    ensures reads { (c : Bool) → Reads c ⁅ rows.pred_list ⁆ p.old p.new }
+    ensures reads { (c : Condition) → Reads c ⁅ rows.pred_list ⁆ p.old p.new }
     ensures asks { Asks 20 p.old p.new }
 {
     if at_where_pred(p) {
@@ -334,7 +337,7 @@ fn opt_preds(p: &mut Parser<'_>)
 // , U: B
 #[cycle(grammar)]
 fn further_preds(p: &mut Parser<'_>)
-    ensures reads { (c : Bool) → Reads c (rows.further_pred *) p.old p.new }
+    ensures reads { (c : Condition) → Reads c (rows.further_pred *) p.old p.new }
     ensures asks { Asks 1 p.old p.new }
 {
     'turns: while at(p, SyntaxKind::COMMA) {
@@ -347,7 +350,7 @@ fn further_preds(p: &mut Parser<'_>)
 #[cycle(grammar)]
 fn further_pred(p: &mut Parser<'_>)
     requires some { 1 ≤ tokens p.old }
-    ensures reads { (c : Bool) → Reads c rows.further_pred p.old p.new }
+    ensures reads { (c : Condition) → Reads c rows.further_pred p.old p.new }
     ensures takes { Takes 4070 p.old p.new }
 {
     take(p, SyntaxKind::COMMA);

@@ -1,6 +1,6 @@
 //! Items.
 
-ghost use Rattle.std.specs.Prelude.{◌≡◌, ◌≤◌, Bool, IsTrue, true, false};
+ghost use Rattle.std.specs.Prelude.{◌≡◌, ◌≤◌, IsTrue, true, false};
 ghost use Rattle.parser_input.specs.Kind.{raw_of};
 ghost use Rattle.parser_input.specs.Kinds.{PUB_KW};
 ghost use Rattle.parser_events.specs.Stack.{IsInnermost};
@@ -13,9 +13,11 @@ ghost use Rattle.rust_grammar.specs.Rule.{Kind, Unless};
 ghost use Rattle.rust_grammar.specs.Whole.{rule};
 ghost use Rattle.rust_grammar.specs.Items as rows;
 ghost use Rattle.rust_productions.specs.Looks.{tokens, Takes, Asks, TakesUnless};
-ghost use Rattle.rust_productions.specs.Reads.{looks, Anew, Completes, CompletesWhere, Gives, Reads, Saw};
+ghost use Rattle.rust_productions.specs.Reads.{looks, FromStart, Completes, CompletesWhere, Gives, Reads, Saw};
 ghost use Rattle.rust_productions.specs.Turns.{TakesTurn};
 ghost use Rattle.rust_productions.specs.Moves.{Keeps};
+ghost use Rattle.rust_productions.specs.declared.condition.Condition.{Condition};
+ghost use Rattle.rust_productions.specs.declared.condition.Condition.TheVariants.{Off};
 ghost use Rattle.grammar_reader.specs.Next.{IsBare};
 
 use crate::grammar::attributes::attribute;
@@ -28,6 +30,7 @@ use crate::grammar::list_end::{ListEnd, at_end_of};
 use crate::grammar::statements::at_inner_attribute;
 use parser_events::parser::{Marker, Parser};
 use parser_input::syntax_kind::SyntaxKind;
+use rust_productions::condition::Condition;
 use rust_productions::grammar::item_words::at_new_item;
 use rust_productions::grammar::items::{at_fn, at_unsafe, no_item, path_item, use_item};
 use rust_productions::grammar::names::expect_name;
@@ -45,7 +48,7 @@ pub(crate) mod traits;
 /// Parses an item.
 // #[a] pub fn f() {}
 #[cycle(grammar)]
-pub(crate) fn item(p: &mut Parser<'_>, condition: bool)
+pub(crate) fn item(p: &mut Parser<'_>, condition: Condition)
     requires some { 1 ≤ tokens p.old }
     ensures gives { Gives rules.item condition p.old p.new }
     ensures takes { Takes 2900 p.old p.new }
@@ -60,10 +63,10 @@ pub(crate) fn item(p: &mut Parser<'_>, condition: bool)
 /// Parses an item that starts with an attribute.
 // #[a] pub fn f() {}
 #[cycle(grammar)]
-fn attributed_item(p: &mut Parser<'_>, condition: bool)
-    requires begins { (c : Bool) → Saw c (looks rules.attribute) p.old true }
+fn attributed_item(p: &mut Parser<'_>, condition: Condition)
+    requires begins { (c : Condition) → Saw c (looks rules.attribute) p.old true }
     requires some { 1 ≤ tokens p.old }
-    ensures anew { Anew condition (rule rules.item) p.old p.new }
+    ensures from_start { FromStart condition (rule rules.item) p.old p.new }
     ensures takes { Takes 4000 p.old p.new }
 {
     let item = start(p);
@@ -74,10 +77,10 @@ fn attributed_item(p: &mut Parser<'_>, condition: bool)
 /// Parses an item that starts with a visibility.
 // pub fn f() {}
 #[cycle(grammar)]
-fn visible_item(p: &mut Parser<'_>, condition: bool)
-    requires begins { (c : Bool) → Saw c (Kind 0 PUB_KW) p.old true }
+fn visible_item(p: &mut Parser<'_>, condition: Condition)
+    requires begins { (c : Condition) → Saw c (Kind 0 PUB_KW) p.old true }
     requires some { 1 ≤ tokens p.old }
-    ensures anew { Anew condition (rule rules.item) p.old p.new }
+    ensures from_start { FromStart condition (rule rules.item) p.old p.new }
     ensures takes { Takes 4000 p.old p.new }
 {
     let item = start(p);
@@ -88,9 +91,9 @@ fn visible_item(p: &mut Parser<'_>, condition: bool)
 /// Parses an item without attributes and without a visibility.
 // fn f() {}
 #[cycle(grammar)]
-fn bare_item(p: &mut Parser<'_>, condition: bool)
+fn bare_item(p: &mut Parser<'_>, condition: Condition)
     requires bare { IsBare p.old }
-    ensures anew { Anew condition (rule rules.item) p.old p.new }
+    ensures from_start { FromStart condition (rule rules.item) p.old p.new }
     ensures takes { Takes 2910 p.old p.new }
 {
     let item = start(p);
@@ -101,7 +104,7 @@ fn bare_item(p: &mut Parser<'_>, condition: bool)
 // #[a] #[b]
 #[cycle(grammar)]
 pub(crate) fn attributes(p: &mut Parser<'_>)
-    ensures reads { (c : Bool) → Reads c (Attribute *) p.old p.new }
+    ensures reads { (c : Condition) → Reads c (Attribute *) p.old p.new }
     ensures asks { Asks 1 p.old p.new }
 {
     'turns: while at(p, SyntaxKind::POUND) {
@@ -113,9 +116,9 @@ pub(crate) fn attributes(p: &mut Parser<'_>)
 // #[a] pub
 #[cycle(grammar)]
 pub(crate) fn attributes_and_visibility(p: &mut Parser<'_>)
-    requires begins { (c : Bool) → Saw c (looks rules.attribute) p.old true }
+    requires begins { (c : Condition) → Saw c (looks rules.attribute) p.old true }
     requires some { 1 ≤ tokens p.old }
-    ensures reads { (c : Bool) → Reads c (Attribute * ▸ ⁅ Visibility ⁆) p.old p.new }
+    ensures reads { (c : Condition) → Reads c (Attribute * ▸ ⁅ Visibility ⁆) p.old p.new }
     ensures takes { Takes 4070 p.old p.new }
 {
     attribute(p);
@@ -127,7 +130,7 @@ pub(crate) fn attributes_and_visibility(p: &mut Parser<'_>)
 /// `true` if it has some.
 // fn f() {}
 #[cycle(grammar)]
-pub(crate) fn body(p: &mut Parser<'_>, item: Marker, given: bool, condition: bool)
+pub(crate) fn body(p: &mut Parser<'_>, item: Marker, given: bool, condition: Condition)
     requires some { given ≡ false → 1 ≤ tokens p.old }
     requires innermost { IsInnermost item p.old.nodes }
     ensures completes { CompletesWhere given condition (rule rules.body) p.old p.new }
@@ -144,7 +147,7 @@ pub(crate) fn body(p: &mut Parser<'_>, item: Marker, given: bool, condition: boo
 /// its node. `given` is `true` if it has some.
 // fn f() {}
 #[cycle(grammar)]
-fn plain_body(p: &mut Parser<'_>, item: Marker, given: bool, condition: bool)
+fn plain_body(p: &mut Parser<'_>, item: Marker, given: bool, condition: Condition)
     requires some { given ≡ false → 1 ≤ tokens p.old }
     requires innermost { IsInnermost item p.old.nodes }
     ensures completes { CompletesWhere given condition rows.plain_body p.old p.new }
@@ -189,7 +192,7 @@ fn plain_body(p: &mut Parser<'_>, item: Marker, given: bool, condition: bool)
 fn module(p: &mut Parser<'_>, item: Marker)
     requires some { 1 ≤ tokens p.old }
     requires innermost { IsInnermost item p.old.nodes }
-    ensures completes { (c : Bool) → Completes c rows.module_item p.old p.new }
+    ensures completes { (c : Condition) → Completes c rows.module_item p.old p.new }
     ensures takes { Takes 4090 p.old p.new }
 {
     take(p, SyntaxKind::MOD_KW);
@@ -202,7 +205,7 @@ fn module(p: &mut Parser<'_>, item: Marker)
 // { fn f() {} }
 #[cycle(grammar)]
 fn module_items(p: &mut Parser<'_>)
-    ensures reads { (c : Bool) → Reads c rows.module_items p.old p.new }
+    ensures reads { (c : Condition) → Reads c rows.module_items p.old p.new }
     ensures asks { Asks 2 p.old p.new }
 {
     if at(p, SyntaxKind::L_CURLY) {
@@ -214,10 +217,11 @@ fn module_items(p: &mut Parser<'_>)
 
 /// Parses items in braces, in a node of `kind`.
 // { fn f() {} }
+#[inline(never)]
 #[cycle(grammar)]
 pub(crate) fn item_list(p: &mut Parser<'_>, kind: SyntaxKind)
     requires some { 1 ≤ tokens p.old }
-    ensures reads { (c : Bool) → Reads c (raw_of kind ⟨ items_in_braces ⟩) p.old p.new }
+    ensures reads { (c : Condition) → Reads c (raw_of kind ⟨ items_in_braces ⟩) p.old p.new }
     ensures takes { Takes 4080 p.old p.new }
 {
     let list = start(p);
@@ -231,8 +235,8 @@ pub(crate) fn item_list(p: &mut Parser<'_>, kind: SyntaxKind)
 // fn f() {}
 #[cycle(grammar)]
 fn item_turn(p: &mut Parser<'_>, end: ListEnd) -> bool
-    ensures goes { IsTrue result → TakesTurn false (Unless (ends_of end) item_or_attribute) p.old p.new }
-    ensures ends { result ≡ false → Reads false (items_until (ends_of end)) p.old p.new }
+    ensures goes { IsTrue result → TakesTurn Off (Unless (ends_of end) item_or_attribute) p.old p.new }
+    ensures ends { result ≡ false → Reads Off (items_until (ends_of end)) p.old p.new }
     ensures keeps { Keeps p.old p.new }
     ensures asks { Asks 2 p.old p.new }
 {
@@ -243,7 +247,7 @@ fn item_turn(p: &mut Parser<'_>, end: ListEnd) -> bool
         attribute(p);
         return true;
     }
-    item(p, false);
+    item(p, Condition::Off);
     true
 }
 
@@ -251,7 +255,7 @@ fn item_turn(p: &mut Parser<'_>, end: ListEnd) -> bool
 // fn f() {} mod a;
 #[cycle(grammar)]
 pub(crate) fn items(p: &mut Parser<'_>, end: ListEnd)
-    ensures reads { Reads false (items_until (ends_of end)) p.old p.new }
+    ensures reads { Reads Off (items_until (ends_of end)) p.old p.new }
     ensures asks { Asks 2 p.old p.new }
 {
     'turns: while item_turn(p, end) {}

@@ -1,9 +1,9 @@
 //! Where a list of items or of statements ends.
 
-ghost use Rattle.std.specs.Prelude.{Bool};
 ghost use Rattle.grammar_reader.specs.Told.{ends_of};
 ghost use Rattle.rust_productions.specs.Looks.{Peeks};
 ghost use Rattle.rust_productions.specs.Reads.{Saw};
+ghost use Rattle.rust_productions.specs.declared.condition.Condition.{Condition};
 
 use parser_events::parser::Parser;
 use parser_input::syntax_kind::SyntaxKind;
@@ -18,7 +18,7 @@ pub(crate) enum ListEnd {
 
 /// Returns `true` if a list with this end ends here.
 pub(crate) fn at_end_of(p: &mut Parser<'_>, end: ListEnd) -> bool
-    ensures sees { (c : Bool) → Saw c (ends_of end) p.old result }
+    ensures sees { (c : Condition) → Saw c (ends_of end) p.old result }
     ensures peeks { Peeks 1 p.old p.new }
 {
     match current(p) {

@@ -1,6 +1,6 @@
 //! Lists of elements with commas between them.
 
-ghost use Rattle.std.specs.Prelude.{◌≡◌, ◌≢◌, ◌≤◌, ◌<◌, ◌+◌, Bool, IsTrue, true, false};
+ghost use Rattle.std.specs.Prelude.{◌≡◌, ◌≢◌, ◌≤◌, ◌<◌, ◌+◌, IsTrue, true, false};
 ghost use Rattle.parser_input.specs.Kind.{raw_of};
 ghost use Rattle.parser_input.specs.Kinds as kinds;
 ghost use Rattle.parser_events.specs.Stack.{IsInnermost};
@@ -14,6 +14,8 @@ ghost use Rattle.rust_productions.specs.Looks.{tokens, spent, Takes, Asks, Peeks
 ghost use Rattle.rust_productions.specs.Reads.{looks, Reads, Saw};
 ghost use Rattle.rust_productions.specs.Turns.{TakesTurn};
 ghost use Rattle.rust_productions.specs.Moves.{Keeps};
+ghost use Rattle.rust_productions.specs.declared.condition.Condition.{Condition};
+ghost use Rattle.rust_productions.specs.declared.condition.Condition.TheVariants.{Off};
 
 use crate::grammar::expressions::closures::closure_param;
 use crate::grammar::expressions::expression;
@@ -30,6 +32,7 @@ use crate::grammar::types::any_type;
 use parser_events::message::Message;
 use parser_events::parser::{Marker, Parser};
 use parser_input::syntax_kind::SyntaxKind;
+use rust_productions::condition::Condition;
 use rust_productions::grammar::expressions::at_expression;
 use rust_productions::grammar::fields::at_field_value;
 use rust_productions::grammar::generic_args::at_generic_arg;
@@ -164,13 +167,13 @@ fn closing(list: ListKind) -> SyntaxKind
 
 /// Returns `true` if an element starts here.
 fn at_element(p: &mut Parser<'_>, element: Element) -> bool
-    ensures sees { Saw false (begins looks (element_of element)) p.old result }
+    ensures sees { Saw Off (begins looks (element_of element)) p.old result }
     ensures peeks { Peeks (looks_before element) p.old p.new }
 {
     match element {
         Element::Captured => at_captured(p),
         Element::ClosureParam => at_closure_param(p),
-        Element::Expression => at_expression(p, false),
+        Element::Expression => at_expression(p, Condition::Off),
         Element::FieldValue => at_field_value(p),
         Element::FnPtrParam => at_fn_ptr_param(p),
         Element::GenericArg => at_generic_arg(p),
@@ -189,20 +192,20 @@ fn at_element(p: &mut Parser<'_>, element: Element) -> bool
 /// Parses an element.
 #[cycle(grammar)]
 fn read_element(p: &mut Parser<'_>, element: Element)
-    requires begins { Saw false (begins looks (element_of element)) p.old true }
-    ensures reads { Reads false (element_of element) p.old p.new }
+    requires begins { Saw Off (begins looks (element_of element)) p.old true }
+    ensures reads { Reads Off (element_of element) p.old p.new }
     ensures asks { Asks (looks_in element) p.old p.new }
     ensures pays { tokens p.new < tokens p.old → spent p.new + 1000 ≤ spent p.old }
 {
     match element {
         Element::Captured => captured(p),
         Element::ClosureParam => closure_param(p),
-        Element::Expression => expression(p, false),
-        Element::FieldValue => field_value(p, false),
+        Element::Expression => expression(p, Condition::Off),
+        Element::FieldValue => field_value(p, Condition::Off),
         Element::FnPtrParam => fn_ptr_param(p),
         Element::GenericArg => generic_arg(p),
         Element::GenericParam => generic_param(p),
-        Element::Param => param(p, false),
+        Element::Param => param(p, Condition::Off),
         Element::Pattern => pattern(p),
         Element::PatternField => pattern_field(p),
         Element::RecordField => record_field(p),
@@ -219,9 +222,9 @@ fn read_element(p: &mut Parser<'_>, element: Element)
 #[inline(always)]
 #[cycle(grammar)]
 fn turn(p: &mut Parser<'_>, list: SyntaxKind, element: Element, closing: SyntaxKind) -> bool
-    ensures goes { IsTrue result → TakesTurn false
+    ensures goes { IsTrue result → TakesTurn Off
         (list_turn (raw_of list) (element_of element) (raw_of closing)) p.old p.new }
-    ensures ends { result ≡ false → Reads false
+    ensures ends { result ≡ false → Reads Off
         ((list_turn (raw_of list) (element_of element) (raw_of closing)) *) p.old p.new }
     ensures keeps { Keeps p.old p.new }
     ensures asks { Asks (looks_before element + looks_in element + 10) p.old p.new }
@@ -247,7 +250,7 @@ fn turn(p: &mut Parser<'_>, list: SyntaxKind, element: Element, closing: SyntaxK
 #[inline(always)]
 #[cycle(grammar)]
 fn elements(p: &mut Parser<'_>, list: SyntaxKind, element: Element, closing: SyntaxKind)
-    ensures reads { Reads false
+    ensures reads { Reads Off
         ((list_turn (raw_of list) (element_of element) (raw_of closing)) *) p.old p.new }
     ensures asks { Asks (looks_before element + looks_in element + 10) p.old p.new }
 {
@@ -265,7 +268,7 @@ pub(crate) fn rest_of_list(
     closing: SyntaxKind,
 )
     requires closing { raw_of closing ≢ kinds.EOF }
-    ensures reads { (c : Bool) → Reads c (rest_listed (raw_of list) (element_of element)
+    ensures reads { (c : Condition) → Reads c (rest_listed (raw_of list) (element_of element)
         (one (raw_of closing))) p.old p.new }
     ensures asks { Asks (looks_before element + looks_in element + 11) p.old p.new }
 {
@@ -285,7 +288,7 @@ pub(crate) fn tuple_tail(
     paren: SyntaxKind,
 ) -> Marker
     requires innermost { IsInnermost frame p.old.nodes }
-    ensures reads { (c : Bool) → Reads c
+    ensures reads { (c : Condition) → Reads c
         (rows.tuple_tail (raw_of tuple) (raw_of paren) (element_of element)) p.old p.new }
     ensures asks { AsksIn result 2 p.old p.new }
 {
@@ -304,7 +307,7 @@ pub(crate) fn tuple_tail(
 #[cycle(grammar)]
 pub(crate) fn list(p: &mut Parser<'_>, which: ListKind)
     requires some { 1 ≤ tokens p.old }
-    ensures reads { (c : Bool) → Reads c (list_of which) p.old p.new }
+    ensures reads { (c : Condition) → Reads c (list_of which) p.old p.new }
     ensures takes { Takes (left_by (element_in which)) p.old p.new }
 {
     let node = start(p);

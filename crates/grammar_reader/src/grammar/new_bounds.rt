@@ -1,7 +1,7 @@
 //! Bounds that only the whole language has: in parentheses, with words before their path, and
 //! captures.
 
-ghost use Rattle.std.specs.Prelude.{◌≡◌, ◌≤◌, ◌+◌, Bool};
+ghost use Rattle.std.specs.Prelude.{◌≡◌, ◌≤◌, ◌+◌};
 ghost use Rattle.parser_input.specs.Kinds.{TYPE_BOUND};
 ghost use Rattle.rust_grammar.specs.Calls.{Lifetime};
 ghost use Rattle.rust_grammar.specs.Notation.{◌▸◌, ⁅◌⁆, ◌!, ◌⟨◌⟩};
@@ -11,6 +11,7 @@ ghost use Rattle.rust_grammar.specs.Shared as shared;
 ghost use Rattle.rust_grammar.specs.Words.{'l_paren', 'r_paren', 'use'};
 ghost use Rattle.rust_productions.specs.Looks.{tokens, spent, Takes, Asks};
 ghost use Rattle.rust_productions.specs.Reads.{Reads};
+ghost use Rattle.rust_productions.specs.declared.condition.Condition.{Condition};
 
 use crate::grammar::generic_params::for_binder;
 use crate::grammar::lists::{ListKind, list};
@@ -25,7 +26,7 @@ use rust_productions::grammar::{at, complete, eat, expect, start, take};
 // (?Sized)
 #[cycle(grammar)]
 pub(crate) fn new_bound(p: &mut Parser<'_>)
-    ensures reads { (c : Bool) → Reads c (TYPE_BOUND ⟨ rows.maybe_in_parens ⟩) p.old p.new }
+    ensures reads { (c : Condition) → Reads c (TYPE_BOUND ⟨ rows.maybe_in_parens ⟩) p.old p.new }
     ensures asks { Asks 12 p.old p.new }
 {
     let node = start(p);
@@ -37,7 +38,7 @@ pub(crate) fn new_bound(p: &mut Parser<'_>)
 // (?Sized)
 #[cycle(grammar)]
 fn maybe_in_parens(p: &mut Parser<'_>)
-    ensures reads { (c : Bool) → Reads c rows.maybe_in_parens p.old p.new }
+    ensures reads { (c : Condition) → Reads c rows.maybe_in_parens p.old p.new }
     ensures asks { Asks 12 p.old p.new }
 {
     if at(p, SyntaxKind::L_PAREN) {
@@ -52,7 +53,7 @@ fn maybe_in_parens(p: &mut Parser<'_>)
 #[cycle(grammar)]
 fn in_parens(p: &mut Parser<'_>)
     requires some { 1 ≤ tokens p.old }
-    ensures reads { (c : Bool) → Reads c
+    ensures reads { (c : Condition) → Reads c
         (One 'l_paren' ▸ rows.bound_inside ▸ One 'r_paren' !) p.old p.new }
     ensures takes { Takes 4080 p.old p.new }
 {
@@ -65,7 +66,7 @@ fn in_parens(p: &mut Parser<'_>)
 // for<'a> ~const A<'a>
 #[cycle(grammar)]
 fn bound_inside(p: &mut Parser<'_>)
-    ensures reads { (c : Bool) → Reads c rows.bound_inside p.old p.new }
+    ensures reads { (c : Condition) → Reads c rows.bound_inside p.old p.new }
     ensures asks { Asks 11 p.old p.new }
 {
     if at(p, SyntaxKind::LIFETIME_IDENT) {
@@ -84,7 +85,7 @@ fn bound_inside(p: &mut Parser<'_>)
 #[cycle(grammar)]
 fn use_captures(p: &mut Parser<'_>)
     requires some { 2 ≤ tokens p.old }
-    ensures reads { (c : Bool) → Reads c (One 'use' ▸ rows.captures) p.old p.new }
+    ensures reads { (c : Condition) → Reads c (One 'use' ▸ rows.captures) p.old p.new }
     ensures takes { Takes 4090 p.old p.new }
 {
     take(p, SyntaxKind::USE_KW);
@@ -95,7 +96,7 @@ fn use_captures(p: &mut Parser<'_>)
 // for<'a> ~const A<'a>
 #[cycle(grammar)]
 fn words_and_path(p: &mut Parser<'_>)
-    ensures reads { (c : Bool) → Reads c rows.words_and_path p.old p.new }
+    ensures reads { (c : Condition) → Reads c rows.words_and_path p.old p.new }
     ensures asks { Asks 8 p.old p.new }
 {
     opt_binder(p);
@@ -109,7 +110,7 @@ fn words_and_path(p: &mut Parser<'_>)
 // for<'a>
 #[cycle(grammar)]
 fn opt_binder(p: &mut Parser<'_>)
-    ensures reads { (c : Bool) → Reads c ⁅ When shared.binder_begins shared.for_binder ⁆ p.old p.new }
+    ensures reads { (c : Condition) → Reads c ⁅ When shared.binder_begins shared.for_binder ⁆ p.old p.new }
     ensures asks { Asks 2 p.old p.new }
 {
     if at_binder(p) {
@@ -121,7 +122,7 @@ fn opt_binder(p: &mut Parser<'_>)
 // 'a
 pub(crate) fn lifetime_bound(p: &mut Parser<'_>)
     requires { 1 ≤ tokens p.old }
-    ensures reads { (c : Bool) → Reads c (TYPE_BOUND ⟨ Lifetime ⟩) p.old p.new }
+    ensures reads { (c : Condition) → Reads c (TYPE_BOUND ⟨ Lifetime ⟩) p.old p.new }
     ensures left { tokens p.new + 1 ≡ tokens p.old }
     ensures looks { spent p.new + 4096 ≡ spent p.old }
 {

@@ -1,7 +1,7 @@
 //! Generic parameters that only the whole language has: const parameters, and those with
 //! attributes.
 
-ghost use Rattle.std.specs.Prelude.{◌≤◌, Bool};
+ghost use Rattle.std.specs.Prelude.{◌≤◌};
 ghost use Rattle.parser_input.specs.Kinds.{CONST_PARAM};
 ghost use Rattle.parser_events.specs.Stack.{IsInnermost};
 ghost use Rattle.rust_grammar.specs.Calls.{Name};
@@ -9,7 +9,8 @@ ghost use Rattle.rust_grammar.specs.Notation.{◌▸◌, ⁅◌⁆, ◌!, ◌⟨
 ghost use Rattle.rust_grammar.specs.Paths as rows;
 ghost use Rattle.rust_grammar.specs.Shared as shared;
 ghost use Rattle.rust_productions.specs.Looks.{tokens, Takes, Asks};
-ghost use Rattle.rust_productions.specs.Reads.{Anew, Completes, Reads};
+ghost use Rattle.rust_productions.specs.Reads.{FromStart, Completes, Reads};
+ghost use Rattle.rust_productions.specs.declared.condition.Condition.{Condition};
 
 use crate::grammar::attributes::attribute;
 use crate::grammar::const_args::expect_const_arg;
@@ -27,7 +28,7 @@ use rust_productions::grammar::{at, complete, current, expect, start, take};
 #[cycle(grammar)]
 pub(crate) fn new_param(p: &mut Parser<'_>)
     requires some { 1 ≤ tokens p.old }
-    ensures anew { (c : Bool) → Anew c rows.new_param p.old p.new }
+    ensures from_start { (c : Condition) → FromStart c rows.new_param p.old p.new }
     ensures takes { Takes 4010 p.old p.new }
 {
     if at(p, SyntaxKind::CONST_KW) {
@@ -42,7 +43,7 @@ pub(crate) fn new_param(p: &mut Parser<'_>)
 #[cycle(grammar)]
 fn const_param(p: &mut Parser<'_>)
     requires some { 1 ≤ tokens p.old }
-    ensures reads { (c : Bool) → Reads c (CONST_PARAM ⟨ rows.const_param ⟩) p.old p.new }
+    ensures reads { (c : Condition) → Reads c (CONST_PARAM ⟨ rows.const_param ⟩) p.old p.new }
     ensures takes { Takes 4030 p.old p.new }
 {
     let node = start(p);
@@ -55,7 +56,7 @@ fn const_param(p: &mut Parser<'_>)
 #[cycle(grammar)]
 fn inside_const_param(p: &mut Parser<'_>)
     requires some { 1 ≤ tokens p.old }
-    ensures reads { (c : Bool) → Reads c rows.const_param p.old p.new }
+    ensures reads { (c : Condition) → Reads c rows.const_param p.old p.new }
     ensures takes { Takes 4030 p.old p.new }
 {
     take(p, SyntaxKind::CONST_KW);
@@ -69,7 +70,7 @@ fn inside_const_param(p: &mut Parser<'_>)
 // = 3
 #[cycle(grammar)]
 fn const_default(p: &mut Parser<'_>)
-    ensures reads { (c : Bool) → Reads c rows.const_default p.old p.new }
+    ensures reads { (c : Condition) → Reads c rows.const_default p.old p.new }
     ensures asks { Asks 1 p.old p.new }
 {
     if at(p, SyntaxKind::EQ) {
@@ -83,7 +84,7 @@ fn const_default(p: &mut Parser<'_>)
 #[cycle(grammar)]
 fn attributed_param(p: &mut Parser<'_>)
     requires some { 1 ≤ tokens p.old }
-    ensures anew { (c : Bool) → Anew c (shared.attributed rows.attributed_param) p.old p.new }
+    ensures from_start { (c : Condition) → FromStart c (shared.attributed rows.attributed_param) p.old p.new }
     ensures takes { Takes 4020 p.old p.new }
 {
     let node = start(p);
@@ -97,7 +98,7 @@ fn attributed_param(p: &mut Parser<'_>)
 #[cycle(grammar)]
 fn after_attributes(p: &mut Parser<'_>, node: Marker)
     requires innermost { IsInnermost node p.old.nodes }
-    ensures completes { (c : Bool) → Completes c rows.attributed_param p.old p.new }
+    ensures completes { (c : Condition) → Completes c rows.attributed_param p.old p.new }
     ensures asks { Asks 4 p.old p.new }
 {
     match current(p) {
@@ -120,7 +121,7 @@ fn after_attributes(p: &mut Parser<'_>, node: Marker)
 // T: A = u8
 #[cycle(grammar)]
 fn inside_type_param(p: &mut Parser<'_>)
-    ensures reads { (c : Bool) → Reads c
+    ensures reads { (c : Condition) → Reads c
         (Name ! ▸ ⁅ rows.bounds_after_colon ⁆ ▸ rows.type_default) p.old p.new }
     ensures asks { Asks 3 p.old p.new }
 {

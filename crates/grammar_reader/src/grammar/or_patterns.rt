@@ -1,6 +1,6 @@
 //! Patterns with `|` between them.
 
-ghost use Rattle.std.specs.Prelude.{◌≤◌, Bool, true};
+ghost use Rattle.std.specs.Prelude.{◌≤◌, true};
 ghost use Rattle.parser_events.specs.Stack.{IsInnermost};
 ghost use Rattle.rust_grammar.specs.Notation.{⁅◌⁆, ◌*, ◌! };
 ghost use Rattle.rust_grammar.specs.Rule as rules;
@@ -9,6 +9,7 @@ ghost use Rattle.rust_grammar.specs.Patterns as rows;
 ghost use Rattle.rust_productions.specs.Looks.{tokens, Takes, Asks, TakesIn, AsksIn};
 ghost use Rattle.rust_productions.specs.Reads.{looks, Gives, Reads, Saw};
 ghost use Rattle.rust_productions.specs.Starts.{Starts};
+ghost use Rattle.rust_productions.specs.declared.condition.Condition.{Condition};
 
 use crate::grammar::parts::{Part, expect_part};
 use crate::grammar::patterns::{single_or_missing, single_pattern};
@@ -22,9 +23,9 @@ use rust_productions::grammar::{abandon, at, start, take, wrap};
 #[inline(never)]
 #[cycle(grammar)]
 pub fn pattern(p: &mut Parser<'_>)
-    requires begins { (c : Bool) → Saw c (looks rules.pattern) p.old true }
+    requires begins { (c : Condition) → Saw c (looks rules.pattern) p.old true }
     requires some { 1 ≤ tokens p.old }
-    ensures gives { (c : Bool) → Gives rules.pattern c p.old p.new }
+    ensures gives { (c : Condition) → Gives rules.pattern c p.old p.new }
     ensures takes { Takes 2900 p.old p.new }
 {
     let frame = start(p);
@@ -38,7 +39,7 @@ pub fn pattern(p: &mut Parser<'_>)
 fn alternatives(p: &mut Parser<'_>, frame: Marker) -> Marker
     requires begins { Starts (looks rules.pattern) p.old }
     requires innermost { IsInnermost frame p.old.nodes }
-    ensures reads { (c : Bool) → Reads c (rule rules.pattern) p.old p.new }
+    ensures reads { (c : Condition) → Reads c (rule rules.pattern) p.old p.new }
     ensures takes { TakesIn result 2900 p.old p.new }
 {
     if at(p, SyntaxKind::PIPE) {
@@ -56,7 +57,7 @@ fn alternatives(p: &mut Parser<'_>, frame: Marker) -> Marker
 #[cycle(grammar)]
 fn one_further(p: &mut Parser<'_>)
     requires some { 1 ≤ tokens p.old }
-    ensures reads { (c : Bool) → Reads c rows.further_alternative p.old p.new }
+    ensures reads { (c : Condition) → Reads c rows.further_alternative p.old p.new }
     ensures takes { Takes 4080 p.old p.new }
 {
     take(p, SyntaxKind::PIPE);
@@ -67,7 +68,7 @@ fn one_further(p: &mut Parser<'_>)
 // | B | C
 #[cycle(grammar)]
 fn further(p: &mut Parser<'_>)
-    ensures reads { (c : Bool) → Reads c (rows.further_alternative *) p.old p.new }
+    ensures reads { (c : Condition) → Reads c (rows.further_alternative *) p.old p.new }
     ensures asks { Asks 1 p.old p.new }
 {
     'turns: while at(p, SyntaxKind::PIPE) {
@@ -80,7 +81,7 @@ fn further(p: &mut Parser<'_>)
 #[cycle(grammar)]
 fn opt_further(p: &mut Parser<'_>, frame: Marker) -> Marker
     requires innermost { IsInnermost frame p.old.nodes }
-    ensures reads { (c : Bool) → Reads c ⁅ rows.or_pattern ⁆ p.old p.new }
+    ensures reads { (c : Condition) → Reads c ⁅ rows.or_pattern ⁆ p.old p.new }
     ensures asks { AsksIn result 1 p.old p.new }
 {
     if at(p, SyntaxKind::PIPE) {
@@ -95,7 +96,7 @@ fn opt_further(p: &mut Parser<'_>, frame: Marker) -> Marker
 // A | B
 #[cycle(grammar)]
 pub(crate) fn pattern_or_missing(p: &mut Parser<'_>)
-    ensures gives { (c : Bool) → Gives rules.pattern c p.old p.new }
+    ensures gives { (c : Condition) → Gives rules.pattern c p.old p.new }
     ensures asks { Asks 30 p.old p.new }
 {
     if at_pattern(p) {

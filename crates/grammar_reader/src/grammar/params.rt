@@ -1,6 +1,6 @@
 //! Parameters of functions.
 
-ghost use Rattle.std.specs.Prelude.{◌≤◌, Bool, true};
+ghost use Rattle.std.specs.Prelude.{◌≤◌, true};
 ghost use Rattle.parser_input.specs.Kinds as kinds;
 ghost use Rattle.parser_input.specs.Kinds.{NAME, SELF_PARAM};
 ghost use Rattle.parser_events.specs.Stack.{IsInnermost};
@@ -13,8 +13,9 @@ ghost use Rattle.rust_grammar.specs.Words.{'&', 'mut', 'self'};
 ghost use Rattle.rust_grammar.specs.Items as rows;
 ghost use Rattle.rust_grammar.specs.Shared.{attributed, dots_and_dot, type_annotation};
 ghost use Rattle.rust_productions.specs.Looks.{tokens, Takes, Asks, Peeks};
-ghost use Rattle.rust_productions.specs.Reads.{looks, Anew, Completes, Gives, Reads, Saw};
+ghost use Rattle.rust_productions.specs.Reads.{looks, FromStart, Completes, Gives, Reads, Saw};
 ghost use Rattle.rust_productions.specs.Starts.{Starts};
+ghost use Rattle.rust_productions.specs.declared.condition.Condition.{Condition};
 
 use crate::grammar::attributes::attribute;
 use crate::grammar::expressions::closures::opt_type;
@@ -24,6 +25,7 @@ use crate::grammar::parts::{Part, expect_part};
 use crate::grammar::types::word_type;
 use parser_events::parser::{Marker, Parser};
 use parser_input::syntax_kind::SyntaxKind;
+use rust_productions::condition::Condition;
 use rust_productions::grammar::names::opt_lifetime;
 use rust_productions::grammar::params::{at_new_dots, at_new_param};
 use rust_productions::grammar::pattern_ranges::take_three_dots;
@@ -33,8 +35,8 @@ use rust_productions::grammar::{
 
 /// Returns `true` if the `&` that is next starts a `self` parameter.
 fn at_self_after_ref(p: &mut Parser<'_>) -> bool
-    requires { (c : Bool) → Saw c (Kind 0 kinds.AMP) p.old true }
-    ensures sees { (c : Bool) → Saw c self_begins p.old result }
+    requires { (c : Condition) → Saw c (Kind 0 kinds.AMP) p.old true }
+    ensures sees { (c : Condition) → Saw c self_begins p.old result }
     ensures peeks { Peeks 2 p.old p.new }
 {
     match nth(p, 1) {
@@ -46,7 +48,7 @@ fn at_self_after_ref(p: &mut Parser<'_>) -> bool
 
 /// Returns `true` if a `self` parameter is next.
 fn at_self(p: &mut Parser<'_>) -> bool
-    ensures sees { (c : Bool) → Saw c self_begins p.old result }
+    ensures sees { (c : Condition) → Saw c self_begins p.old result }
     ensures peeks { Peeks 3 p.old p.new }
 {
     match current(p) {
@@ -61,8 +63,8 @@ fn at_self(p: &mut Parser<'_>) -> bool
 // a: u8
 #[inline(never)]
 #[cycle(grammar)]
-pub(crate) fn param(p: &mut Parser<'_>, condition: bool)
-    requires begins { (c : Bool) → Saw c (looks rules.param) p.old true }
+pub(crate) fn param(p: &mut Parser<'_>, condition: Condition)
+    requires begins { (c : Condition) → Saw c (looks rules.param) p.old true }
     requires some { 1 ≤ tokens p.old }
     ensures gives { Gives rules.param condition p.old p.new }
     ensures takes { Takes 2860 p.old p.new }
@@ -81,9 +83,9 @@ pub(crate) fn param(p: &mut Parser<'_>, condition: bool)
 /// Parses a parameter that only the whole language has: `...`, or one with attributes.
 // #[a] b: u8
 #[cycle(grammar)]
-fn new_param(p: &mut Parser<'_>, condition: bool)
+fn new_param(p: &mut Parser<'_>, condition: Condition)
     requires begins { Starts rows.new_param_begins p.old }
-    ensures anew { Anew condition rows.new_param p.old p.new }
+    ensures from_start { FromStart condition rows.new_param p.old p.new }
     ensures takes { Takes 4000 p.old p.new }
 {
     if at_dots_dot(p) {
@@ -97,7 +99,7 @@ fn new_param(p: &mut Parser<'_>, condition: bool)
 // ...
 fn dots_param(p: &mut Parser<'_>)
     requires { 3 ≤ tokens p.old }
-    ensures reads { (c : Bool) → Reads c (kinds.PARAM ⟨ dots_and_dot ⟩) p.old p.new }
+    ensures reads { (c : Condition) → Reads c (kinds.PARAM ⟨ dots_and_dot ⟩) p.old p.new }
     ensures takes { Takes 8192 p.old p.new }
 {
     let node = start(p);
@@ -108,9 +110,9 @@ fn dots_param(p: &mut Parser<'_>)
 /// Parses a parameter that has attributes.
 // #[a] b: u8
 #[cycle(grammar)]
-fn attributed_param(p: &mut Parser<'_>, condition: bool)
+fn attributed_param(p: &mut Parser<'_>, condition: Condition)
     requires some { 1 ≤ tokens p.old }
-    ensures anew { Anew condition (attributed rows.attributed_param) p.old p.new }
+    ensures from_start { FromStart condition (attributed rows.attributed_param) p.old p.new }
     ensures takes { Takes 4030 p.old p.new }
 {
     let node = start(p);
@@ -122,7 +124,7 @@ fn attributed_param(p: &mut Parser<'_>, condition: bool)
 /// Parses a parameter after its attributes, and completes its node.
 // b: u8
 #[cycle(grammar)]
-fn after_attributes(p: &mut Parser<'_>, node: Marker, condition: bool)
+fn after_attributes(p: &mut Parser<'_>, node: Marker, condition: Condition)
     requires innermost { IsInnermost node p.old.nodes }
     ensures completes { Completes condition rows.attributed_param p.old p.new }
     ensures asks { Asks 40 p.old p.new }
@@ -139,7 +141,7 @@ fn after_attributes(p: &mut Parser<'_>, node: Marker, condition: bool)
 /// Parses the parts of a `self` parameter, within its node.
 // &'a mut self
 #[cycle(grammar)]
-fn self_rest(p: &mut Parser<'_>, condition: bool)
+fn self_rest(p: &mut Parser<'_>, condition: Condition)
     ensures reads { Reads condition rows.self_rest p.old p.new }
     ensures asks { Asks 4 p.old p.new }
 {
@@ -152,7 +154,7 @@ fn self_rest(p: &mut Parser<'_>, condition: bool)
 /// Parses the optional `&` of a `self` parameter and its optional lifetime.
 // &'a
 fn opt_ref(p: &mut Parser<'_>)
-    ensures reads { (c : Bool) → Reads c ⁅ One '&' ▸ ⁅ Lifetime ⁆ ⁆ p.old p.new }
+    ensures reads { (c : Condition) → Reads c ⁅ One '&' ▸ ⁅ Lifetime ⁆ ⁆ p.old p.new }
     ensures asks { Asks 1 p.old p.new }
 {
     if at(p, SyntaxKind::AMP) {
@@ -165,7 +167,7 @@ fn opt_ref(p: &mut Parser<'_>)
 // b: u8
 #[cycle(grammar)]
 fn dots_or_param(p: &mut Parser<'_>)
-    ensures reads { (c : Bool) → Reads c rows.dots_or_param p.old p.new }
+    ensures reads { (c : Condition) → Reads c rows.dots_or_param p.old p.new }
     ensures asks { Asks 33 p.old p.new }
 {
     if at_dots_dot(p) {
@@ -180,7 +182,7 @@ fn dots_or_param(p: &mut Parser<'_>)
 // : u8
 #[cycle(grammar)]
 fn param_type(p: &mut Parser<'_>)
-    ensures reads { (c : Bool) → Reads c rows.param_type p.old p.new }
+    ensures reads { (c : Condition) → Reads c rows.param_type p.old p.new }
     ensures asks { Asks 20 p.old p.new }
 {
     expect(p, SyntaxKind::COLON);
@@ -191,7 +193,7 @@ fn param_type(p: &mut Parser<'_>)
 // u8
 #[cycle(grammar)]
 fn dots_or_type(p: &mut Parser<'_>)
-    ensures reads { (c : Bool) → Reads c rows.dots_or_type p.old p.new }
+    ensures reads { (c : Condition) → Reads c rows.dots_or_type p.old p.new }
     ensures asks { Asks 19 p.old p.new }
 {
     if at_new_dots(p) {
@@ -204,8 +206,8 @@ fn dots_or_type(p: &mut Parser<'_>)
 /// Parses a parameter with a pattern.
 // a: u8
 #[cycle(grammar)]
-fn pattern_param(p: &mut Parser<'_>, condition: bool)
-    requires begins { (c : Bool) → Saw c (looks rules.pattern) p.old true }
+fn pattern_param(p: &mut Parser<'_>, condition: Condition)
+    requires begins { (c : Condition) → Saw c (looks rules.pattern) p.old true }
     requires some { 1 ≤ tokens p.old }
     ensures reads { Reads condition rows.pattern_param p.old p.new }
     ensures takes { Takes 2880 p.old p.new }
@@ -219,8 +221,8 @@ fn pattern_param(p: &mut Parser<'_>, condition: bool)
 /// Parses a `self` parameter.
 // &mut self
 #[cycle(grammar)]
-fn self_param(p: &mut Parser<'_>, condition: bool)
-    requires begins { (c : Bool) → Saw c self_begins p.old true }
+fn self_param(p: &mut Parser<'_>, condition: Condition)
+    requires begins { (c : Condition) → Saw c self_begins p.old true }
     requires some { 1 ≤ tokens p.old }
     ensures gives { Gives rules.param condition p.old p.new }
     ensures takes { Takes 4080 p.old p.new }
@@ -235,7 +237,7 @@ fn self_param(p: &mut Parser<'_>, condition: bool)
 /// Parses the name `self`; emits an error if there is none.
 // self
 fn expect_self(p: &mut Parser<'_>)
-    ensures reads { (c : Bool) → Reads c rows.self_name p.old p.new }
+    ensures reads { (c : Condition) → Reads c rows.self_name p.old p.new }
     ensures asks { Asks 1 p.old p.new }
 {
     let name = start(p);
@@ -246,7 +248,7 @@ fn expect_self(p: &mut Parser<'_>)
 /// Parses a `self` parameter with `&`.
 // &'a mut self
 #[cycle(grammar)]
-fn self_after_ref(p: &mut Parser<'_>, condition: bool)
+fn self_after_ref(p: &mut Parser<'_>, condition: Condition)
     requires some { 1 ≤ tokens p.old }
     ensures reads { Reads condition (SELF_PARAM ⟨ One '&' ▸ ⁅ Lifetime ⁆ ▸ ⁅ One 'mut' ⁆
         ▸ rows.self_name ▸ ⁅ type_annotation ⁆ ⟩) p.old p.new }
@@ -264,7 +266,7 @@ fn self_after_ref(p: &mut Parser<'_>, condition: bool)
 /// Parses a `self` parameter with `mut`.
 // mut self
 #[cycle(grammar)]
-fn self_after_mut(p: &mut Parser<'_>, condition: bool)
+fn self_after_mut(p: &mut Parser<'_>, condition: Condition)
     requires some { 1 ≤ tokens p.old }
     ensures reads { Reads condition (SELF_PARAM ⟨ One 'mut'
         ▸ rows.self_name ▸ ⁅ type_annotation ⁆ ⟩) p.old p.new }
@@ -280,7 +282,7 @@ fn self_after_mut(p: &mut Parser<'_>, condition: bool)
 /// Parses a `self` parameter without `&` and `mut`.
 // self: Box<Self>
 #[cycle(grammar)]
-fn self_alone(p: &mut Parser<'_>, condition: bool)
+fn self_alone(p: &mut Parser<'_>, condition: Condition)
     requires some { 1 ≤ tokens p.old }
     ensures reads { Reads condition (SELF_PARAM
         ⟨ NAME ⟨ One 'self' ⟩ ▸ ⁅ type_annotation ⁆ ⟩) p.old p.new }

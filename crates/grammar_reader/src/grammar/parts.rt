@@ -1,12 +1,13 @@
 //! Parts that are expected, or optional, in several places.
 
-ghost use Rattle.std.specs.Prelude.{◌≡◌, ◌≤◌, Bool, IsTrue};
+ghost use Rattle.std.specs.Prelude.{◌≡◌, ◌≤◌, IsTrue};
 ghost use Rattle.parser_events.specs.Seen.{message_of};
 ghost use Rattle.rust_grammar.specs.Notation.{⁅◌⁆};
 ghost use Rattle.grammar_reader.specs.Parts.{expected, looks_of, missing, part_begins, part_of};
 ghost use Rattle.rust_productions.specs.Looks.{tokens, Takes, Asks, Peeks};
 ghost use Rattle.rust_productions.specs.Reads.{Reads, Saw};
 ghost use Rattle.rust_productions.specs.Starts.{Starts};
+ghost use Rattle.rust_productions.specs.declared.condition.Condition.{Condition};
 
 use crate::grammar::expressions::blocks::{block, statement_list};
 use crate::grammar::expressions::control::match_arms;
@@ -83,7 +84,7 @@ fn missing_part(part: Part) -> Message
 
 /// Returns `true` if a part starts here.
 fn at_part(p: &mut Parser<'_>, part: Part) -> bool
-    ensures sees { (c : Bool) → Saw c (part_begins part) p.old result }
+    ensures sees { (c : Condition) → Saw c (part_begins part) p.old result }
     ensures some { IsTrue result → 1 ≤ tokens p.old }
     ensures peeks { Peeks (looks_of part) p.old p.new }
 {
@@ -114,7 +115,7 @@ fn at_part(p: &mut Parser<'_>, part: Part) -> bool
 #[cycle(grammar)]
 fn read_part(p: &mut Parser<'_>, part: Part)
     requires begins { Starts (part_begins part) p.old }
-    ensures reads { (c : Bool) → Reads c (part_of part) p.old p.new }
+    ensures reads { (c : Condition) → Reads c (part_of part) p.old p.new }
     ensures takes { Takes 0 p.old p.new }
 {
     match part {
@@ -144,7 +145,7 @@ fn read_part(p: &mut Parser<'_>, part: Part)
 // { f(); a }
 #[cycle(grammar)]
 pub(crate) fn expect_part(p: &mut Parser<'_>, part: Part)
-    ensures reads { (c : Bool) → Reads c (expected part) p.old p.new }
+    ensures reads { (c : Condition) → Reads c (expected part) p.old p.new }
     ensures asks { Asks (looks_of part) p.old p.new }
 {
     if at_part(p, part) {
@@ -158,7 +159,7 @@ pub(crate) fn expect_part(p: &mut Parser<'_>, part: Part)
 // where T: A
 #[cycle(grammar)]
 pub(crate) fn opt_part(p: &mut Parser<'_>, part: Part)
-    ensures reads { (c : Bool) → Reads c ⁅ part_of part ⁆ p.old p.new }
+    ensures reads { (c : Condition) → Reads c ⁅ part_of part ⁆ p.old p.new }
     ensures asks { Asks (looks_of part) p.old p.new }
 {
     if at_part(p, part) {

@@ -1,6 +1,6 @@
 //! Paths with arguments.
 
-ghost use Rattle.std.specs.Prelude.{◌≤◌, Bool, true, IsTrue};
+ghost use Rattle.std.specs.Prelude.{◌≤◌, true, IsTrue};
 ghost use Rattle.parser_input.specs.Kinds.{PARENTHESIZED_ARG_LIST};
 ghost use Rattle.parser_events.specs.Stack.{IsInnermost};
 ghost use Rattle.rust_grammar.specs.Notation.{⁅◌⁆, ◌!, ◌▸◌, ◌⟨◌⟩, ◌before◌, wide};
@@ -12,6 +12,7 @@ ghost use Rattle.grammar_reader.specs.Told.{angle, args_look, args_of, path_of};
 ghost use Rattle.rust_productions.specs.Looks.{tokens, Takes, Asks, Peeks, TakesIn, TakesTwoIn, AsksIn};
 ghost use Rattle.rust_productions.specs.Reads.{looks, Gives, Reads, Saw};
 ghost use Rattle.rust_productions.specs.Starts.{Starts};
+ghost use Rattle.rust_productions.specs.declared.condition.Condition.{Condition};
 
 use crate::grammar::lists::{Element, rest_of_list};
 use crate::grammar::parts::{Part, expect_part};
@@ -36,7 +37,7 @@ pub(crate) enum Mode {
 
 /// Returns `true` if `::` is next, and `<` after it.
 fn at_colons_before_args(p: &mut Parser<'_>) -> bool
-    ensures sees { (c : Bool) → Saw c ('::' before '<') p.old result }
+    ensures sees { (c : Condition) → Saw c ('::' before '<') p.old result }
     ensures some { IsTrue result → 3 ≤ tokens p.old }
     ensures peeks { Peeks 3 p.old p.new }
 {
@@ -48,7 +49,7 @@ fn at_colons_before_args(p: &mut Parser<'_>) -> bool
 
 /// Returns `true` if `::` is next, and `(` after it.
 fn at_colons_before_paren(p: &mut Parser<'_>) -> bool
-    ensures sees { (c : Bool) → Saw c ('::' before 'l_paren') p.old result }
+    ensures sees { (c : Condition) → Saw c ('::' before 'l_paren') p.old result }
     ensures some { IsTrue result → 3 ≤ tokens p.old }
     ensures peeks { Peeks 3 p.old p.new }
 {
@@ -60,7 +61,7 @@ fn at_colons_before_paren(p: &mut Parser<'_>) -> bool
 
 /// Returns `true` if a `<` is next that starts no `<=`.
 fn at_angle(p: &mut Parser<'_>) -> bool
-    ensures sees { (c : Bool) → Saw c angle p.old result }
+    ensures sees { (c : Condition) → Saw c angle p.old result }
     ensures some { IsTrue result → 1 ≤ tokens p.old }
     ensures peeks { Peeks 2 p.old p.new }
 {
@@ -72,7 +73,7 @@ fn at_angle(p: &mut Parser<'_>) -> bool
 
 /// Returns `true` if the generic arguments of a segment start here.
 fn at_args(p: &mut Parser<'_>, mode: Mode) -> bool
-    ensures sees { (c : Bool) → Saw c (args_look mode) p.old result }
+    ensures sees { (c : Condition) → Saw c (args_look mode) p.old result }
     ensures some { IsTrue result → 1 ≤ tokens p.old }
     ensures peeks { Peeks 5 p.old p.new }
 {
@@ -89,7 +90,7 @@ fn at_args(p: &mut Parser<'_>, mode: Mode) -> bool
 // (..)
 fn dots_args(p: &mut Parser<'_>)
     requires some { 3 ≤ tokens p.old }
-    ensures reads { (c : Bool) → Reads c (PARENTHESIZED_ARG_LIST
+    ensures reads { (c : Condition) → Reads c (PARENTHESIZED_ARG_LIST
         ⟨ One 'l_paren' ▸ One 'dots' ▸ One 'r_paren' ! ⟩) p.old p.new }
     ensures takes { Takes 8000 p.old p.new }
 {
@@ -104,7 +105,7 @@ fn dots_args(p: &mut Parser<'_>)
 // ::(..)
 fn colons_dots_args(p: &mut Parser<'_>)
     requires some { 5 ≤ tokens p.old }
-    ensures reads { (c : Bool) → Reads c (PARENTHESIZED_ARG_LIST
+    ensures reads { (c : Condition) → Reads c (PARENTHESIZED_ARG_LIST
         ⟨ One '::' ▸ One 'l_paren' ▸ One 'dots' ▸ One 'r_paren' ! ⟩) p.old p.new }
     ensures takes { Takes 8000 p.old p.new }
 {
@@ -121,7 +122,7 @@ fn colons_dots_args(p: &mut Parser<'_>)
 #[cycle(grammar)]
 fn fn_args(p: &mut Parser<'_>)
     requires begins { Starts (wide rows.fn_args_begin) p.old }
-    ensures reads { (c : Bool) → Reads c rows.fn_args p.old p.new }
+    ensures reads { (c : Condition) → Reads c rows.fn_args p.old p.new }
     ensures takes { Takes 3200 p.old p.new }
 {
     if at_dots_args(p) {
@@ -140,7 +141,7 @@ fn fn_args(p: &mut Parser<'_>)
 // ::
 fn opt_colons_before_paren(p: &mut Parser<'_>)
     requires begins { Starts (wide rows.fn_args_begin) p.old }
-    ensures reads { (c : Bool) → Reads c ⁅ One '::' ⁆ p.old p.new }
+    ensures reads { (c : Condition) → Reads c ⁅ One '::' ⁆ p.old p.new }
     ensures some { 1 ≤ tokens p.new }
     ensures asks { Asks 3 p.old p.new }
 {
@@ -154,7 +155,7 @@ fn opt_colons_before_paren(p: &mut Parser<'_>)
 #[cycle(grammar)]
 fn paren_args(p: &mut Parser<'_>)
     requires begins { Starts (wide rows.fn_args_begin) p.old }
-    ensures reads { (c : Bool) → Reads c rows.paren_args p.old p.new }
+    ensures reads { (c : Condition) → Reads c rows.paren_args p.old p.new }
     ensures takes { Takes 3300 p.old p.new }
 {
     let list = start(p);
@@ -173,7 +174,7 @@ fn paren_args(p: &mut Parser<'_>)
 // <u8>
 #[cycle(grammar)]
 pub(crate) fn opt_type_args(p: &mut Parser<'_>)
-    ensures reads { (c : Bool) → Reads c rows.type_args p.old p.new }
+    ensures reads { (c : Condition) → Reads c rows.type_args p.old p.new }
     ensures asks { Asks 9 p.old p.new }
 {
     if at_fn_args(p) {
@@ -189,7 +190,7 @@ pub(crate) fn opt_type_args(p: &mut Parser<'_>)
 // ::
 fn opt_colons(p: &mut Parser<'_>)
     requires begins { Starts (looks rules.generic_args) p.old }
-    ensures reads { (c : Bool) → Reads c ⁅ One '::' ⁆ p.old p.new }
+    ensures reads { (c : Condition) → Reads c ⁅ One '::' ⁆ p.old p.new }
     ensures some { 1 ≤ tokens p.new }
     ensures asks { Asks 3 p.old p.new }
 {
@@ -200,11 +201,12 @@ fn opt_colons(p: &mut Parser<'_>)
 
 /// Parses generic arguments.
 // ::<'a, u8>
+#[inline(never)]
 #[cycle(grammar)]
 pub(crate) fn generic_args(p: &mut Parser<'_>)
-    requires begins { (c : Bool) → Saw c (looks rules.generic_args) p.old true }
+    requires begins { (c : Condition) → Saw c (looks rules.generic_args) p.old true }
     requires some { 1 ≤ tokens p.old }
-    ensures gives { (c : Bool) → Gives rules.generic_args c p.old p.new }
+    ensures gives { (c : Condition) → Gives rules.generic_args c p.old p.new }
     ensures takes { Takes 3300 p.old p.new }
 {
     let list = start(p);
@@ -221,7 +223,7 @@ pub(crate) fn generic_args(p: &mut Parser<'_>)
 
 /// Returns `true` if generic arguments are next.
 pub(crate) fn at_generic_args(p: &mut Parser<'_>) -> bool
-    ensures sees { (c : Bool) → Saw c (looks rules.generic_args) p.old result }
+    ensures sees { (c : Condition) → Saw c (looks rules.generic_args) p.old result }
     ensures some { IsTrue result → 1 ≤ tokens p.old }
     ensures peeks { Peeks 4 p.old p.new }
 {
@@ -235,7 +237,7 @@ pub(crate) fn at_generic_args(p: &mut Parser<'_>) -> bool
 // ::<u8>
 #[cycle(grammar)]
 fn opt_args(p: &mut Parser<'_>, mode: Mode)
-    ensures reads { (c : Bool) → Reads c (args_of mode) p.old p.new }
+    ensures reads { (c : Condition) → Reads c (args_of mode) p.old p.new }
     ensures asks { Asks 9 p.old p.new }
 {
     match mode {
@@ -248,7 +250,7 @@ fn opt_args(p: &mut Parser<'_>, mode: Mode)
 // ::<u8>
 #[cycle(grammar)]
 fn opt_expr_args(p: &mut Parser<'_>)
-    ensures reads { (c : Bool) → Reads c rows.expr_args p.old p.new }
+    ensures reads { (c : Condition) → Reads c rows.expr_args p.old p.new }
     ensures asks { Asks 5 p.old p.new }
 {
     if at_args(p, Mode::Expr) {
@@ -260,9 +262,9 @@ fn opt_expr_args(p: &mut Parser<'_>)
 // ::a::<u8>
 #[cycle(grammar)]
 fn first_segment(p: &mut Parser<'_>, mode: Mode)
-    requires begins { (c : Bool) → Saw c (looks rules.path) p.old true }
+    requires begins { (c : Condition) → Saw c (looks rules.path) p.old true }
     requires some { 1 ≤ tokens p.old }
-    ensures reads { (c : Bool) → Reads c (rows.first_segment (args_of mode)) p.old p.new }
+    ensures reads { (c : Condition) → Reads c (rows.first_segment (args_of mode)) p.old p.new }
     ensures takes { Takes 4080 p.old p.new }
 {
     let path = start(p);
@@ -277,7 +279,7 @@ fn first_segment(p: &mut Parser<'_>, mode: Mode)
 // a::<u8>
 #[cycle(grammar)]
 fn expect_segment(p: &mut Parser<'_>, mode: Mode)
-    ensures reads { (c : Bool) → Reads c (rows.segment (args_of mode) !) p.old p.new }
+    ensures reads { (c : Condition) → Reads c (rows.segment (args_of mode) !) p.old p.new }
     ensures asks { Asks 1 p.old p.new }
 {
     if at_name_ref(p) {
@@ -296,7 +298,7 @@ fn expect_segment(p: &mut Parser<'_>, mode: Mode)
 fn next_segment(p: &mut Parser<'_>, path: Marker, mode: Mode) -> Marker
     requires innermost { IsInnermost path p.old.nodes }
     requires some { 2 ≤ tokens p.old }
-    ensures reads { (c : Bool) → Reads c (rows.next_segment (args_of mode)) p.old p.new }
+    ensures reads { (c : Condition) → Reads c (rows.next_segment (args_of mode)) p.old p.new }
     ensures takes { TakesTwoIn result 8000 p.old p.new }
 {
     take_pair(p, SyntaxKind::COLON2);
@@ -309,7 +311,7 @@ fn next_segment(p: &mut Parser<'_>, path: Marker, mode: Mode) -> Marker
 #[cycle(grammar)]
 pub(crate) fn next_segments(p: &mut Parser<'_>, path: Marker, mode: Mode) -> Marker
     requires innermost { IsInnermost path p.old.nodes }
-    ensures reads { (c : Bool) → Reads c (rows.next_segments (args_of mode)) p.old p.new }
+    ensures reads { (c : Condition) → Reads c (rows.next_segments (args_of mode)) p.old p.new }
     ensures asks { AsksIn result 3 p.old p.new }
 {
     let mut path = path;
@@ -325,7 +327,7 @@ pub(crate) fn next_segments(p: &mut Parser<'_>, path: Marker, mode: Mode) -> Mar
 pub(crate) fn qualified_path(p: &mut Parser<'_>, frame: Marker, mode: Mode) -> Marker
     requires innermost { IsInnermost frame p.old.nodes }
     requires some { 1 ≤ tokens p.old }
-    ensures reads { (c : Bool) → Reads c (rows.qualified_with (args_of mode)) p.old p.new }
+    ensures reads { (c : Condition) → Reads c (rows.qualified_with (args_of mode)) p.old p.new }
     ensures takes { TakesIn result 4000 p.old p.new }
 {
     qualifier(p);
@@ -337,7 +339,7 @@ pub(crate) fn qualified_path(p: &mut Parser<'_>, frame: Marker, mode: Mode) -> M
 #[cycle(grammar)]
 fn qualifier(p: &mut Parser<'_>)
     requires some { 1 ≤ tokens p.old }
-    ensures reads { (c : Bool) → Reads c rows.qualifier p.old p.new }
+    ensures reads { (c : Condition) → Reads c rows.qualifier p.old p.new }
     ensures takes { Takes 4040 p.old p.new }
 {
     let path = start(p);
@@ -352,7 +354,7 @@ fn qualifier(p: &mut Parser<'_>)
 #[cycle(grammar)]
 fn anchor(p: &mut Parser<'_>)
     requires some { 1 ≤ tokens p.old }
-    ensures reads { (c : Bool) → Reads c rows.anchor p.old p.new }
+    ensures reads { (c : Condition) → Reads c rows.anchor p.old p.new }
     ensures takes { Takes 4050 p.old p.new }
 {
     let node = start(p);
@@ -367,7 +369,7 @@ fn anchor(p: &mut Parser<'_>)
 // as A
 #[cycle(grammar)]
 fn opt_as_trait(p: &mut Parser<'_>)
-    ensures reads { (c : Bool) → Reads c ⁅ rows.as_trait ⁆ p.old p.new }
+    ensures reads { (c : Condition) → Reads c ⁅ rows.as_trait ⁆ p.old p.new }
     ensures asks { Asks 1 p.old p.new }
 {
     if at(p, SyntaxKind::AS_KW) {
@@ -380,9 +382,9 @@ fn opt_as_trait(p: &mut Parser<'_>)
 // a::<u8>::b
 #[cycle(grammar)]
 pub(crate) fn path_with_args(p: &mut Parser<'_>, mode: Mode)
-    requires begins { (c : Bool) → Saw c (looks rules.path) p.old true }
+    requires begins { (c : Condition) → Saw c (looks rules.path) p.old true }
     requires some { 1 ≤ tokens p.old }
-    ensures gives { (c : Bool) → Gives (path_of mode) c p.old p.new }
+    ensures gives { (c : Condition) → Gives (path_of mode) c p.old p.new }
     ensures takes { Takes 4000 p.old p.new }
 {
     let frame = start(p);

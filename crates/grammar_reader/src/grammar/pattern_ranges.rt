@@ -1,6 +1,6 @@
 //! Range patterns.
 
-ghost use Rattle.std.specs.Prelude.{◌≤◌, Bool, true};
+ghost use Rattle.std.specs.Prelude.{◌≤◌, true};
 ghost use Rattle.parser_events.specs.Stack.{IsInnermost};
 ghost use Rattle.rust_grammar.specs.Patterns as rows;
 ghost use Rattle.rust_grammar.specs.Rule as rules;
@@ -8,6 +8,7 @@ ghost use Rattle.rust_grammar.specs.Whole.{rule};
 ghost use Rattle.rust_productions.specs.Looks.{tokens, Takes, Asks, TakesIn, AsksIn};
 ghost use Rattle.rust_productions.specs.Reads.{looks, Gives, Reads, Saw};
 ghost use Rattle.rust_productions.specs.Starts.{Starts};
+ghost use Rattle.rust_productions.specs.declared.condition.Condition.{Condition};
 
 use crate::grammar::patterns::inside;
 use parser_events::parser::{Marker, Parser};
@@ -23,7 +24,7 @@ use rust_productions::grammar::{abandon, complete, start, wrap};
 pub(crate) fn range_or_atom(p: &mut Parser<'_>, frame: Marker) -> Marker
     requires begins { Starts (looks rules.single_pattern) p.old }
     requires innermost { IsInnermost frame p.old.nodes }
-    ensures reads { (c : Bool) → Reads c (rule rules.single_pattern) p.old p.new }
+    ensures reads { (c : Condition) → Reads c (rule rules.single_pattern) p.old p.new }
     ensures takes { TakesIn result 2920 p.old p.new }
 {
     if at_open_range(p) {
@@ -38,9 +39,9 @@ pub(crate) fn range_or_atom(p: &mut Parser<'_>, frame: Marker) -> Marker
 // ..=2
 #[cycle(grammar)]
 fn open_range(p: &mut Parser<'_>)
-    requires begins { (c : Bool) → Saw c rows.range_op_begins p.old true }
+    requires begins { (c : Condition) → Saw c rows.range_op_begins p.old true }
     requires some { 2 ≤ tokens p.old }
-    ensures reads { (c : Bool) → Reads c rows.open_range p.old p.new }
+    ensures reads { (c : Condition) → Reads c rows.open_range p.old p.new }
     ensures takes { Takes 7900 p.old p.new }
 {
     let node = start(p);
@@ -53,7 +54,7 @@ fn open_range(p: &mut Parser<'_>)
 // 2
 #[cycle(grammar)]
 fn opt_range_end(p: &mut Parser<'_>)
-    ensures reads { (c : Bool) → Reads c rows.range_end p.old p.new }
+    ensures reads { (c : Condition) → Reads c rows.range_end p.old p.new }
     ensures asks { Asks 3 p.old p.new }
 {
     if at_range_end(p) {
@@ -66,7 +67,7 @@ fn opt_range_end(p: &mut Parser<'_>)
 #[cycle(grammar)]
 fn pattern_atom(p: &mut Parser<'_>)
     requires begins { Starts (looks rules.pattern_atom) p.old }
-    ensures gives { (c : Bool) → Gives rules.pattern_atom c p.old p.new }
+    ensures gives { (c : Condition) → Gives rules.pattern_atom c p.old p.new }
     ensures takes { Takes 2950 p.old p.new }
 {
     let frame = start(p);
@@ -79,7 +80,7 @@ fn pattern_atom(p: &mut Parser<'_>)
 #[cycle(grammar)]
 pub(crate) fn opt_range(p: &mut Parser<'_>, frame: Marker) -> Marker
     requires innermost { IsInnermost frame p.old.nodes }
-    ensures reads { (c : Bool) → Reads c rows.range_tail p.old p.new }
+    ensures reads { (c : Condition) → Reads c rows.range_tail p.old p.new }
     ensures asks { AsksIn result 2 p.old p.new }
 {
     if at_range_op(p) {

@@ -1,6 +1,6 @@
 //! Patterns.
 
-ghost use Rattle.std.specs.Prelude.{◌≡◌, ◌≤◌, ◌+◌, Bool, true, false, IsTrue};
+ghost use Rattle.std.specs.Prelude.{◌≡◌, ◌≤◌, ◌+◌, true, false, IsTrue};
 ghost use Rattle.parser_input.specs.Kinds.{IDENT_PAT, LITERAL_PAT};
 ghost use Rattle.parser_events.specs.Stack.{IsInnermost};
 ghost use Rattle.rust_grammar.specs.Calls.{Literal, Name};
@@ -13,6 +13,7 @@ ghost use Rattle.rust_grammar.specs.Patterns as rows;
 ghost use Rattle.rust_productions.specs.Looks.{tokens, spent, Takes, Asks, Peeks, TakesIn, AsksIn};
 ghost use Rattle.rust_productions.specs.Reads.{looks, Gives, Reads, Saw};
 ghost use Rattle.rust_productions.specs.Starts.{Starts};
+ghost use Rattle.rust_productions.specs.declared.condition.Condition.{Condition};
 
 use crate::grammar::lists::{Element, ListKind, list, rest_of_list, tuple_tail};
 use crate::grammar::parts::{Part, expect_part};
@@ -33,7 +34,7 @@ use rust_productions::grammar::{
 /// Returns `true` if an identifier is next that is a pattern: before none of `::`, `(`, `{` and
 /// `!`.
 fn at_ident_pat(p: &mut Parser<'_>) -> bool
-    ensures sees { (c : Bool) → Saw c rows.name_alone p.old result }
+    ensures sees { (c : Condition) → Saw c rows.name_alone p.old result }
     ensures some { IsTrue result → 1 ≤ tokens p.old }
     ensures peeks { Peeks 4 p.old p.new }
 {
@@ -51,7 +52,7 @@ fn at_ident_pat(p: &mut Parser<'_>) -> bool
 
 /// Returns `true` if `(` is next, and `..` after it.
 fn at_paren_before_dots(p: &mut Parser<'_>) -> bool
-    ensures sees { (c : Bool) → Saw c ('l_paren' before 'dots') p.old result }
+    ensures sees { (c : Condition) → Saw c ('l_paren' before 'dots') p.old result }
     ensures some { IsTrue result → 1 ≤ tokens p.old }
     ensures peeks { Peeks 3 p.old p.new }
 {
@@ -65,9 +66,9 @@ fn at_paren_before_dots(p: &mut Parser<'_>) -> bool
 // &mut (a, ..)
 #[cycle(grammar)]
 pub(crate) fn single_pattern(p: &mut Parser<'_>)
-    requires begins { (c : Bool) → Saw c (looks rules.single_pattern) p.old true }
+    requires begins { (c : Condition) → Saw c (looks rules.single_pattern) p.old true }
     requires some { 1 ≤ tokens p.old }
-    ensures gives { (c : Bool) → Gives rules.single_pattern c p.old p.new }
+    ensures gives { (c : Condition) → Gives rules.single_pattern c p.old p.new }
     ensures takes { Takes 2910 p.old p.new }
 {
     let frame = start(p);
@@ -82,7 +83,7 @@ pub(crate) fn single_pattern(p: &mut Parser<'_>)
 pub(crate) fn inside(p: &mut Parser<'_>, frame: Marker) -> Marker
     requires begins { Starts (looks rules.pattern_atom) p.old }
     requires innermost { IsInnermost frame p.old.nodes }
-    ensures reads { (c : Bool) → Reads c (rule rules.pattern_atom) p.old p.new }
+    ensures reads { (c : Condition) → Reads c (rule rules.pattern_atom) p.old p.new }
     ensures takes { TakesIn result 2950 p.old p.new }
 {
     match current(p) {
@@ -140,7 +141,7 @@ pub(crate) fn inside(p: &mut Parser<'_>, frame: Marker) -> Marker
 // -1
 fn negative(p: &mut Parser<'_>)
     requires { 1 ≤ tokens p.old }
-    ensures reads { (c : Bool) → Reads c (LITERAL_PAT ⟨ One '-' ▸ Literal ! ⟩) p.old p.new }
+    ensures reads { (c : Condition) → Reads c (LITERAL_PAT ⟨ One '-' ▸ Literal ! ⟩) p.old p.new }
     ensures takes { Takes 4090 p.old p.new }
 {
     let node = start(p);
@@ -153,7 +154,7 @@ fn negative(p: &mut Parser<'_>)
 // 1
 fn literal_pat(p: &mut Parser<'_>)
     requires { 1 ≤ tokens p.old }
-    ensures reads { (c : Bool) → Reads c (LITERAL_PAT ⟨ Literal ⟩) p.old p.new }
+    ensures reads { (c : Condition) → Reads c (LITERAL_PAT ⟨ Literal ⟩) p.old p.new }
     ensures left { tokens p.new + 1 ≡ tokens p.old }
     ensures looks { spent p.new + 4095 ≤ spent p.old }
 {
@@ -166,7 +167,7 @@ fn literal_pat(p: &mut Parser<'_>)
 // ..
 pub(crate) fn rest_pat(p: &mut Parser<'_>)
     requires { 2 ≤ tokens p.old }
-    ensures reads { (c : Bool) → Reads c rows.rest_pat p.old p.new }
+    ensures reads { (c : Condition) → Reads c rows.rest_pat p.old p.new }
     ensures left { tokens p.new + 2 ≡ tokens p.old }
     ensures looks { spent p.new + 8192 ≡ spent p.old }
 {
@@ -180,7 +181,7 @@ pub(crate) fn rest_pat(p: &mut Parser<'_>)
 #[cycle(grammar)]
 fn ref_pat(p: &mut Parser<'_>)
     requires some { 1 ≤ tokens p.old }
-    ensures reads { (c : Bool) → Reads c rows.ref_pat p.old p.new }
+    ensures reads { (c : Condition) → Reads c rows.ref_pat p.old p.new }
     ensures takes { Takes 4080 p.old p.new }
 {
     let node = start(p);
@@ -194,7 +195,7 @@ fn ref_pat(p: &mut Parser<'_>)
 // @ Some(_)
 #[cycle(grammar)]
 fn opt_at(p: &mut Parser<'_>)
-    ensures reads { (c : Bool) → Reads c ⁅ rows.at_pattern ⁆ p.old p.new }
+    ensures reads { (c : Condition) → Reads c ⁅ rows.at_pattern ⁆ p.old p.new }
     ensures asks { Asks 1 p.old p.new }
 {
     if at(p, SyntaxKind::AT) {
@@ -208,7 +209,7 @@ fn opt_at(p: &mut Parser<'_>)
 #[cycle(grammar)]
 fn ident_pat(p: &mut Parser<'_>)
     requires some { 1 ≤ tokens p.old }
-    ensures reads { (c : Bool) → Reads c (IDENT_PAT ⟨ Name ▸ ⁅ rows.at_pattern ⁆ ⟩) p.old p.new }
+    ensures reads { (c : Condition) → Reads c (IDENT_PAT ⟨ Name ▸ ⁅ rows.at_pattern ⁆ ⟩) p.old p.new }
     ensures takes { Takes 4090 p.old p.new }
 {
     let node = start(p);
@@ -222,7 +223,7 @@ fn ident_pat(p: &mut Parser<'_>)
 #[cycle(grammar)]
 fn ident_after_mut(p: &mut Parser<'_>)
     requires some { 1 ≤ tokens p.old }
-    ensures reads { (c : Bool) → Reads c
+    ensures reads { (c : Condition) → Reads c
         (IDENT_PAT ⟨ One 'mut' ▸ Name ! ▸ ⁅ rows.at_pattern ⁆ ⟩) p.old p.new }
     ensures takes { Takes 4090 p.old p.new }
 {
@@ -238,7 +239,7 @@ fn ident_after_mut(p: &mut Parser<'_>)
 #[cycle(grammar)]
 fn ident_after_ref(p: &mut Parser<'_>)
     requires some { 1 ≤ tokens p.old }
-    ensures reads { (c : Bool) → Reads c (IDENT_PAT ⟨ One 'ref' ▸ ⁅ One 'mut' ⁆ ▸ Name !
+    ensures reads { (c : Condition) → Reads c (IDENT_PAT ⟨ One 'ref' ▸ ⁅ One 'mut' ⁆ ▸ Name !
         ▸ ⁅ rows.at_pattern ⁆ ⟩) p.old p.new }
     ensures takes { Takes 4090 p.old p.new }
 {
@@ -256,7 +257,7 @@ fn ident_after_ref(p: &mut Parser<'_>)
 fn paren_pat(p: &mut Parser<'_>, frame: Marker) -> Marker
     requires some { 1 ≤ tokens p.old }
     requires innermost { IsInnermost frame p.old.nodes }
-    ensures reads { (c : Bool) → Reads c rows.tuple_or_paren p.old p.new }
+    ensures reads { (c : Condition) → Reads c rows.tuple_or_paren p.old p.new }
     ensures takes { TakesIn result 3000 p.old p.new }
 {
     take(p, SyntaxKind::L_PAREN);
@@ -268,7 +269,7 @@ fn paren_pat(p: &mut Parser<'_>, frame: Marker) -> Marker
 #[cycle(grammar)]
 fn after_paren(p: &mut Parser<'_>, frame: Marker) -> Marker
     requires innermost { IsInnermost frame p.old.nodes }
-    ensures reads { (c : Bool) → Reads c rows.after_l_paren p.old p.new }
+    ensures reads { (c : Condition) → Reads c rows.after_l_paren p.old p.new }
     ensures asks { AsksIn result 20 p.old p.new }
 {
     if at(p, SyntaxKind::R_PAREN) {
@@ -291,7 +292,7 @@ fn after_paren(p: &mut Parser<'_>, frame: Marker) -> Marker
 fn path_pat(p: &mut Parser<'_>, frame: Marker) -> Marker
     requires begins { Starts (looks rules.path) p.old }
     requires innermost { IsInnermost frame p.old.nodes }
-    ensures reads { (c : Bool) → Reads c rows.path_pat p.old p.new }
+    ensures reads { (c : Condition) → Reads c rows.path_pat p.old p.new }
     ensures takes { TakesIn result 3990 p.old p.new }
 {
     path_with_args(p, Mode::Expr);
@@ -304,7 +305,7 @@ fn path_pat(p: &mut Parser<'_>, frame: Marker) -> Marker
 fn qualified_pat(p: &mut Parser<'_>, frame: Marker) -> Marker
     requires some { 1 ≤ tokens p.old }
     requires innermost { IsInnermost frame p.old.nodes }
-    ensures reads { (c : Bool) → Reads c rows.qualified_pat p.old p.new }
+    ensures reads { (c : Condition) → Reads c rows.qualified_pat p.old p.new }
     ensures takes { TakesIn result 3900 p.old p.new }
 {
     let frame = qualified_path(p, frame, Mode::Expr);
@@ -316,7 +317,7 @@ fn qualified_pat(p: &mut Parser<'_>, frame: Marker) -> Marker
 #[cycle(grammar)]
 fn after_path(p: &mut Parser<'_>, frame: Marker) -> Marker
     requires innermost { IsInnermost frame p.old.nodes }
-    ensures reads { (c : Bool) → Reads c rows.after_path p.old p.new }
+    ensures reads { (c : Condition) → Reads c rows.after_path p.old p.new }
     ensures asks { AsksIn result 3 p.old p.new }
 {
     if at(p, SyntaxKind::L_PAREN) {
@@ -346,7 +347,7 @@ fn after_path(p: &mut Parser<'_>, frame: Marker) -> Marker
 // Some(a)
 #[cycle(grammar)]
 pub(crate) fn single_or_missing(p: &mut Parser<'_>)
-    ensures gives { (c : Bool) → Gives rules.single_pattern c p.old p.new }
+    ensures gives { (c : Condition) → Gives rules.single_pattern c p.old p.new }
     ensures asks { Asks 20 p.old p.new }
 {
     if at_single_pattern(p) {
@@ -359,8 +360,8 @@ pub(crate) fn single_or_missing(p: &mut Parser<'_>)
 /// Parses a pattern where none starts: emits an error within the nodes of its path.
 #[cycle(grammar)]
 fn missing_single(p: &mut Parser<'_>)
-    requires none { (c : Bool) → Saw c (looks rules.single_pattern) p.old false }
-    ensures gives { (c : Bool) → Gives rules.single_pattern c p.old p.new }
+    requires none { (c : Condition) → Saw c (looks rules.single_pattern) p.old false }
+    ensures gives { (c : Condition) → Gives rules.single_pattern c p.old p.new }
     ensures asks { Asks 12 p.old p.new }
 {
     let frame = start(p);

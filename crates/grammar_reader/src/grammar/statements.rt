@@ -1,6 +1,6 @@
 //! Statements.
 
-ghost use Rattle.std.specs.Prelude.{◌≤◌, ◌<◌, ◌+◌, Bool, IsTrue, true, false};
+ghost use Rattle.std.specs.Prelude.{◌≤◌, ◌<◌, ◌+◌, IsTrue, true};
 ghost use Rattle.parser_events.specs.Stack.{IsInnermost};
 ghost use Rattle.rust_grammar.specs.Calls.{BlockLike};
 ghost use Rattle.rust_grammar.specs.Notation.{◌▸◌, ⁅◌⁆, ◌before◌, lead, more, wide};
@@ -11,8 +11,10 @@ ghost use Rattle.rust_grammar.specs.Shared.{attributed};
 ghost use Rattle.rust_grammar.specs.Statements as rows;
 ghost use Rattle.grammar_reader.specs.Told.{after_block_of, listing_of};
 ghost use Rattle.rust_productions.specs.Looks.{tokens, spent, Takes, Asks, Peeks, AsksIn};
-ghost use Rattle.rust_productions.specs.Reads.{looks, Anew, CompletesWhere, Gives, Reads, Saw};
+ghost use Rattle.rust_productions.specs.Reads.{looks, FromStart, CompletesWhere, Gives, Reads, Saw};
 ghost use Rattle.rust_productions.specs.Starts.{Starts, StartsIn};
+ghost use Rattle.rust_productions.specs.declared.condition.Condition.{Condition};
+ghost use Rattle.rust_productions.specs.declared.condition.Condition.TheVariants.{Off};
 
 use crate::grammar::attributes::attribute;
 use crate::grammar::expressions::atom::after_path;
@@ -28,6 +30,7 @@ use crate::grammar::paths::{Mode, path_with_args};
 use parser_events::message::Message;
 use parser_events::parser::{Marker, Parser};
 use parser_input::syntax_kind::SyntaxKind;
+use rust_productions::condition::Condition;
 use rust_productions::grammar::expressions::{at_block_like, at_expression, at_operand};
 use rust_productions::grammar::match_arms::{at_braced_macro, at_long_path};
 use rust_productions::grammar::statements::{
@@ -45,7 +48,7 @@ use rust_productions::grammar::{
 #[cycle(grammar)]
 pub(crate) fn statement(p: &mut Parser<'_>, end: ListEnd)
     requires some { 1 ≤ tokens p.old }
-    ensures gives { Gives (listing_of end).one false p.old p.new }
+    ensures gives { Gives (listing_of end).one Off p.old p.new }
     ensures asks { Asks 900 p.old p.new }
     ensures pays { tokens p.new < tokens p.old → spent p.new + 1500 ≤ spent p.old }
 {
@@ -63,7 +66,7 @@ pub(crate) fn statement(p: &mut Parser<'_>, end: ListEnd)
                 return;
             }
             if at_profile_item(p) {
-                item(p, false);
+                item(p, Condition::Off);
                 return;
             }
             expression_statement(p, end);
@@ -73,7 +76,7 @@ pub(crate) fn statement(p: &mut Parser<'_>, end: ListEnd)
 
 /// Returns `true` if an inner attribute is next.
 pub(crate) fn at_inner_attribute(p: &mut Parser<'_>) -> bool
-    ensures sees { (c : Bool) → Saw c ('#' before '!') p.old result }
+    ensures sees { (c : Condition) → Saw c ('#' before '!') p.old result }
     ensures some { IsTrue result → 1 ≤ tokens p.old }
     ensures peeks { Peeks 2 p.old p.new }
 {
@@ -89,7 +92,7 @@ pub(crate) fn at_inner_attribute(p: &mut Parser<'_>) -> bool
 #[cycle(grammar)]
 fn new_statement(p: &mut Parser<'_>, end: ListEnd)
     requires begins { Starts (wide rows.new_statement_begins) p.old }
-    ensures anew { Anew false (rows.new_statement (listing_of end)) p.old p.new }
+    ensures from_start { FromStart Off (rows.new_statement (listing_of end)) p.old p.new }
     ensures takes { Takes 2880 p.old p.new }
 {
     if at(p, SyntaxKind::POUND) {
@@ -104,7 +107,7 @@ fn new_statement(p: &mut Parser<'_>, end: ListEnd)
         super_let(p);
         return;
     }
-    item(p, false);
+    item(p, Condition::Off);
 }
 
 /// Parses a statement with the attributes before it.
@@ -112,7 +115,7 @@ fn new_statement(p: &mut Parser<'_>, end: ListEnd)
 #[cycle(grammar)]
 fn attributed_statement(p: &mut Parser<'_>, end: ListEnd)
     requires some { 1 ≤ tokens p.old }
-    ensures anew { Anew false (attributed (rows.after_attributes (listing_of end))) p.old p.new }
+    ensures from_start { FromStart Off (attributed (rows.after_attributes (listing_of end))) p.old p.new }
     ensures takes { Takes 3900 p.old p.new }
 {
     let frame = start(p);
@@ -127,7 +130,7 @@ fn attributed_statement(p: &mut Parser<'_>, end: ListEnd)
 #[cycle(grammar)]
 fn after_attributes(p: &mut Parser<'_>, frame: Marker, end: ListEnd)
     requires innermost { IsInnermost frame p.old.nodes }
-    ensures completes { CompletesWhere true false
+    ensures completes { CompletesWhere true Off
         (rows.after_attributes (listing_of end)) p.old p.new }
     ensures asks { Asks 90 p.old p.new }
 {
@@ -138,7 +141,7 @@ fn after_attributes(p: &mut Parser<'_>, frame: Marker, end: ListEnd)
     }
     if at_item_after_attributes(p) {
         opt_visibility(p);
-        body(p, frame, true, false);
+        body(p, frame, true, Condition::Off);
         return;
     }
     if at_block_like(p) {
@@ -147,13 +150,13 @@ fn after_attributes(p: &mut Parser<'_>, frame: Marker, end: ListEnd)
         abandon(p, rest);
         return;
     }
-    if at_operand(p, false) {
-        extended_operand(p, false);
+    if at_operand(p, Condition::Off) {
+        extended_operand(p, Condition::Off);
         let frame = operators_and_end(p, frame, end);
         abandon(p, frame);
         return;
     }
-    body(p, frame, true, false);
+    body(p, frame, true, Condition::Off);
 }
 
 /// Parses an expression that ends in a block. What the innermost node has so far becomes its first
@@ -161,9 +164,9 @@ fn after_attributes(p: &mut Parser<'_>, frame: Marker, end: ListEnd)
 // if a { b }
 #[cycle(grammar)]
 fn extended_block(p: &mut Parser<'_>)
-    requires begins { (c : Bool) → Saw c (looks rules.block_like) p.old true }
+    requires begins { (c : Condition) → Saw c (looks rules.block_like) p.old true }
     requires some { 1 ≤ tokens p.old }
-    ensures reads { (c : Bool) → Reads c (lead BlockLike) p.old p.new }
+    ensures reads { (c : Condition) → Reads c (lead BlockLike) p.old p.new }
     ensures takes { Takes 2890 p.old p.new }
 {
     let inner = start(p);
@@ -176,10 +179,10 @@ fn extended_block(p: &mut Parser<'_>)
 #[cycle(grammar)]
 fn operators_and_end(p: &mut Parser<'_>, frame: Marker, end: ListEnd) -> Marker
     requires innermost { IsInnermost frame p.old.nodes }
-    ensures reads { Reads false (rows.operators_and_end (listing_of end)) p.old p.new }
+    ensures reads { Reads Off (rows.operators_and_end (listing_of end)) p.old p.new }
     ensures asks { AsksIn result 14 p.old p.new }
 {
-    let frame = after_operand(p, frame, false);
+    let frame = after_operand(p, frame, Condition::Off);
     statement_end(p, frame, end)
 }
 
@@ -187,9 +190,9 @@ fn operators_and_end(p: &mut Parser<'_>, frame: Marker, end: ListEnd) -> Marker
 // a::b! { c }
 #[cycle(grammar)]
 fn long_path_statement(p: &mut Parser<'_>, end: ListEnd)
-    requires begins { (c : Bool) → Saw c (looks rules.path) p.old true }
+    requires begins { (c : Condition) → Saw c (looks rules.path) p.old true }
     requires some { 1 ≤ tokens p.old }
-    ensures anew { Anew false (rows.long_path_statement (listing_of end)) p.old p.new }
+    ensures from_start { FromStart Off (rows.long_path_statement (listing_of end)) p.old p.new }
     ensures takes { Takes 3900 p.old p.new }
 {
     let frame = start(p);
@@ -203,7 +206,7 @@ fn long_path_statement(p: &mut Parser<'_>, end: ListEnd)
 #[cycle(grammar)]
 fn path_tail(p: &mut Parser<'_>, frame: Marker, end: ListEnd) -> Marker
     requires innermost { IsInnermost frame p.old.nodes }
-    ensures reads { Reads false (rows.path_tail (listing_of end)) p.old p.new }
+    ensures reads { Reads Off (rows.path_tail (listing_of end)) p.old p.new }
     ensures asks { AsksIn result 24 p.old p.new }
 {
     if at_braced_macro(p) {
@@ -213,7 +216,7 @@ fn path_tail(p: &mut Parser<'_>, frame: Marker, end: ListEnd) -> Marker
         let frame = wrap(p, frame, SyntaxKind::MACRO_EXPR);
         return after_block(p, frame, end);
     }
-    let frame = after_path(p, frame, false);
+    let frame = after_path(p, frame, Condition::Off);
     let frame = postfixes(p, frame);
     operators_and_end(p, frame, end)
 }
@@ -223,7 +226,7 @@ fn path_tail(p: &mut Parser<'_>, frame: Marker, end: ListEnd) -> Marker
 #[cycle(grammar)]
 fn super_let(p: &mut Parser<'_>)
     requires some { 2 ≤ tokens p.old }
-    ensures reads { Reads false rows.super_let p.old p.new }
+    ensures reads { Reads Off rows.super_let p.old p.new }
     ensures takes { Takes 8000 p.old p.new }
 {
     let node = start(p);
@@ -237,7 +240,7 @@ fn super_let(p: &mut Parser<'_>)
 #[cycle(grammar)]
 fn defer_stmt(p: &mut Parser<'_>)
     requires some { 1 ≤ tokens p.old }
-    ensures reads { (c : Bool) → Reads c rows.defer_stmt p.old p.new }
+    ensures reads { (c : Condition) → Reads c rows.defer_stmt p.old p.new }
     ensures takes { Takes 4090 p.old p.new }
 {
     let node = start(p);
@@ -251,7 +254,7 @@ fn defer_stmt(p: &mut Parser<'_>)
 #[cycle(grammar)]
 fn let_stmt(p: &mut Parser<'_>)
     requires some { 1 ≤ tokens p.old }
-    ensures reads { Reads false rows.let_stmt p.old p.new }
+    ensures reads { Reads Off rows.let_stmt p.old p.new }
     ensures takes { Takes 4000 p.old p.new }
 {
     let node = start(p);
@@ -264,13 +267,13 @@ fn let_stmt(p: &mut Parser<'_>)
 #[cycle(grammar)]
 fn let_rest(p: &mut Parser<'_>)
     requires some { 1 ≤ tokens p.old }
-    ensures reads { Reads false rows.let_rest p.old p.new }
+    ensures reads { Reads Off rows.let_rest p.old p.new }
     ensures takes { Takes 4000 p.old p.new }
 {
     take(p, SyntaxKind::LET_KW);
     expect_part(p, Part::Pattern);
-    opt_type(p, false);
-    opt_value(p, false);
+    opt_type(p, Condition::Off);
+    opt_value(p, Condition::Off);
     opt_else(p);
     expect(p, SyntaxKind::SEMICOLON);
 }
@@ -279,7 +282,7 @@ fn let_rest(p: &mut Parser<'_>)
 // else { return }
 #[cycle(grammar)]
 fn opt_else(p: &mut Parser<'_>)
-    ensures reads { (c : Bool) → Reads c ⁅ rows.let_else ⁆ p.old p.new }
+    ensures reads { (c : Condition) → Reads c ⁅ rows.let_else ⁆ p.old p.new }
     ensures asks { Asks 1 p.old p.new }
 {
     if at(p, SyntaxKind::ELSE_KW) {
@@ -292,7 +295,7 @@ fn opt_else(p: &mut Parser<'_>)
 #[cycle(grammar)]
 fn let_else(p: &mut Parser<'_>)
     requires some { 1 ≤ tokens p.old }
-    ensures reads { (c : Bool) → Reads c rows.let_else p.old p.new }
+    ensures reads { (c : Condition) → Reads c rows.let_else p.old p.new }
     ensures takes { Takes 4090 p.old p.new }
 {
     let node = start(p);
@@ -307,7 +310,7 @@ fn let_else(p: &mut Parser<'_>)
 #[cycle(grammar)]
 fn expression_statement(p: &mut Parser<'_>, end: ListEnd)
     requires some { 1 ≤ tokens p.old }
-    ensures anew { Anew false (rows.expression_statement (listing_of end)) p.old p.new }
+    ensures from_start { FromStart Off (rows.expression_statement (listing_of end)) p.old p.new }
     ensures asks { Asks 800 p.old p.new }
     ensures pays { tokens p.new < tokens p.old → spent p.new + 1550 ≤ spent p.old }
 {
@@ -315,7 +318,7 @@ fn expression_statement(p: &mut Parser<'_>, end: ListEnd)
         block_statement(p, end);
         return;
     }
-    if at_expression(p, false) {
+    if at_expression(p, Condition::Off) {
         ended_expression(p, end);
         return;
     }
@@ -327,9 +330,9 @@ fn expression_statement(p: &mut Parser<'_>, end: ListEnd)
 #[inline(never)]
 #[cycle(grammar)]
 fn block_statement(p: &mut Parser<'_>, end: ListEnd)
-    requires begins { (c : Bool) → Saw c (looks rules.block_like) p.old true }
+    requires begins { (c : Condition) → Saw c (looks rules.block_like) p.old true }
     requires some { 1 ≤ tokens p.old }
-    ensures anew { Anew false (BlockLike ▸ after_block_of end) p.old p.new }
+    ensures from_start { FromStart Off (BlockLike ▸ after_block_of end) p.old p.new }
     ensures takes { Takes 2880 p.old p.new }
 {
     let frame = start(p);
@@ -340,8 +343,9 @@ fn block_statement(p: &mut Parser<'_>, end: ListEnd)
 
 /// Returns `true` if an expression that ends in a block continues: with a `?`, or with a dot that
 /// starts no range.
+#[inline(always)]
 pub(crate) fn at_more(p: &mut Parser<'_>) -> bool
-    ensures sees { (c : Bool) → Saw c goes_on p.old result }
+    ensures sees { (c : Condition) → Saw c goes_on p.old result }
     ensures some { IsTrue result → 1 ≤ tokens p.old }
     ensures peeks { Peeks 3 p.old p.new }
 {
@@ -362,7 +366,7 @@ pub(crate) fn at_more(p: &mut Parser<'_>) -> bool
 #[cycle(grammar)]
 fn after_block(p: &mut Parser<'_>, frame: Marker, end: ListEnd) -> Marker
     requires innermost { IsInnermost frame p.old.nodes }
-    ensures reads { Reads false (after_block_of end) p.old p.new }
+    ensures reads { Reads Off (after_block_of end) p.old p.new }
     ensures asks { AsksIn result 6 p.old p.new }
 {
     if at_more(p) {
@@ -386,11 +390,11 @@ fn after_block(p: &mut Parser<'_>, frame: Marker, end: ListEnd) -> Marker
 #[cycle(grammar)]
 fn opt_operators(p: &mut Parser<'_>, frame: Marker) -> Marker
     requires innermost { IsInnermost frame p.old.nodes }
-    ensures reads { Reads false rows.further_operators p.old p.new }
+    ensures reads { Reads Off rows.further_operators p.old p.new }
     ensures asks { AsksIn result 11 p.old p.new }
 {
     if at_whole(p) {
-        return after_operand(p, frame, false);
+        return after_operand(p, frame, Condition::Off);
     }
     frame
 }
@@ -400,13 +404,13 @@ fn opt_operators(p: &mut Parser<'_>, frame: Marker) -> Marker
 #[inline(never)]
 #[cycle(grammar)]
 fn ended_expression(p: &mut Parser<'_>, end: ListEnd)
-    requires begins { StartsIn false (looks rules.expression) p.old }
-    ensures anew { Anew false (rows.ended_expression (listing_of end)) p.old p.new }
+    requires begins { StartsIn Off (looks rules.expression) p.old }
+    ensures from_start { FromStart Off (rows.ended_expression (listing_of end)) p.old p.new }
     ensures asks { Asks 604 p.old p.new }
     ensures pays { tokens p.new < tokens p.old → spent p.new + 1790 ≤ spent p.old }
 {
     let frame = start(p);
-    expression(p, false);
+    expression(p, Condition::Off);
     let frame = statement_end(p, frame, end);
     abandon(p, frame);
 }
@@ -415,7 +419,7 @@ fn ended_expression(p: &mut Parser<'_>, end: ListEnd)
 // ;
 fn statement_end(p: &mut Parser<'_>, frame: Marker, end: ListEnd) -> Marker
     requires { IsInnermost frame p.old.nodes }
-    ensures reads { (c : Bool) → Reads c (more (listing_of end).end) p.old p.new }
+    ensures reads { (c : Condition) → Reads c (more (listing_of end).end) p.old p.new }
     ensures asks { AsksIn result 3 p.old p.new }
     ensures pays { tokens p.new < tokens p.old → spent p.new + 4000 ≤ spent p.old }
 {

@@ -1,6 +1,6 @@
 //! Types.
 
-ghost use Rattle.std.specs.Prelude.{◌≡◌, ◌≢◌, ◌≤◌, ◌+◌, Bool, true};
+ghost use Rattle.std.specs.Prelude.{◌≡◌, ◌≢◌, ◌≤◌, ◌+◌, true};
 ghost use Rattle.parser_input.specs.Kind.{raw_of};
 ghost use Rattle.parser_input.specs.Kinds as kinds;
 ghost use Rattle.parser_events.specs.Stack.{IsInnermost};
@@ -16,6 +16,7 @@ ghost use Rattle.rust_grammar.specs.Types as rows;
 ghost use Rattle.rust_productions.specs.Looks.{tokens, spent, Takes, Asks, TakesIn, AsksIn};
 ghost use Rattle.rust_productions.specs.Reads.{looks, Gives, Reads, Saw};
 ghost use Rattle.rust_productions.specs.Starts.{Starts};
+ghost use Rattle.rust_productions.specs.declared.condition.Condition.{Condition};
 
 use crate::grammar::expressions::{Level, expect_expression};
 use crate::grammar::fn_pointers::fn_ptr_type;
@@ -26,6 +27,7 @@ use crate::grammar::parts::{Part, expect_part};
 use crate::grammar::paths::{Mode, path_with_args, qualified_path};
 use parser_events::parser::{Marker, Parser};
 use parser_input::syntax_kind::SyntaxKind;
+use rust_productions::condition::Condition;
 use rust_productions::grammar::names::opt_lifetime;
 use rust_productions::grammar::paths::at_macro_call;
 use rust_productions::grammar::token_trees::expect_token_tree;
@@ -39,7 +41,7 @@ use rust_productions::grammar::{
 #[cycle(grammar)]
 pub fn any_type(p: &mut Parser<'_>)
     requires begins { Starts (looks rules.any_type) p.old }
-    ensures gives { (c : Bool) → Gives rules.any_type c p.old p.new }
+    ensures gives { (c : Condition) → Gives rules.any_type c p.old p.new }
     ensures takes { Takes 2910 p.old p.new }
 {
     let frame = start(p);
@@ -53,7 +55,7 @@ pub fn any_type(p: &mut Parser<'_>)
 fn inside(p: &mut Parser<'_>, frame: Marker) -> Marker
     requires begins { Starts (looks rules.any_type) p.old }
     requires innermost { IsInnermost frame p.old.nodes }
-    ensures reads { (c : Bool) → Reads c (rule rules.any_type) p.old p.new }
+    ensures reads { (c : Condition) → Reads c (rule rules.any_type) p.old p.new }
     ensures takes { TakesIn result 2910 p.old p.new }
 {
     match current(p) {
@@ -102,7 +104,7 @@ fn inside(p: &mut Parser<'_>, frame: Marker) -> Marker
 #[cycle(grammar)]
 pub(crate) fn type_no_bounds(p: &mut Parser<'_>)
     requires begins { Starts (looks rules.type_no_bounds) p.old }
-    ensures gives { (c : Bool) → Gives rules.type_no_bounds c p.old p.new }
+    ensures gives { (c : Condition) → Gives rules.type_no_bounds c p.old p.new }
     ensures takes { Takes 2900 p.old p.new }
 {
     let frame = start(p);
@@ -116,7 +118,7 @@ pub(crate) fn type_no_bounds(p: &mut Parser<'_>)
 fn bare_or_any(p: &mut Parser<'_>, frame: Marker) -> Marker
     requires begins { Starts (looks rules.type_no_bounds) p.old }
     requires innermost { IsInnermost frame p.old.nodes }
-    ensures reads { (c : Bool) → Reads c (rule rules.type_no_bounds) p.old p.new }
+    ensures reads { (c : Condition) → Reads c (rule rules.type_no_bounds) p.old p.new }
     ensures takes { TakesIn result 2900 p.old p.new }
 {
     if at_bare_type(p) {
@@ -132,7 +134,7 @@ fn bare_or_any(p: &mut Parser<'_>, frame: Marker) -> Marker
 fn new_type(p: &mut Parser<'_>, frame: Marker) -> Marker
     requires begins { Starts (wide rows.new_type_begins) p.old }
     requires innermost { IsInnermost frame p.old.nodes }
-    ensures reads { (c : Bool) → Reads c rows.new_type p.old p.new }
+    ensures reads { (c : Condition) → Reads c rows.new_type p.old p.new }
     ensures takes { TakesIn result 3900 p.old p.new }
 {
     if at(p, SyntaxKind::LIFETIME_IDENT) {
@@ -153,7 +155,7 @@ fn new_type(p: &mut Parser<'_>, frame: Marker) -> Marker
 fn for_or_path(p: &mut Parser<'_>, frame: Marker) -> Marker
     requires begins { Starts rows.for_or_path_begins p.old }
     requires innermost { IsInnermost frame p.old.nodes }
-    ensures reads { (c : Bool) → Reads c rows.for_or_path p.old p.new }
+    ensures reads { (c : Condition) → Reads c rows.for_or_path p.old p.new }
     ensures takes { TakesIn result 3950 p.old p.new }
 {
     if at(p, SyntaxKind::FOR_KW) {
@@ -170,7 +172,7 @@ fn for_or_path(p: &mut Parser<'_>, frame: Marker) -> Marker
 fn front_path(p: &mut Parser<'_>, frame: Marker) -> Marker
     requires begins { Starts rows.front_path_begins p.old }
     requires innermost { IsInnermost frame p.old.nodes }
-    ensures reads { (c : Bool) → Reads c rows.front_path p.old p.new }
+    ensures reads { (c : Condition) → Reads c rows.front_path p.old p.new }
     ensures takes { TakesIn result 3970 p.old p.new }
 {
     if at(p, SyntaxKind::L_ANGLE) {
@@ -185,7 +187,7 @@ fn front_path(p: &mut Parser<'_>, frame: Marker) -> Marker
 #[cycle(grammar)]
 fn for_type(p: &mut Parser<'_>)
     requires some { 1 ≤ tokens p.old }
-    ensures reads { (c : Bool) → Reads c rows.for_type p.old p.new }
+    ensures reads { (c : Condition) → Reads c rows.for_type p.old p.new }
     ensures takes { Takes 4000 p.old p.new }
 {
     let node = start(p);
@@ -198,7 +200,7 @@ fn for_type(p: &mut Parser<'_>)
 // !(a)
 pub(crate) fn type_of_path(p: &mut Parser<'_>, frame: Marker) -> Marker
     requires innermost { IsInnermost frame p.old.nodes }
-    ensures reads { (c : Bool) → Reads c path_rows.type_of_path p.old p.new }
+    ensures reads { (c : Condition) → Reads c path_rows.type_of_path p.old p.new }
     ensures asks { AsksIn result 3 p.old p.new }
 {
     if at_macro_call(p) {
@@ -214,7 +216,7 @@ pub(crate) fn type_of_path(p: &mut Parser<'_>, frame: Marker) -> Marker
 #[cycle(grammar)]
 pub(crate) fn opt_plus_bounds(p: &mut Parser<'_>, frame: Marker) -> Marker
     requires innermost { IsInnermost frame p.old.nodes }
-    ensures reads { (c : Bool) → Reads c path_rows.plus_bounds p.old p.new }
+    ensures reads { (c : Condition) → Reads c path_rows.plus_bounds p.old p.new }
     ensures asks { AsksIn result 1 p.old p.new }
 {
     if at(p, SyntaxKind::PLUS) {
@@ -231,7 +233,7 @@ pub(crate) fn opt_plus_bounds(p: &mut Parser<'_>, frame: Marker) -> Marker
 #[cycle(grammar)]
 fn bounds_after_plus(p: &mut Parser<'_>)
     requires some { 1 ≤ tokens p.old }
-    ensures reads { (c : Bool) → Reads c path_rows.bounds_after_plus p.old p.new }
+    ensures reads { (c : Condition) → Reads c path_rows.bounds_after_plus p.old p.new }
     ensures takes { Takes 4000 p.old p.new }
 {
     take(p, SyntaxKind::PLUS);
@@ -244,7 +246,7 @@ fn bounds_after_plus(p: &mut Parser<'_>)
 #[cycle(grammar)]
 fn lifetime_bounds(p: &mut Parser<'_>)
     requires some { 1 ≤ tokens p.old }
-    ensures reads { (c : Bool) → Reads c rows.lifetime_bounds p.old p.new }
+    ensures reads { (c : Condition) → Reads c rows.lifetime_bounds p.old p.new }
     ensures takes { Takes 4090 p.old p.new }
 {
     let node = start(p);
@@ -259,7 +261,7 @@ fn lifetime_bounds(p: &mut Parser<'_>)
 // _
 pub(crate) fn word_type(p: &mut Parser<'_>, token: SyntaxKind, kind: SyntaxKind)
     requires { 1 ≤ tokens p.old }
-    ensures reads { (c : Bool) → Reads c (raw_of kind ⟨ One (one (raw_of token)) ⟩) p.old p.new }
+    ensures reads { (c : Condition) → Reads c (raw_of kind ⟨ One (one (raw_of token)) ⟩) p.old p.new }
     ensures left { tokens p.new + 1 ≡ tokens p.old }
     ensures looks { spent p.new + 4096 ≡ spent p.old }
 {
@@ -273,7 +275,7 @@ pub(crate) fn word_type(p: &mut Parser<'_>, token: SyntaxKind, kind: SyntaxKind)
 #[cycle(grammar)]
 fn bounded_type(p: &mut Parser<'_>, token: SyntaxKind, kind: SyntaxKind)
     requires some { 1 ≤ tokens p.old }
-    ensures reads { (c : Bool) → Reads c
+    ensures reads { (c : Condition) → Reads c
         (raw_of kind ⟨ One (one (raw_of token)) ▸ Bounds ⟩) p.old p.new }
     ensures takes { Takes 4070 p.old p.new }
 {
@@ -287,9 +289,9 @@ fn bounded_type(p: &mut Parser<'_>, token: SyntaxKind, kind: SyntaxKind)
 // a::B<u8>
 #[cycle(grammar)]
 pub(crate) fn path_type(p: &mut Parser<'_>)
-    requires begins { (c : Bool) → Saw c (looks rules.path) p.old true }
+    requires begins { (c : Condition) → Saw c (looks rules.path) p.old true }
     requires some { 1 ≤ tokens p.old }
-    ensures reads { (c : Bool) → Reads c shared.path_type p.old p.new }
+    ensures reads { (c : Condition) → Reads c shared.path_type p.old p.new }
     ensures takes { Takes 4000 p.old p.new }
 {
     let node = start(p);
@@ -302,7 +304,7 @@ pub(crate) fn path_type(p: &mut Parser<'_>)
 #[cycle(grammar)]
 fn ptr_type(p: &mut Parser<'_>)
     requires some { 1 ≤ tokens p.old }
-    ensures reads { (c : Bool) → Reads c rows.ptr_type p.old p.new }
+    ensures reads { (c : Condition) → Reads c rows.ptr_type p.old p.new }
     ensures takes { Takes 4060 p.old p.new }
 {
     let node = start(p);
@@ -315,7 +317,7 @@ fn ptr_type(p: &mut Parser<'_>)
 /// Parses `const` or `mut`; emits an error if there is neither.
 // mut
 fn const_or_mut(p: &mut Parser<'_>)
-    ensures reads { (c : Bool) → Reads c rows.const_or_mut p.old p.new }
+    ensures reads { (c : Condition) → Reads c rows.const_or_mut p.old p.new }
     ensures asks { Asks 2 p.old p.new }
 {
     if at(p, SyntaxKind::CONST_KW) {
@@ -330,7 +332,7 @@ fn const_or_mut(p: &mut Parser<'_>)
 #[cycle(grammar)]
 fn ref_type(p: &mut Parser<'_>)
     requires some { 1 ≤ tokens p.old }
-    ensures reads { (c : Bool) → Reads c rows.ref_type p.old p.new }
+    ensures reads { (c : Condition) → Reads c rows.ref_type p.old p.new }
     ensures takes { Takes 4060 p.old p.new }
 {
     let node = start(p);
@@ -347,7 +349,7 @@ fn ref_type(p: &mut Parser<'_>)
 fn paren_type(p: &mut Parser<'_>, frame: Marker) -> Marker
     requires some { 1 ≤ tokens p.old }
     requires innermost { IsInnermost frame p.old.nodes }
-    ensures reads { (c : Bool) → Reads c rows.tuple_or_paren p.old p.new }
+    ensures reads { (c : Condition) → Reads c rows.tuple_or_paren p.old p.new }
     ensures takes { TakesIn result 3200 p.old p.new }
 {
     take(p, SyntaxKind::L_PAREN);
@@ -359,7 +361,7 @@ fn paren_type(p: &mut Parser<'_>, frame: Marker) -> Marker
 #[cycle(grammar)]
 fn after_paren(p: &mut Parser<'_>, frame: Marker) -> Marker
     requires innermost { IsInnermost frame p.old.nodes }
-    ensures reads { (c : Bool) → Reads c rows.after_l_paren p.old p.new }
+    ensures reads { (c : Condition) → Reads c rows.after_l_paren p.old p.new }
     ensures asks { AsksIn result 19 p.old p.new }
 {
     if at(p, SyntaxKind::R_PAREN) {
@@ -382,7 +384,7 @@ fn after_paren(p: &mut Parser<'_>, frame: Marker) -> Marker
 fn bracket_type(p: &mut Parser<'_>, frame: Marker) -> Marker
     requires some { 1 ≤ tokens p.old }
     requires innermost { IsInnermost frame p.old.nodes }
-    ensures reads { (c : Bool) → Reads c rows.array_or_slice p.old p.new }
+    ensures reads { (c : Condition) → Reads c rows.array_or_slice p.old p.new }
     ensures takes { TakesIn result 3200 p.old p.new }
 {
     take(p, SyntaxKind::L_BRACK);
@@ -395,7 +397,7 @@ fn bracket_type(p: &mut Parser<'_>, frame: Marker) -> Marker
 #[cycle(grammar)]
 fn after_element(p: &mut Parser<'_>, frame: Marker) -> Marker
     requires innermost { IsInnermost frame p.old.nodes }
-    ensures reads { (c : Bool) → Reads c rows.after_element p.old p.new }
+    ensures reads { (c : Condition) → Reads c rows.after_element p.old p.new }
     ensures asks { AsksIn result 2 p.old p.new }
 {
     if at(p, SyntaxKind::SEMICOLON) {
@@ -412,11 +414,11 @@ fn after_element(p: &mut Parser<'_>, frame: Marker) -> Marker
 // 4
 #[cycle(grammar)]
 fn array_length(p: &mut Parser<'_>)
-    ensures reads { (c : Bool) → Reads c rows.array_length p.old p.new }
+    ensures reads { (c : Condition) → Reads c rows.array_length p.old p.new }
     ensures asks { Asks 770 p.old p.new }
 {
     let node = start(p);
-    expect_expression(p, Level::Expression, false);
+    expect_expression(p, Level::Expression, Condition::Off);
     complete(p, node, SyntaxKind::CONST_ARG);
 }
 
@@ -425,7 +427,7 @@ fn array_length(p: &mut Parser<'_>)
 #[cycle(grammar)]
 pub(crate) fn ret_type(p: &mut Parser<'_>)
     requires some { 2 ≤ tokens p.old }
-    ensures gives { (c : Bool) → Gives rules.ret_type c p.old p.new }
+    ensures gives { (c : Condition) → Gives rules.ret_type c p.old p.new }
     ensures takes { Takes 4090 p.old p.new }
 {
     let node = start(p);
@@ -438,7 +440,7 @@ pub(crate) fn ret_type(p: &mut Parser<'_>)
 // -> u8
 #[cycle(grammar)]
 pub(crate) fn opt_ret_type(p: &mut Parser<'_>)
-    ensures reads { (c : Bool) → Reads c ⁅ RetType ⁆ p.old p.new }
+    ensures reads { (c : Condition) → Reads c ⁅ RetType ⁆ p.old p.new }
     ensures asks { Asks 2 p.old p.new }
 {
     if at_pair(p, SyntaxKind::MINUS, SyntaxKind::R_ANGLE) {
@@ -451,7 +453,7 @@ pub(crate) fn opt_ret_type(p: &mut Parser<'_>)
 #[cycle(grammar)]
 pub(crate) fn opt_type_after(p: &mut Parser<'_>, word: SyntaxKind)
     requires inside { raw_of word ≢ kinds.EOF }
-    ensures reads { (c : Bool) → Reads c ⁅ One (one (raw_of word)) ▸ AnyType ! ⁆ p.old p.new }
+    ensures reads { (c : Condition) → Reads c ⁅ One (one (raw_of word)) ▸ AnyType ! ⁆ p.old p.new }
     ensures asks { Asks 1 p.old p.new }
 {
     if at(p, word) {

@@ -1,6 +1,6 @@
 //! Const arguments.
 
-ghost use Rattle.std.specs.Prelude.{◌≤◌, Bool, false, IsTrue};
+ghost use Rattle.std.specs.Prelude.{◌≤◌, false, IsTrue};
 ghost use Rattle.rust_productions.specs.Looks.{tokens, Takes, Peeks, Stays};
 ghost use Rattle.rust_grammar.specs.Notation.{◌before_any◌};
 ghost use Rattle.rust_grammar.specs.Paths as rows;
@@ -8,7 +8,7 @@ ghost use Rattle.rust_grammar.specs.Rule as rules;
 ghost use Rattle.rust_grammar.specs.Rule.{begins};
 ghost use Rattle.rust_grammar.specs.Shared.{literal_words};
 ghost use Rattle.rust_grammar.specs.Words.{'-'};
-ghost use Rattle.rust_productions.specs.Reads.{looks, Gives, Reads, Saw};
+ghost use Rattle.rust_productions.specs.Reads.{looks, Gives, Reads, Saw, Condition};
 
 use crate::grammar::names::{at_literal, literal};
 use crate::grammar::paths::at_path;
@@ -19,7 +19,7 @@ use parser_input::syntax_kind::SyntaxKind;
 
 /// Returns `true` if `-` is next, and a literal after it.
 pub fn at_negated(p: &mut Parser<'_>) -> bool
-    ensures sees { (c : Bool) → Saw c ('-' before_any literal_words) p.old result }
+    ensures sees { (c : Condition) → Saw c ('-' before_any literal_words) p.old result }
     ensures some { IsTrue result → 2 ≤ tokens p.old }
     ensures peeks { Peeks 2 p.old p.new }
 {
@@ -44,7 +44,7 @@ pub fn at_negated(p: &mut Parser<'_>) -> bool
 // -1
 pub fn negated_literal(p: &mut Parser<'_>)
     requires some { 2 ≤ tokens p.old }
-    ensures reads { (c : Bool) → Reads c rows.negated_literal p.old p.new }
+    ensures reads { (c : Condition) → Reads c rows.negated_literal p.old p.new }
     ensures takes { Takes 8000 p.old p.new }
 {
     let node = start(p);
@@ -55,7 +55,7 @@ pub fn negated_literal(p: &mut Parser<'_>)
 
 /// Returns `true` if a const argument starts here.
 pub fn at_const_arg(p: &mut Parser<'_>) -> bool
-    ensures sees { (c : Bool) → Saw c (begins looks rows.const_arg) p.old result }
+    ensures sees { (c : Condition) → Saw c (begins looks rows.const_arg) p.old result }
     ensures some { IsTrue result → 1 ≤ tokens p.old }
     ensures peeks { Peeks 7 p.old p.new }
 {
@@ -76,8 +76,8 @@ pub fn at_const_arg(p: &mut Parser<'_>) -> bool
 
 /// Parses a path without a segment: emits an error within the nodes of the path.
 pub fn missing_expr_path(p: &mut Parser<'_>)
-    requires none { (c : Bool) → Saw c (looks rules.path) p.old false }
-    ensures gives { (c : Bool) → Gives rules.expr_path c p.old p.new }
+    requires none { (c : Condition) → Saw c (looks rules.path) p.old false }
+    ensures gives { (c : Condition) → Gives rules.expr_path c p.old p.new }
     ensures stays { Stays p.old p.new }
 {
     let frame = start(p);
@@ -87,9 +87,9 @@ pub fn missing_expr_path(p: &mut Parser<'_>)
 
 /// Emits an error for the segment of a path, within the nodes of the path.
 fn missing_segment(p: &mut Parser<'_>)
-    requires none { (c : Bool) → Saw c (looks rules.path) p.old false }
-    ensures reads { (c : Bool) → Reads c (rows.first_segment rows.expr_args) p.old p.new }
-    ensures ends { (c : Bool) → Saw c (looks rules.path) p.new false }
+    requires none { (c : Condition) → Saw c (looks rules.path) p.old false }
+    ensures reads { (c : Condition) → Reads c (rows.first_segment rows.expr_args) p.old p.new }
+    ensures ends { (c : Condition) → Saw c (looks rules.path) p.new false }
     ensures stays { Stays p.old p.new }
 {
     let path = start(p);

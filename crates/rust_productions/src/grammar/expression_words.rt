@@ -1,11 +1,11 @@
 //! Labels and words before blocks and closures, and what else of an expression only the whole
 //! language has.
 
-ghost use Rattle.std.specs.Prelude.{◌≤◌, Bool, IsTrue};
+ghost use Rattle.std.specs.Prelude.{◌≤◌, IsTrue};
 ghost use Rattle.rust_grammar.specs.Expressions as rows;
 ghost use Rattle.rust_grammar.specs.Notation.{wide};
 ghost use Rattle.rust_productions.specs.Looks.{tokens, Takes, Asks, Peeks};
-ghost use Rattle.rust_productions.specs.Reads.{Reads, Saw};
+ghost use Rattle.rust_productions.specs.Reads.{Reads, Saw, Condition};
 
 use crate::grammar::names::lifetime;
 use crate::grammar::{
@@ -16,7 +16,7 @@ use parser_input::syntax_kind::SyntaxKind;
 
 /// Returns `true` if an `async` is next that begins a block.
 fn at_async_block(p: &mut Parser<'_>) -> bool
-    ensures sees { (c : Bool) → Saw c rows.async_block_begins p.old result }
+    ensures sees { (c : Condition) → Saw c rows.async_block_begins p.old result }
     ensures some { IsTrue result → 1 ≤ tokens p.old }
     ensures peeks { Peeks 3 p.old p.new }
 {
@@ -37,7 +37,7 @@ fn at_async_block(p: &mut Parser<'_>) -> bool
 
 /// Returns `true` if a `gen` is next that begins a block.
 fn at_gen_block(p: &mut Parser<'_>) -> bool
-    ensures sees { (c : Bool) → Saw c rows.gen_block_begins p.old result }
+    ensures sees { (c : Condition) → Saw c rows.gen_block_begins p.old result }
     ensures some { IsTrue result → 1 ≤ tokens p.old }
     ensures peeks { Peeks 3 p.old p.new }
 {
@@ -58,8 +58,9 @@ fn at_gen_block(p: &mut Parser<'_>) -> bool
 
 /// Returns `true` if an expression starts here that ends in a block and that only the whole language
 /// has: at a label, or at words before a block.
+#[inline(always)]
 pub fn at_new_block(p: &mut Parser<'_>) -> bool
-    ensures sees { (c : Bool) → Saw c (wide rows.new_block_begins) p.old result }
+    ensures sees { (c : Condition) → Saw c (wide rows.new_block_begins) p.old result }
     ensures some { IsTrue result → 1 ≤ tokens p.old }
     ensures peeks { Peeks 4 p.old p.new }
 {
@@ -96,7 +97,7 @@ pub fn at_new_block(p: &mut Parser<'_>) -> bool
 
 /// Returns `true` if a `const` is next that begins a closure.
 fn at_const_closure(p: &mut Parser<'_>) -> bool
-    ensures sees { (c : Bool) → Saw c rows.const_closure_begins p.old result }
+    ensures sees { (c : Condition) → Saw c rows.const_closure_begins p.old result }
     ensures some { IsTrue result → 1 ≤ tokens p.old }
     ensures peeks { Peeks 2 p.old p.new }
 {
@@ -112,8 +113,9 @@ fn at_const_closure(p: &mut Parser<'_>) -> bool
 
 /// Returns `true` if an expression without prefix operators starts here that only the whole language
 /// has: at `let`, at the `<` of a qualified path, at `_`, or at words before a closure.
+#[inline(always)]
 pub fn at_new_atom(p: &mut Parser<'_>) -> bool
-    ensures sees { (c : Bool) → Saw c (wide rows.new_atom_begins) p.old result }
+    ensures sees { (c : Condition) → Saw c (wide rows.new_atom_begins) p.old result }
     ensures some { IsTrue result → 1 ≤ tokens p.old }
     ensures peeks { Peeks 3 p.old p.new }
 {
@@ -149,7 +151,7 @@ pub fn at_new_atom(p: &mut Parser<'_>) -> bool
 /// Parses the label after `break` or `continue`, in the whole language, if there is one.
 // 'a
 pub fn opt_jump_label(p: &mut Parser<'_>)
-    ensures reads { (c : Bool) → Reads c rows.jump_label p.old p.new }
+    ensures reads { (c : Condition) → Reads c rows.jump_label p.old p.new }
     ensures asks { Asks 1 p.old p.new }
 {
     if at_new(p, SyntaxKind::LIFETIME_IDENT) {
@@ -161,7 +163,7 @@ pub fn opt_jump_label(p: &mut Parser<'_>)
 // 'a:
 pub fn label(p: &mut Parser<'_>)
     requires some { 1 ≤ tokens p.old }
-    ensures reads { (c : Bool) → Reads c rows.label p.old p.new }
+    ensures reads { (c : Condition) → Reads c rows.label p.old p.new }
     ensures takes { Takes 4090 p.old p.new }
 {
     let label = start(p);
@@ -173,7 +175,7 @@ pub fn label(p: &mut Parser<'_>)
 /// Takes `gen` and `move` before a closure, or before a block after `async`, if they are there.
 // gen move
 pub fn opt_gen_move(p: &mut Parser<'_>)
-    ensures reads { (c : Bool) → Reads c rows.gen_move p.old p.new }
+    ensures reads { (c : Condition) → Reads c rows.gen_move p.old p.new }
     ensures asks { Asks 2 p.old p.new }
 {
     eat(p, SyntaxKind::GEN_KW);
@@ -183,7 +185,7 @@ pub fn opt_gen_move(p: &mut Parser<'_>)
 /// Takes the words before a closure that stand there from `async` on, if they are there.
 // async move
 pub fn opt_async_to_move(p: &mut Parser<'_>)
-    ensures reads { (c : Bool) → Reads c rows.async_to_move p.old p.new }
+    ensures reads { (c : Condition) → Reads c rows.async_to_move p.old p.new }
     ensures asks { Asks 3 p.old p.new }
 {
     eat(p, SyntaxKind::ASYNC_KW);
@@ -193,7 +195,7 @@ pub fn opt_async_to_move(p: &mut Parser<'_>)
 /// Takes the words before a closure that stand there from `static` on, if they are there.
 // static move
 pub fn opt_static_to_move(p: &mut Parser<'_>)
-    ensures reads { (c : Bool) → Reads c rows.static_to_move p.old p.new }
+    ensures reads { (c : Condition) → Reads c rows.static_to_move p.old p.new }
     ensures asks { Asks 4 p.old p.new }
 {
     eat(p, SyntaxKind::STATIC_KW);
@@ -203,7 +205,7 @@ pub fn opt_static_to_move(p: &mut Parser<'_>)
 /// Takes the words before a closure that stand there from `const` on, if they are there.
 // const move
 pub fn opt_const_to_move(p: &mut Parser<'_>)
-    ensures reads { (c : Bool) → Reads c rows.const_to_move p.old p.new }
+    ensures reads { (c : Condition) → Reads c rows.const_to_move p.old p.new }
     ensures asks { Asks 5 p.old p.new }
 {
     eat(p, SyntaxKind::CONST_KW);
@@ -214,7 +216,7 @@ pub fn opt_const_to_move(p: &mut Parser<'_>)
 // async move
 pub fn words_from_async(p: &mut Parser<'_>)
     requires some { 1 ≤ tokens p.old }
-    ensures reads { (c : Bool) → Reads c rows.words_from_async p.old p.new }
+    ensures reads { (c : Condition) → Reads c rows.words_from_async p.old p.new }
     ensures takes { Takes 4090 p.old p.new }
 {
     take(p, SyntaxKind::ASYNC_KW);
@@ -225,7 +227,7 @@ pub fn words_from_async(p: &mut Parser<'_>)
 // static move
 pub fn words_from_static(p: &mut Parser<'_>)
     requires some { 1 ≤ tokens p.old }
-    ensures reads { (c : Bool) → Reads c rows.words_from_static p.old p.new }
+    ensures reads { (c : Condition) → Reads c rows.words_from_static p.old p.new }
     ensures takes { Takes 4090 p.old p.new }
 {
     take(p, SyntaxKind::STATIC_KW);
@@ -236,7 +238,7 @@ pub fn words_from_static(p: &mut Parser<'_>)
 // const move
 pub fn words_from_const(p: &mut Parser<'_>)
     requires some { 1 ≤ tokens p.old }
-    ensures reads { (c : Bool) → Reads c rows.words_from_const p.old p.new }
+    ensures reads { (c : Condition) → Reads c rows.words_from_const p.old p.new }
     ensures takes { Takes 4090 p.old p.new }
 {
     take(p, SyntaxKind::CONST_KW);
@@ -247,7 +249,7 @@ pub fn words_from_const(p: &mut Parser<'_>)
 // gen move
 fn words_from_gen(p: &mut Parser<'_>)
     requires some { 1 ≤ tokens p.old }
-    ensures reads { (c : Bool) → Reads c rows.words_from_gen p.old p.new }
+    ensures reads { (c : Condition) → Reads c rows.words_from_gen p.old p.new }
     ensures takes { Takes 4090 p.old p.new }
 {
     take(p, SyntaxKind::GEN_KW);
@@ -258,7 +260,7 @@ fn words_from_gen(p: &mut Parser<'_>)
 // async move
 pub fn block_words(p: &mut Parser<'_>)
     requires some { 1 ≤ tokens p.old }
-    ensures reads { (c : Bool) → Reads c rows.block_words p.old p.new }
+    ensures reads { (c : Condition) → Reads c rows.block_words p.old p.new }
     ensures takes { Takes 4080 p.old p.new }
 {
     match current(p) {

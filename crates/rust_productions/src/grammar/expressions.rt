@@ -1,14 +1,15 @@
 //! Expressions.
 
-ghost use Rattle.std.specs.Prelude.{◌≤◌, Bool, IsTrue, true};
+ghost use Rattle.std.specs.Prelude.{◌≤◌, IsTrue, true};
 ghost use Rattle.parser_input.specs.Kinds as kinds;
 ghost use Rattle.rust_productions.specs.Looks.{tokens, Peeks};
 ghost use Rattle.rust_grammar.specs.Rule as rules;
 ghost use Rattle.rust_grammar.specs.Expressions.{body_begins};
 ghost use Rattle.rust_grammar.specs.Rule.{begins};
 ghost use Rattle.rust_grammar.specs.Expressions as rows;
-ghost use Rattle.rust_productions.specs.Reads.{looks, Saw};
+ghost use Rattle.rust_productions.specs.Reads.{looks, Saw, Condition};
 
+use crate::condition::Condition;
 use crate::grammar::expression_words::{at_new_atom, at_new_block};
 use crate::grammar::names::at_literal;
 use crate::grammar::operands::at_new_mark;
@@ -20,7 +21,7 @@ use parser_input::syntax_kind::SyntaxKind;
 
 /// Returns `true` if a macro call with braces is next whose path is one identifier.
 pub(crate) fn at_macro_block(p: &mut Parser<'_>) -> bool
-    ensures sees { (c : Bool) → Saw c rows.macro_block_begins p.old result }
+    ensures sees { (c : Condition) → Saw c rows.macro_block_begins p.old result }
     ensures some { IsTrue result → 1 ≤ tokens p.old }
     ensures peeks { Peeks 3 p.old p.new }
 {
@@ -37,23 +38,21 @@ pub(crate) fn at_macro_block(p: &mut Parser<'_>) -> bool
 }
 
 /// Returns `true` if a `let` in a condition is next.
-fn at_let(p: &mut Parser<'_>, condition: bool) -> bool
+fn at_let(p: &mut Parser<'_>, condition: Condition) -> bool
     ensures sees { Saw condition rows.let_begins p.old result }
     ensures some { IsTrue result → 1 ≤ tokens p.old }
     ensures peeks { Peeks 1 p.old p.new }
 {
-    if !condition {
-        return false;
-    }
-    match current(p) {
-        SyntaxKind::LET_KW => true,
-        _ => false,
+    match condition {
+        Condition::On => at(p, SyntaxKind::LET_KW),
+        Condition::Off => false,
     }
 }
 
 /// Returns `true` if an expression starts here that ends in a block.
+#[inline(always)]
 pub fn at_block_like(p: &mut Parser<'_>) -> bool
-    ensures sees { (c : Bool) → Saw c (looks rules.block_like) p.old result }
+    ensures sees { (c : Condition) → Saw c (looks rules.block_like) p.old result }
     ensures some { IsTrue result → 1 ≤ tokens p.old }
     ensures peeks { Peeks 5 p.old p.new }
 {
@@ -89,7 +88,7 @@ pub fn at_block_like(p: &mut Parser<'_>) -> bool
 }
 
 /// Returns `true` if an expression without prefix operators starts here.
-pub(crate) fn at_atom(p: &mut Parser<'_>, condition: bool) -> bool
+pub(crate) fn at_atom(p: &mut Parser<'_>, condition: Condition) -> bool
     ensures sees { Saw condition (looks rules.atom) p.old result }
     ensures some { IsTrue result → 1 ≤ tokens p.old }
     ensures peeks { Peeks 14 p.old p.new }
@@ -122,7 +121,7 @@ pub(crate) fn at_atom(p: &mut Parser<'_>, condition: bool) -> bool
 }
 
 /// Returns `true` if an operand starts here.
-pub fn at_operand(p: &mut Parser<'_>, condition: bool) -> bool
+pub fn at_operand(p: &mut Parser<'_>, condition: Condition) -> bool
     ensures sees { Saw condition (looks rules.prefixed) p.old result }
     ensures some { IsTrue result → 1 ≤ tokens p.old }
     ensures peeks { Peeks 16 p.old p.new }
@@ -155,7 +154,7 @@ pub fn at_operand(p: &mut Parser<'_>, condition: bool) -> bool
 }
 
 /// Returns `true` if an operation starts here: at an operand or at a range operator.
-pub fn at_operation(p: &mut Parser<'_>, condition: bool) -> bool
+pub fn at_operation(p: &mut Parser<'_>, condition: Condition) -> bool
     ensures sees { Saw condition (looks rules.operation) p.old result }
     ensures some { IsTrue result → 1 ≤ tokens p.old }
     ensures peeks { Peeks 19 p.old p.new }
@@ -167,7 +166,7 @@ pub fn at_operation(p: &mut Parser<'_>, condition: bool) -> bool
 }
 
 /// Returns `true` if an expression starts here.
-pub fn at_expression(p: &mut Parser<'_>, condition: bool) -> bool
+pub fn at_expression(p: &mut Parser<'_>, condition: Condition) -> bool
     ensures sees { Saw condition (looks rules.expression) p.old result }
     ensures some { IsTrue result → 1 ≤ tokens p.old }
     ensures peeks { Peeks 19 p.old p.new }
@@ -176,19 +175,19 @@ pub fn at_expression(p: &mut Parser<'_>, condition: bool) -> bool
 }
 
 /// Returns `true` if a `{` is next that ends a condition.
-pub fn at_body(p: &mut Parser<'_>, condition: bool) -> bool
+pub fn at_body(p: &mut Parser<'_>, condition: Condition) -> bool
     ensures sees { Saw condition body_begins p.old result }
     ensures peeks { Peeks 1 p.old p.new }
 {
-    if !condition {
-        return false;
+    match condition {
+        Condition::On => at(p, SyntaxKind::L_CURLY),
+        Condition::Off => false,
     }
-    at(p, SyntaxKind::L_CURLY)
 }
 
 /// Returns `true` if the end of a range starts here. In a condition a `{` starts none, and in the
 /// whole language a range operator starts none.
-pub fn at_range_operand(p: &mut Parser<'_>, condition: bool) -> bool
+pub fn at_range_operand(p: &mut Parser<'_>, condition: Condition) -> bool
     ensures sees { Saw condition (begins looks rows.range_operand) p.old result }
     ensures operand { IsTrue result → Saw condition (looks rules.prefixed) p.old true }
     ensures some { IsTrue result → 1 ≤ tokens p.old }

@@ -1,11 +1,11 @@
 //! Generic arguments.
 
-ghost use Rattle.std.specs.Prelude.{◌≤◌, Bool, IsTrue};
+ghost use Rattle.std.specs.Prelude.{◌≤◌, IsTrue};
 ghost use Rattle.rust_productions.specs.Looks.{tokens, Peeks};
 ghost use Rattle.rust_grammar.specs.Notation.{wide};
 ghost use Rattle.rust_grammar.specs.Paths as rows;
 ghost use Rattle.rust_grammar.specs.Rule as rules;
-ghost use Rattle.rust_productions.specs.Reads.{looks, Saw};
+ghost use Rattle.rust_productions.specs.Reads.{looks, Saw, Condition};
 
 use crate::grammar::names::{at_literal, at_name_ref};
 use crate::grammar::types::at_type;
@@ -16,7 +16,7 @@ use parser_input::syntax_kind::SyntaxKind;
 /// Returns `true` if `dyn` is next as an identifier, before a token that can follow `dyn` in the
 /// whole language.
 fn at_dyn_before(p: &mut Parser<'_>) -> bool
-    ensures sees { (c : Bool) → Saw c rows.dyn_word_begins p.old result }
+    ensures sees { (c : Condition) → Saw c rows.dyn_word_begins p.old result }
     ensures peeks { Peeks 1 p.old p.new }
 {
     if !at_contextual(p, SyntaxKind::DYN_KW) {
@@ -38,7 +38,7 @@ fn at_dyn_before(p: &mut Parser<'_>) -> bool
 
 /// Returns `true` if a generic argument starts here as only the whole language has it.
 pub fn at_new_arg(p: &mut Parser<'_>) -> bool
-    ensures sees { (c : Bool) → Saw c (wide rows.new_arg_begins) p.old result }
+    ensures sees { (c : Condition) → Saw c (wide rows.new_arg_begins) p.old result }
     ensures some { IsTrue result → 1 ≤ tokens p.old }
     ensures peeks { Peeks 4 p.old p.new }
 {
@@ -65,7 +65,7 @@ pub fn at_new_arg(p: &mut Parser<'_>) -> bool
 
 /// Returns `true` if a constant starts here as the value of an associated constant.
 pub fn at_const_value(p: &mut Parser<'_>) -> bool
-    ensures sees { (c : Bool) → Saw c rows.const_begins p.old result }
+    ensures sees { (c : Condition) → Saw c rows.const_begins p.old result }
     ensures some { IsTrue result → 1 ≤ tokens p.old }
     ensures peeks { Peeks 1 p.old p.new }
 {
@@ -87,7 +87,7 @@ pub fn at_const_value(p: &mut Parser<'_>) -> bool
 
 /// Returns `true` if a `:` is next, and no `::`.
 pub fn at_single_colon(p: &mut Parser<'_>) -> bool
-    ensures sees { (c : Bool) → Saw c rows.bounded_arg_begins p.old result }
+    ensures sees { (c : Condition) → Saw c rows.bounded_arg_begins p.old result }
     ensures some { IsTrue result → 1 ≤ tokens p.old }
     ensures peeks { Peeks 3 p.old p.new }
 {
@@ -102,7 +102,7 @@ pub fn at_single_colon(p: &mut Parser<'_>) -> bool
 
 /// Returns `true` if a generic argument starts here.
 pub fn at_generic_arg(p: &mut Parser<'_>) -> bool
-    ensures sees { (c : Bool) → Saw c (looks rules.generic_arg) p.old result }
+    ensures sees { (c : Condition) → Saw c (looks rules.generic_arg) p.old result }
     ensures some { IsTrue result → 1 ≤ tokens p.old }
     ensures peeks { Peeks 24 p.old p.new }
 {

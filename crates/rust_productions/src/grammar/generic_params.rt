@@ -1,6 +1,6 @@
 //! Generic parameters, bounds and where clauses.
 
-ghost use Rattle.std.specs.Prelude.{◌≤◌, Bool, IsTrue};
+ghost use Rattle.std.specs.Prelude.{◌≤◌, IsTrue};
 ghost use Rattle.parser_input.specs.Kinds.{NAME_REF};
 ghost use Rattle.rust_productions.specs.Looks.{tokens, Takes, Asks, Peeks};
 ghost use Rattle.rust_grammar.specs.Notation.{wide, ◌before◌, ◌or◌, ◌⟨◌⟩};
@@ -9,7 +9,7 @@ ghost use Rattle.rust_grammar.specs.Rule as rules;
 ghost use Rattle.rust_grammar.specs.Rule.{begins, One};
 ghost use Rattle.rust_grammar.specs.Shared.{binder_begins};
 ghost use Rattle.rust_grammar.specs.Words.{'ident', 'Self', 'use', '<'};
-ghost use Rattle.rust_productions.specs.Reads.{looks, Reads, Saw};
+ghost use Rattle.rust_productions.specs.Reads.{looks, Reads, Saw, Condition};
 
 use crate::grammar::names::lifetime;
 use crate::grammar::paths::at_path;
@@ -21,7 +21,7 @@ use parser_input::syntax_kind::SyntaxKind;
 /// Returns `true` if a generic parameter of the whole language alone starts here: a const parameter
 /// or an attribute.
 pub fn at_new_param(p: &mut Parser<'_>) -> bool
-    ensures sees { (c : Bool) → Saw c (wide rows.new_param_begins) p.old result }
+    ensures sees { (c : Condition) → Saw c (wide rows.new_param_begins) p.old result }
     ensures some { IsTrue result → 1 ≤ tokens p.old }
     ensures peeks { Peeks 1 p.old p.new }
 {
@@ -36,7 +36,7 @@ pub fn at_new_param(p: &mut Parser<'_>) -> bool
 
 /// Returns `true` if a generic parameter starts here.
 pub fn at_generic_param(p: &mut Parser<'_>) -> bool
-    ensures sees { (c : Bool) → Saw c (looks rules.generic_param) p.old result }
+    ensures sees { (c : Condition) → Saw c (looks rules.generic_param) p.old result }
     ensures some { IsTrue result → 1 ≤ tokens p.old }
     ensures peeks { Peeks 2 p.old p.new }
 {
@@ -51,7 +51,7 @@ pub fn at_generic_param(p: &mut Parser<'_>) -> bool
 
 /// Returns `true` if a binder starts here: `for`, and `<` after it.
 pub fn at_binder(p: &mut Parser<'_>) -> bool
-    ensures sees { (c : Bool) → Saw c binder_begins p.old result }
+    ensures sees { (c : Condition) → Saw c binder_begins p.old result }
     ensures some { IsTrue result → 1 ≤ tokens p.old }
     ensures peeks { Peeks 2 p.old p.new }
 {
@@ -66,7 +66,7 @@ pub fn at_binder(p: &mut Parser<'_>) -> bool
 
 /// Returns `true` if `use` is next, and `<` after it.
 pub fn at_captures(p: &mut Parser<'_>) -> bool
-    ensures sees { (c : Bool) → Saw c ('use' before '<') p.old result }
+    ensures sees { (c : Condition) → Saw c ('use' before '<') p.old result }
     ensures some { IsTrue result → 2 ≤ tokens p.old }
     ensures peeks { Peeks 2 p.old p.new }
 {
@@ -81,7 +81,7 @@ pub fn at_captures(p: &mut Parser<'_>) -> bool
 
 /// Returns `true` if a captured parameter starts here.
 pub fn at_captured(p: &mut Parser<'_>) -> bool
-    ensures sees { (c : Bool) → Saw c (begins looks rows.captured) p.old result }
+    ensures sees { (c : Condition) → Saw c (begins looks rows.captured) p.old result }
     ensures some { IsTrue result → 1 ≤ tokens p.old }
     ensures peeks { Peeks 1 p.old p.new }
 {
@@ -96,7 +96,7 @@ pub fn at_captured(p: &mut Parser<'_>) -> bool
 #[inline(never)]
 pub fn captured(p: &mut Parser<'_>)
     requires some { 1 ≤ tokens p.old }
-    ensures reads { (c : Bool) → Reads c rows.captured p.old p.new }
+    ensures reads { (c : Condition) → Reads c rows.captured p.old p.new }
     ensures takes { Takes 4090 p.old p.new }
 {
     match current(p) {
@@ -109,7 +109,7 @@ pub fn captured(p: &mut Parser<'_>)
 // T
 fn captured_name(p: &mut Parser<'_>)
     requires some { 1 ≤ tokens p.old }
-    ensures reads { (c : Bool) → Reads c (NAME_REF ⟨ One 'ident' or One 'Self' ⟩) p.old p.new }
+    ensures reads { (c : Condition) → Reads c (NAME_REF ⟨ One 'ident' or One 'Self' ⟩) p.old p.new }
     ensures takes { Takes 4095 p.old p.new }
 {
     let name = start(p);
@@ -121,7 +121,7 @@ fn captured_name(p: &mut Parser<'_>)
 // T
 fn captured_word(p: &mut Parser<'_>)
     requires some { 1 ≤ tokens p.old }
-    ensures reads { (c : Bool) → Reads c (One 'ident' or One 'Self') p.old p.new }
+    ensures reads { (c : Condition) → Reads c (One 'ident' or One 'Self') p.old p.new }
     ensures takes { Takes 4095 p.old p.new }
 {
     match current(p) {
@@ -133,7 +133,7 @@ fn captured_word(p: &mut Parser<'_>)
 /// Returns `true` if a bound of the whole language alone starts here: in parentheses, with words
 /// before its path, or with captures.
 pub fn at_new_bound(p: &mut Parser<'_>) -> bool
-    ensures sees { (c : Bool) → Saw c (wide rows.new_bound_begins) p.old result }
+    ensures sees { (c : Condition) → Saw c (wide rows.new_bound_begins) p.old result }
     ensures some { IsTrue result → 1 ≤ tokens p.old }
     ensures peeks { Peeks 3 p.old p.new }
 {
@@ -170,7 +170,7 @@ pub fn at_new_bound(p: &mut Parser<'_>) -> bool
 /// Parses the optional `const` before the path of a bound: `~const`, `[const]` or `const`.
 // ~const
 pub fn opt_const_words(p: &mut Parser<'_>)
-    ensures reads { (c : Bool) → Reads c rows.const_words p.old p.new }
+    ensures reads { (c : Condition) → Reads c rows.const_words p.old p.new }
     ensures asks { Asks 1 p.old p.new }
 {
     match current(p) {
@@ -192,7 +192,7 @@ pub fn opt_const_words(p: &mut Parser<'_>)
 
 /// Returns `true` if a bound starts here.
 pub fn at_bound(p: &mut Parser<'_>) -> bool
-    ensures sees { (c : Bool) → Saw c (looks rules.bound) p.old result }
+    ensures sees { (c : Condition) → Saw c (looks rules.bound) p.old result }
     ensures some { IsTrue result → 1 ≤ tokens p.old }
     ensures peeks { Peeks 7 p.old p.new }
 {
@@ -210,7 +210,7 @@ pub fn at_bound(p: &mut Parser<'_>) -> bool
 
 /// Returns `true` if a where predicate of the whole language alone starts here: a binder.
 pub fn at_new_pred(p: &mut Parser<'_>) -> bool
-    ensures sees { (c : Bool) → Saw c (wide binder_begins) p.old result }
+    ensures sees { (c : Condition) → Saw c (wide binder_begins) p.old result }
     ensures some { IsTrue result → 1 ≤ tokens p.old }
     ensures peeks { Peeks 2 p.old p.new }
 {
@@ -225,7 +225,7 @@ pub fn at_new_pred(p: &mut Parser<'_>) -> bool
 
 /// Returns `true` if a where predicate starts here.
 pub fn at_where_pred(p: &mut Parser<'_>) -> bool
-    ensures sees { (c : Bool) → Saw c (looks rules.where_pred) p.old result }
+    ensures sees { (c : Condition) → Saw c (looks rules.where_pred) p.old result }
     ensures some { IsTrue result → 1 ≤ tokens p.old }
     ensures peeks { Peeks 20 p.old p.new }
 {

@@ -1,13 +1,13 @@
 //! The words before an item, in the whole language.
 
-ghost use Rattle.std.specs.Prelude.{◌≤◌, Bool, IsTrue, [], ◌∷◌};
+ghost use Rattle.std.specs.Prelude.{◌≤◌, IsTrue, [], ◌∷◌};
 ghost use Rattle.rust_grammar.specs.Items as rows;
 ghost use Rattle.rust_grammar.specs.Notation.{◌▸◌, ⁅◌⁆, ◌before◌, ◌before_any◌, wide};
 ghost use Rattle.rust_grammar.specs.Rule.{One, When};
 ghost use Rattle.rust_grammar.specs.Shared.{abi};
 ghost use Rattle.rust_grammar.specs.Words.{'async', 'const', 'contextual_auto', 'contextual_safe', 'crate', 'extern', 'fn', 'gen', 'impl', 'unsafe'};
 ghost use Rattle.rust_productions.specs.Looks.{tokens, Takes, Asks, Peeks};
-ghost use Rattle.rust_productions.specs.Reads.{Reads, Saw};
+ghost use Rattle.rust_productions.specs.Reads.{Reads, Saw, Condition};
 
 use crate::grammar::{
     at, at_contextual, at_second, at_second_contextual, at_third, at_whole, complete, current, eat,
@@ -18,7 +18,7 @@ use parser_input::syntax_kind::SyntaxKind;
 
 /// Returns `true` if a `const` is next that is a word before an item.
 pub fn at_const_word(p: &mut Parser<'_>) -> bool
-    ensures sees { (c : Bool) → Saw c rows.const_word p.old result }
+    ensures sees { (c : Condition) → Saw c rows.const_word p.old result }
     ensures some { IsTrue result → 1 ≤ tokens p.old }
     ensures peeks { Peeks 2 p.old p.new }
 {
@@ -39,7 +39,7 @@ pub fn at_const_word(p: &mut Parser<'_>) -> bool
 
 /// Returns `true` if an `async` is next that is a word before an item.
 pub fn at_async_word(p: &mut Parser<'_>) -> bool
-    ensures sees { (c : Bool) → Saw c rows.async_word p.old result }
+    ensures sees { (c : Condition) → Saw c rows.async_word p.old result }
     ensures some { IsTrue result → 1 ≤ tokens p.old }
     ensures peeks { Peeks 3 p.old p.new }
 {
@@ -60,7 +60,7 @@ pub fn at_async_word(p: &mut Parser<'_>) -> bool
 
 /// Returns `true` if `gen fn` is next.
 pub fn at_gen_word(p: &mut Parser<'_>) -> bool
-    ensures sees { (c : Bool) → Saw c rows.gen_word p.old result }
+    ensures sees { (c : Condition) → Saw c rows.gen_word p.old result }
     ensures some { IsTrue result → 1 ≤ tokens p.old }
     ensures peeks { Peeks 2 p.old p.new }
 {
@@ -75,7 +75,7 @@ pub fn at_gen_word(p: &mut Parser<'_>) -> bool
 
 /// Returns `true` if an `unsafe` is next that is a word before an item.
 pub fn at_unsafe_word(p: &mut Parser<'_>) -> bool
-    ensures sees { (c : Bool) → Saw c rows.unsafe_word p.old result }
+    ensures sees { (c : Condition) → Saw c rows.unsafe_word p.old result }
     ensures some { IsTrue result → 1 ≤ tokens p.old }
     ensures peeks { Peeks 2 p.old p.new }
 {
@@ -104,7 +104,7 @@ pub fn at_unsafe_word(p: &mut Parser<'_>) -> bool
 
 /// Returns `true` if `safe` is next as a word before an item.
 pub fn at_safe_word(p: &mut Parser<'_>) -> bool
-    ensures sees { (c : Bool) → Saw c rows.safe_word p.old result }
+    ensures sees { (c : Condition) → Saw c rows.safe_word p.old result }
     ensures some { IsTrue result → 1 ≤ tokens p.old }
     ensures peeks { Peeks 1 p.old p.new }
 {
@@ -119,7 +119,7 @@ pub fn at_safe_word(p: &mut Parser<'_>) -> bool
 
 /// Returns `true` if `auto` is next as a word before a trait.
 pub fn at_auto_word(p: &mut Parser<'_>) -> bool
-    ensures sees { (c : Bool) → Saw c rows.auto_word p.old result }
+    ensures sees { (c : Condition) → Saw c rows.auto_word p.old result }
     ensures some { IsTrue result → 1 ≤ tokens p.old }
     ensures peeks { Peeks 1 p.old p.new }
 {
@@ -134,7 +134,7 @@ pub fn at_auto_word(p: &mut Parser<'_>) -> bool
 
 /// Returns `true` if `default` is next as a word before an item.
 fn at_default_word(p: &mut Parser<'_>) -> bool
-    ensures sees { (c : Bool) → Saw c rows.default_word p.old result }
+    ensures sees { (c : Condition) → Saw c rows.default_word p.old result }
     ensures some { IsTrue result → 1 ≤ tokens p.old }
     ensures peeks { Peeks 1 p.old p.new }
 {
@@ -154,7 +154,7 @@ fn at_default_word(p: &mut Parser<'_>) -> bool
 
 /// Returns `true` if an `extern` is next, and no `crate` after it.
 fn at_extern_word(p: &mut Parser<'_>) -> bool
-    ensures sees { (c : Bool) → Saw c rows.extern_word p.old result }
+    ensures sees { (c : Condition) → Saw c rows.extern_word p.old result }
     ensures some { IsTrue result → 1 ≤ tokens p.old }
     ensures peeks { Peeks 2 p.old p.new }
 {
@@ -169,7 +169,7 @@ fn at_extern_word(p: &mut Parser<'_>) -> bool
 
 /// Returns `true` if an item starts here with words before its own.
 fn at_words(p: &mut Parser<'_>) -> bool
-    ensures sees { (c : Bool) → Saw c rows.words_begin p.old result }
+    ensures sees { (c : Condition) → Saw c rows.words_begin p.old result }
     ensures some { IsTrue result → 1 ≤ tokens p.old }
     ensures peeks { Peeks 14 p.old p.new }
 {
@@ -202,7 +202,7 @@ fn at_words(p: &mut Parser<'_>) -> bool
 
 /// Returns `true` if `extern crate` is next.
 pub fn at_extern_crate(p: &mut Parser<'_>) -> bool
-    ensures sees { (c : Bool) → Saw c ('extern' before 'crate') p.old result }
+    ensures sees { (c : Condition) → Saw c ('extern' before 'crate') p.old result }
     ensures some { IsTrue result → 2 ≤ tokens p.old }
     ensures peeks { Peeks 2 p.old p.new }
 {
@@ -217,7 +217,7 @@ pub fn at_extern_crate(p: &mut Parser<'_>) -> bool
 
 /// Returns `true` if a union starts here: at `union` before a name.
 pub fn at_union(p: &mut Parser<'_>) -> bool
-    ensures sees { (c : Bool) → Saw c rows.union_begins p.old result }
+    ensures sees { (c : Condition) → Saw c rows.union_begins p.old result }
     ensures some { IsTrue result → 2 ≤ tokens p.old }
     ensures peeks { Peeks 1 p.old p.new }
 {
@@ -232,7 +232,7 @@ pub fn at_union(p: &mut Parser<'_>) -> bool
 
 /// Returns `true` if a definition of a macro starts here: at `macro_rules!` before a name.
 pub fn at_macro_rules(p: &mut Parser<'_>) -> bool
-    ensures sees { (c : Bool) → Saw c rows.macro_rules_begins p.old result }
+    ensures sees { (c : Condition) → Saw c rows.macro_rules_begins p.old result }
     ensures some { IsTrue result → 3 ≤ tokens p.old }
     ensures peeks { Peeks 2 p.old p.new }
 {
@@ -251,7 +251,7 @@ pub fn at_macro_rules(p: &mut Parser<'_>) -> bool
 /// Returns `true` if an item starts here that only the whole language has, or that has words before
 /// its own there.
 pub fn at_new_item(p: &mut Parser<'_>) -> bool
-    ensures sees { (c : Bool) → Saw c (wide rows.new_item_begins) p.old result }
+    ensures sees { (c : Condition) → Saw c (wide rows.new_item_begins) p.old result }
     ensures some { IsTrue result → 1 ≤ tokens p.old }
     ensures peeks { Peeks 20 p.old p.new }
 {
@@ -278,7 +278,7 @@ pub fn at_new_item(p: &mut Parser<'_>) -> bool
 
 /// Returns `true` if an `unsafe` is next that follows `default`.
 fn at_unsafe_after_default(p: &mut Parser<'_>) -> bool
-    ensures sees { (c : Bool) → Saw c ('unsafe' before_any ('fn' ∷ 'impl' ∷ [])) p.old result }
+    ensures sees { (c : Condition) → Saw c ('unsafe' before_any ('fn' ∷ 'impl' ∷ [])) p.old result }
     ensures some { IsTrue result → 1 ≤ tokens p.old }
     ensures peeks { Peeks 2 p.old p.new }
 {
@@ -294,7 +294,7 @@ fn at_unsafe_after_default(p: &mut Parser<'_>) -> bool
 /// Parses an optional `async` before an item.
 // async
 pub fn opt_async_word(p: &mut Parser<'_>)
-    ensures reads { (c : Bool) → Reads c ⁅ When rows.async_word (One 'async') ⁆ p.old p.new }
+    ensures reads { (c : Condition) → Reads c ⁅ When rows.async_word (One 'async') ⁆ p.old p.new }
     ensures asks { Asks 3 p.old p.new }
 {
     if at_async_word(p) {
@@ -305,7 +305,7 @@ pub fn opt_async_word(p: &mut Parser<'_>)
 /// Parses an optional `gen` before an item.
 // gen
 pub fn opt_gen_word(p: &mut Parser<'_>)
-    ensures reads { (c : Bool) → Reads c ⁅ When rows.gen_word (One 'gen') ⁆ p.old p.new }
+    ensures reads { (c : Condition) → Reads c ⁅ When rows.gen_word (One 'gen') ⁆ p.old p.new }
     ensures asks { Asks 2 p.old p.new }
 {
     if at_gen_word(p) {
@@ -316,7 +316,7 @@ pub fn opt_gen_word(p: &mut Parser<'_>)
 /// Parses an optional `unsafe` before an item.
 // unsafe
 pub fn opt_unsafe_word(p: &mut Parser<'_>)
-    ensures reads { (c : Bool) → Reads c ⁅ When rows.unsafe_word (One 'unsafe') ⁆ p.old p.new }
+    ensures reads { (c : Condition) → Reads c ⁅ When rows.unsafe_word (One 'unsafe') ⁆ p.old p.new }
     ensures asks { Asks 2 p.old p.new }
 {
     if at_unsafe_word(p) {
@@ -327,7 +327,7 @@ pub fn opt_unsafe_word(p: &mut Parser<'_>)
 /// Parses an optional `safe` before an item.
 // safe
 pub fn opt_safe_word(p: &mut Parser<'_>)
-    ensures reads { (c : Bool) → Reads c ⁅ When rows.safe_word (One 'contextual_safe') ⁆ p.old p.new }
+    ensures reads { (c : Condition) → Reads c ⁅ When rows.safe_word (One 'contextual_safe') ⁆ p.old p.new }
     ensures asks { Asks 1 p.old p.new }
 {
     if at_safe_word(p) {
@@ -338,7 +338,7 @@ pub fn opt_safe_word(p: &mut Parser<'_>)
 /// Parses an optional `auto` before an item.
 // auto
 pub fn opt_auto_word(p: &mut Parser<'_>)
-    ensures reads { (c : Bool) → Reads c ⁅ When rows.auto_word (One 'contextual_auto') ⁆ p.old p.new }
+    ensures reads { (c : Condition) → Reads c ⁅ When rows.auto_word (One 'contextual_auto') ⁆ p.old p.new }
     ensures asks { Asks 1 p.old p.new }
 {
     if at_auto_word(p) {
@@ -349,7 +349,7 @@ pub fn opt_auto_word(p: &mut Parser<'_>)
 /// Parses an optional `unsafe` after `default`.
 // unsafe
 pub fn opt_unsafe_after_default(p: &mut Parser<'_>)
-    ensures reads { (c : Bool) → Reads c rows.unsafe_after_default p.old p.new }
+    ensures reads { (c : Condition) → Reads c rows.unsafe_after_default p.old p.new }
     ensures asks { Asks 2 p.old p.new }
 {
     if at_unsafe_after_default(p) {
@@ -360,7 +360,7 @@ pub fn opt_unsafe_after_default(p: &mut Parser<'_>)
 /// Parses an optional `default` before an item, and the words after it.
 // default unsafe
 pub fn opt_default_words(p: &mut Parser<'_>)
-    ensures reads { (c : Bool) → Reads c rows.default_words p.old p.new }
+    ensures reads { (c : Condition) → Reads c rows.default_words p.old p.new }
     ensures asks { Asks 1 p.old p.new }
 {
     if at_default_word(p) {
@@ -374,7 +374,7 @@ pub fn opt_default_words(p: &mut Parser<'_>)
 // extern "C"
 pub fn read_abi(p: &mut Parser<'_>)
     requires some { 1 ≤ tokens p.old }
-    ensures reads { (c : Bool) → Reads c abi p.old p.new }
+    ensures reads { (c : Condition) → Reads c abi p.old p.new }
     ensures takes { Takes 4090 p.old p.new }
 {
     let node = start(p);
@@ -386,7 +386,7 @@ pub fn read_abi(p: &mut Parser<'_>)
 /// Parses an optional ABI.
 // extern "C"
 pub fn opt_abi(p: &mut Parser<'_>)
-    ensures reads { (c : Bool) → Reads c ⁅ abi ⁆ p.old p.new }
+    ensures reads { (c : Condition) → Reads c ⁅ abi ⁆ p.old p.new }
     ensures asks { Asks 1 p.old p.new }
 {
     if at(p, SyntaxKind::EXTERN_KW) {

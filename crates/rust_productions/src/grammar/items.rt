@@ -1,6 +1,6 @@
 //! What items begin with, and the items that hold no others.
 
-ghost use Rattle.std.specs.Prelude.{◌≡◌, ◌≢◌, ◌≤◌, Bool, IsTrue, true, false, [], ◌∷◌};
+ghost use Rattle.std.specs.Prelude.{◌≡◌, ◌≢◌, ◌≤◌, IsTrue, true, false, [], ◌∷◌};
 ghost use Rattle.parser_input.specs.Kind.{raw_of};
 ghost use Rattle.parser_input.specs.Kinds as kinds;
 ghost use Rattle.parser_events.specs.Stack.{IsInnermost};
@@ -11,7 +11,7 @@ ghost use Rattle.rust_grammar.specs.Rule.{Either, Not, One, begins};
 ghost use Rattle.rust_grammar.specs.Words.{one, 'comma', 'const', 'fn', 'unsafe', '>', ':', '='};
 ghost use Rattle.rust_grammar.specs.Items as rows;
 ghost use Rattle.rust_productions.specs.Looks.{tokens, Takes, Asks, Peeks, TakesUnless};
-ghost use Rattle.rust_productions.specs.Reads.{looks, Completes, CompletesWhere, Reads, Saw};
+ghost use Rattle.rust_productions.specs.Reads.{looks, Completes, CompletesWhere, Reads, Saw, Condition};
 ghost use Rattle.rust_productions.specs.Starts.{Starts, FollowsUnsafe};
 
 use crate::grammar::paths::path;
@@ -27,7 +27,7 @@ use parser_input::syntax_kind::SyntaxKind;
 
 /// Returns `true` if a function starts here.
 pub fn at_fn(p: &mut Parser<'_>) -> bool
-    ensures sees { (c : Bool) → Saw c fn_begins p.old result }
+    ensures sees { (c : Condition) → Saw c fn_begins p.old result }
     ensures some { IsTrue result → 1 ≤ tokens p.old }
     ensures peeks { Peeks 2 p.old p.new }
 {
@@ -41,8 +41,8 @@ pub fn at_fn(p: &mut Parser<'_>) -> bool
 
 /// Returns `true` if a function starts at the `const` that is next.
 fn at_fn_after_const(p: &mut Parser<'_>) -> bool
-    requires { (c : Bool) → Saw c (next 'const') p.old true }
-    ensures sees { (c : Bool) → Saw c fn_begins p.old result }
+    requires { (c : Condition) → Saw c (next 'const') p.old true }
+    ensures sees { (c : Condition) → Saw c fn_begins p.old result }
     ensures peeks { Peeks 1 p.old p.new }
 {
     match nth(p, 1) {
@@ -53,8 +53,8 @@ fn at_fn_after_const(p: &mut Parser<'_>) -> bool
 
 /// Returns `true` if a function starts at the `unsafe` that is next.
 fn at_fn_after_unsafe(p: &mut Parser<'_>) -> bool
-    requires { (c : Bool) → Saw c (next 'unsafe') p.old true }
-    ensures sees { (c : Bool) → Saw c fn_begins p.old result }
+    requires { (c : Condition) → Saw c (next 'unsafe') p.old true }
+    ensures sees { (c : Condition) → Saw c fn_begins p.old result }
     ensures peeks { Peeks 1 p.old p.new }
 {
     match nth(p, 1) {
@@ -66,9 +66,9 @@ fn at_fn_after_unsafe(p: &mut Parser<'_>) -> bool
 /// Parses the qualifiers and the `fn` of a function.
 // const unsafe fn
 pub fn fn_words(p: &mut Parser<'_>)
-    requires begins { (c : Bool) → Saw c fn_begins p.old true }
+    requires begins { (c : Condition) → Saw c fn_begins p.old true }
     requires some { 1 ≤ tokens p.old }
-    ensures reads { (c : Bool) → Reads c (⁅ One 'const' ⁆ ▸ ⁅ One 'unsafe' ⁆ ▸ One 'fn' !) p.old p.new }
+    ensures reads { (c : Condition) → Reads c (⁅ One 'const' ⁆ ▸ ⁅ One 'unsafe' ⁆ ▸ One 'fn' !) p.old p.new }
     ensures takes { Takes 4090 p.old p.new }
 {
     match current(p) {
@@ -87,7 +87,7 @@ pub fn fn_words(p: &mut Parser<'_>)
 
 /// Returns `true` if `word` is next, or `unsafe` and then `word`.
 pub fn at_unsafe(p: &mut Parser<'_>, word: SyntaxKind) -> bool
-    ensures sees { (c : Bool) → Saw c
+    ensures sees { (c : Condition) → Saw c
         (Either (next (one (raw_of word))) ('unsafe' before one (raw_of word))) p.old result }
     ensures some { IsTrue result → raw_of word ≢ kinds.EOF → 1 ≤ tokens p.old }
     ensures peeks { Peeks 3 p.old p.new }
@@ -107,7 +107,7 @@ pub fn unsafe_word(p: &mut Parser<'_>, word: SyntaxKind)
     requires begins { Starts
         (Either (next (one (raw_of word))) ('unsafe' before one (raw_of word))) p.old }
     requires word { FollowsUnsafe (raw_of word) }
-    ensures reads { (c : Bool) → Reads c (⁅ One 'unsafe' ⁆ ▸ One (one (raw_of word))) p.old p.new }
+    ensures reads { (c : Condition) → Reads c (⁅ One 'unsafe' ⁆ ▸ One (one (raw_of word))) p.old p.new }
     ensures takes { Takes 4095 p.old p.new }
 {
     if at(p, word) {
@@ -123,7 +123,7 @@ pub fn unsafe_word(p: &mut Parser<'_>, word: SyntaxKind)
 pub fn use_item(p: &mut Parser<'_>, item: Marker)
     requires some { 1 ≤ tokens p.old }
     requires innermost { IsInnermost item p.old.nodes }
-    ensures completes { (c : Bool) → Completes c rows.use_item p.old p.new }
+    ensures completes { (c : Condition) → Completes c rows.use_item p.old p.new }
     ensures takes { Takes 4080 p.old p.new }
 {
     take(p, SyntaxKind::USE_KW);
@@ -138,7 +138,7 @@ pub fn use_item(p: &mut Parser<'_>, item: Marker)
 pub fn path_item(p: &mut Parser<'_>, item: Marker)
     requires begins { Starts (looks rules.path) p.old }
     requires innermost { IsInnermost item p.old.nodes }
-    ensures completes { (c : Bool) → Completes c rows.path_item p.old p.new }
+    ensures completes { (c : Condition) → Completes c rows.path_item p.old p.new }
     ensures takes { Takes 3990 p.old p.new }
 {
     path(p);
@@ -149,7 +149,7 @@ pub fn path_item(p: &mut Parser<'_>, item: Marker)
 // ! { a }
 fn after_path(p: &mut Parser<'_>, item: Marker)
     requires { IsInnermost item p.old.nodes }
-    ensures completes { (c : Bool) → Completes c rows.after_path p.old p.new }
+    ensures completes { (c : Condition) → Completes c rows.after_path p.old p.new }
     ensures asks { Asks 3 p.old p.new }
 {
     if at(p, SyntaxKind::BANG) {
@@ -165,7 +165,7 @@ fn after_path(p: &mut Parser<'_>, item: Marker)
 /// Parses the token tree of a macro call, and a `;` unless it is in braces.
 // (a);
 pub(crate) fn macro_tokens(p: &mut Parser<'_>)
-    ensures reads { (c : Bool) → Reads c rows.macro_tokens p.old p.new }
+    ensures reads { (c : Condition) → Reads c rows.macro_tokens p.old p.new }
     ensures asks { Asks 3 p.old p.new }
 {
     if at(p, SyntaxKind::L_CURLY) {
@@ -181,7 +181,7 @@ pub(crate) fn macro_tokens(p: &mut Parser<'_>)
 pub fn no_item(p: &mut Parser<'_>, item: Marker, given: bool)
     requires some { given ≡ false → 1 ≤ tokens p.old }
     requires innermost { IsInnermost item p.old.nodes }
-    ensures completes { (c : Bool) → CompletesWhere given c rows.no_item p.old p.new }
+    ensures completes { (c : Condition) → CompletesWhere given c rows.no_item p.old p.new }
     ensures takes { TakesUnless given 4090 0 p.old p.new }
 {
     if given {
@@ -195,7 +195,7 @@ pub fn no_item(p: &mut Parser<'_>, item: Marker, given: bool)
 
 /// Returns `true` if the third token can follow the name of a generic parameter.
 fn at_param_end(p: &mut Parser<'_>) -> bool
-    ensures sees { (c : Bool) → Saw c (one_of 2 ('>' ∷ 'comma' ∷ ':' ∷ '=' ∷ [])) p.old result }
+    ensures sees { (c : Condition) → Saw c (one_of 2 ('>' ∷ 'comma' ∷ ':' ∷ '=' ∷ [])) p.old result }
     ensures peeks { Peeks 1 p.old p.new }
 {
     match nth(p, 2) {
@@ -206,7 +206,7 @@ fn at_param_end(p: &mut Parser<'_>) -> bool
 
 /// Returns `true` if a `<` after `impl` starts a type of the whole language, and no parameters.
 fn at_type_after_impl(p: &mut Parser<'_>) -> bool
-    ensures sees { (c : Bool) → Saw c (wide (Not rows.impl_params_begin)) p.old result }
+    ensures sees { (c : Condition) → Saw c (wide (Not rows.impl_params_begin)) p.old result }
     ensures peeks { Peeks 3 p.old p.new }
 {
     if !at_whole(p) {
@@ -229,8 +229,8 @@ fn at_type_after_impl(p: &mut Parser<'_>) -> bool
 
 /// Returns `true` if the parameters of an implementation start here.
 pub fn at_impl_params(p: &mut Parser<'_>) -> bool
-    ensures sees { (c : Bool) → Saw c (begins looks rows.impl_params) p.old result }
-    ensures goes { IsTrue result → (c : Bool) → Saw c (wide (Not rows.impl_params_begin)) p.old false }
+    ensures sees { (c : Condition) → Saw c (begins looks rows.impl_params) p.old result }
+    ensures goes { IsTrue result → (c : Condition) → Saw c (wide (Not rows.impl_params_begin)) p.old false }
     ensures some { IsTrue result → 1 ≤ tokens p.old }
     ensures peeks { Peeks 4 p.old p.new }
 {
@@ -246,7 +246,7 @@ pub fn at_impl_params(p: &mut Parser<'_>) -> bool
 /// Parses the optional `const` before the trait of an implementation.
 // const
 pub fn opt_const_before_trait(p: &mut Parser<'_>)
-    ensures reads { (c : Bool) → Reads c rows.const_before_trait p.old p.new }
+    ensures reads { (c : Condition) → Reads c rows.const_before_trait p.old p.new }
     ensures asks { Asks 1 p.old p.new }
 {
     if at_new(p, SyntaxKind::CONST_KW) {
@@ -256,7 +256,7 @@ pub fn opt_const_before_trait(p: &mut Parser<'_>)
 
 /// Returns `true` if a `!` is next that negates the trait of an implementation.
 fn at_negation(p: &mut Parser<'_>) -> bool
-    ensures sees { (c : Bool) → Saw c (wide rows.negation_begins) p.old result }
+    ensures sees { (c : Condition) → Saw c (wide rows.negation_begins) p.old result }
     ensures some { IsTrue result → 1 ≤ tokens p.old }
     ensures peeks { Peeks 2 p.old p.new }
 {
@@ -275,7 +275,7 @@ fn at_negation(p: &mut Parser<'_>) -> bool
 /// Parses the optional `!` before the trait of an implementation.
 // !
 pub fn opt_negation(p: &mut Parser<'_>)
-    ensures reads { (c : Bool) → Reads c rows.negation p.old p.new }
+    ensures reads { (c : Condition) → Reads c rows.negation p.old p.new }
     ensures asks { Asks 2 p.old p.new }
 {
     if at_negation(p) {
@@ -286,7 +286,7 @@ pub fn opt_negation(p: &mut Parser<'_>)
 /// Parses the optional `unsafe` before the name of a field.
 // unsafe
 pub fn opt_unsafe_field(p: &mut Parser<'_>)
-    ensures reads { (c : Bool) → Reads c rows.unsafe_field p.old p.new }
+    ensures reads { (c : Condition) → Reads c rows.unsafe_field p.old p.new }
     ensures asks { Asks 1 p.old p.new }
 {
     if at_new(p, SyntaxKind::UNSAFE_KW) {

@@ -1,13 +1,13 @@
 //! What all lists of elements with commas between them share.
 
-ghost use Rattle.std.specs.Prelude.{◌+◌, ◌<◌, ◌≤◌, Bool, IsTrue};
+ghost use Rattle.std.specs.Prelude.{◌+◌, ◌<◌, ◌≤◌, IsTrue};
 ghost use Rattle.parser_input.specs.Kind.{raw_of};
 ghost use Rattle.parser_input.specs.Kinds as kinds;
 ghost use Rattle.rust_productions.specs.Looks.{tokens, spent, Asks, Peeks};
 ghost use Rattle.rust_grammar.specs.Notation as notation;
 ghost use Rattle.rust_grammar.specs.Notation.{until, separator, unexpected};
 ghost use Rattle.rust_grammar.specs.Words.{one};
-ghost use Rattle.rust_productions.specs.Reads.{Reads, Saw};
+ghost use Rattle.rust_productions.specs.Reads.{Reads, Saw, Condition};
 
 use crate::grammar::{at, current, error, take};
 use parser_events::message::Message;
@@ -16,7 +16,7 @@ use parser_input::syntax_kind::SyntaxKind;
 
 /// Returns `true` if no token is left.
 pub(crate) fn at_end(p: &mut Parser<'_>) -> bool
-    ensures sees { (c : Bool) → Saw c notation.at_end p.old result }
+    ensures sees { (c : Condition) → Saw c notation.at_end p.old result }
     ensures peeks { Peeks 1 p.old p.new }
 {
     match current(p) {
@@ -27,7 +27,7 @@ pub(crate) fn at_end(p: &mut Parser<'_>) -> bool
 
 /// Returns `true` if a list ends here: at its closing token or at the end of the input.
 pub fn at_list_end(p: &mut Parser<'_>, closing: SyntaxKind) -> bool
-    ensures sees { (c : Bool) → Saw c (until (one (raw_of closing))) p.old result }
+    ensures sees { (c : Condition) → Saw c (until (one (raw_of closing))) p.old result }
     ensures peeks { Peeks 2 p.old p.new }
 {
     if at_end(p) {
@@ -38,7 +38,7 @@ pub fn at_list_end(p: &mut Parser<'_>, closing: SyntaxKind) -> bool
 
 /// Returns `true` if a token is next that a list skips into an error.
 pub fn at_unexpected(p: &mut Parser<'_>) -> bool
-    ensures sees { (c : Bool) → Saw c unexpected p.old result }
+    ensures sees { (c : Condition) → Saw c unexpected p.old result }
     ensures some { IsTrue result → 1 ≤ tokens p.old }
     ensures peeks { Peeks 1 p.old p.new }
 {
@@ -55,7 +55,7 @@ pub fn at_unexpected(p: &mut Parser<'_>) -> bool
 
 /// Parses the comma after an element; emits an error if there is none and the list does not close.
 pub fn comma(p: &mut Parser<'_>, closing: SyntaxKind)
-    ensures reads { (c : Bool) → Reads c (separator (one (raw_of closing))) p.old p.new }
+    ensures reads { (c : Condition) → Reads c (separator (one (raw_of closing))) p.old p.new }
     ensures asks { Asks 2 p.old p.new }
     ensures pays { tokens p.new < tokens p.old → spent p.new + 4000 ≤ spent p.old }
 {

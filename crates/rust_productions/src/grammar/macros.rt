@@ -1,13 +1,13 @@
 //! Definitions of macros, and `extern crate`.
 
-ghost use Rattle.std.specs.Prelude.{◌≤◌, Bool, IsTrue};
+ghost use Rattle.std.specs.Prelude.{◌≤◌, IsTrue};
 ghost use Rattle.parser_events.specs.Stack.{IsInnermost};
 ghost use Rattle.rust_grammar.specs.Items as rows;
 ghost use Rattle.rust_grammar.specs.Notation.{◌or◌, ◌! };
 ghost use Rattle.rust_grammar.specs.Rule.{One, begins};
 ghost use Rattle.rust_grammar.specs.Words.{'ident', 'self'};
 ghost use Rattle.rust_productions.specs.Looks.{tokens, Takes, Asks, Peeks};
-ghost use Rattle.rust_productions.specs.Reads.{looks, Completes, Reads, Saw};
+ghost use Rattle.rust_productions.specs.Reads.{looks, Completes, Reads, Saw, Condition};
 
 use crate::grammar::items::macro_tokens;
 use crate::grammar::names::{expect_name, name};
@@ -23,7 +23,7 @@ use parser_input::syntax_kind::SyntaxKind;
 pub fn extern_crate(p: &mut Parser<'_>, item: Marker)
     requires some { 2 ≤ tokens p.old }
     requires innermost { IsInnermost item p.old.nodes }
-    ensures completes { (c : Bool) → Completes c rows.extern_crate p.old p.new }
+    ensures completes { (c : Condition) → Completes c rows.extern_crate p.old p.new }
     ensures takes { Takes 4090 p.old p.new }
 {
     take(p, SyntaxKind::EXTERN_KW);
@@ -38,7 +38,7 @@ pub fn extern_crate(p: &mut Parser<'_>, item: Marker)
 // self
 fn ident_or_self(p: &mut Parser<'_>)
     requires some { 1 ≤ tokens p.old }
-    ensures reads { (c : Bool) → Reads c (One 'ident' or One 'self') p.old p.new }
+    ensures reads { (c : Condition) → Reads c (One 'ident' or One 'self') p.old p.new }
     ensures takes { Takes 4095 p.old p.new }
 {
     match current(p) {
@@ -49,7 +49,7 @@ fn ident_or_self(p: &mut Parser<'_>)
 
 /// Returns `true` if the name of a crate starts here, or `self`.
 fn at_crate_name(p: &mut Parser<'_>) -> bool
-    ensures sees { (c : Bool) → Saw c (begins looks rows.crate_name) p.old result }
+    ensures sees { (c : Condition) → Saw c (begins looks rows.crate_name) p.old result }
     ensures some { IsTrue result → 1 ≤ tokens p.old }
     ensures peeks { Peeks 1 p.old p.new }
 {
@@ -63,7 +63,7 @@ fn at_crate_name(p: &mut Parser<'_>) -> bool
 // a
 fn crate_name(p: &mut Parser<'_>)
     requires some { 1 ≤ tokens p.old }
-    ensures reads { (c : Bool) → Reads c rows.crate_name p.old p.new }
+    ensures reads { (c : Condition) → Reads c rows.crate_name p.old p.new }
     ensures takes { Takes 4095 p.old p.new }
 {
     let name = start(p);
@@ -74,7 +74,7 @@ fn crate_name(p: &mut Parser<'_>)
 /// Parses the name of a crate, or `self`; emits an error if there is neither.
 // a
 fn expect_crate_name(p: &mut Parser<'_>)
-    ensures reads { (c : Bool) → Reads c (rows.crate_name !) p.old p.new }
+    ensures reads { (c : Condition) → Reads c (rows.crate_name !) p.old p.new }
     ensures asks { Asks 1 p.old p.new }
 {
     if at_crate_name(p) {
@@ -89,7 +89,7 @@ fn expect_crate_name(p: &mut Parser<'_>)
 pub fn macro_rules(p: &mut Parser<'_>, item: Marker)
     requires some { 3 ≤ tokens p.old }
     requires innermost { IsInnermost item p.old.nodes }
-    ensures completes { (c : Bool) → Completes c rows.macro_rules p.old p.new }
+    ensures completes { (c : Condition) → Completes c rows.macro_rules p.old p.new }
     ensures takes { Takes 4090 p.old p.new }
 {
     take_contextual(p, SyntaxKind::MACRO_RULES_KW);
@@ -104,7 +104,7 @@ pub fn macro_rules(p: &mut Parser<'_>, item: Marker)
 pub fn macro_def(p: &mut Parser<'_>, item: Marker)
     requires some { 1 ≤ tokens p.old }
     requires innermost { IsInnermost item p.old.nodes }
-    ensures completes { (c : Bool) → Completes c rows.macro_def p.old p.new }
+    ensures completes { (c : Condition) → Completes c rows.macro_def p.old p.new }
     ensures takes { Takes 4080 p.old p.new }
 {
     take(p, SyntaxKind::MACRO_KW);
@@ -116,7 +116,7 @@ pub fn macro_def(p: &mut Parser<'_>, item: Marker)
 /// Parses the token trees of a macro that `macro` begins: those in braces, or two.
 // ($a:expr) { $a }
 fn macro_def_body(p: &mut Parser<'_>)
-    ensures reads { (c : Bool) → Reads c rows.macro_def_body p.old p.new }
+    ensures reads { (c : Condition) → Reads c rows.macro_def_body p.old p.new }
     ensures asks { Asks 3 p.old p.new }
 {
     if at(p, SyntaxKind::L_CURLY) {

@@ -1,12 +1,12 @@
 //! Arms of a `match`.
 
-ghost use Rattle.std.specs.Prelude.{◌≤◌, Bool, IsTrue};
+ghost use Rattle.std.specs.Prelude.{◌≤◌, IsTrue};
 ghost use Rattle.rust_grammar.specs.Expressions as rows;
 ghost use Rattle.rust_grammar.specs.Notation.{◌before◌, wide};
 ghost use Rattle.rust_grammar.specs.Rule as rules;
 ghost use Rattle.rust_grammar.specs.Words.{'#', '!'};
 ghost use Rattle.rust_productions.specs.Looks.{tokens, Peeks};
-ghost use Rattle.rust_productions.specs.Reads.{looks, Saw};
+ghost use Rattle.rust_productions.specs.Reads.{looks, Saw, Condition};
 
 use crate::grammar::paths::at_colons;
 use crate::grammar::patterns::at_pattern;
@@ -16,7 +16,7 @@ use parser_input::syntax_kind::SyntaxKind;
 
 /// Returns `true` if an attribute of the `match` is next among its arms, in the whole language.
 pub fn at_match_attribute(p: &mut Parser<'_>) -> bool
-    ensures sees { (c : Bool) → Saw c (wide ('#' before '!')) p.old result }
+    ensures sees { (c : Condition) → Saw c (wide ('#' before '!')) p.old result }
     ensures some { IsTrue result → 2 ≤ tokens p.old }
     ensures peeks { Peeks 2 p.old p.new }
 {
@@ -34,7 +34,7 @@ pub fn at_match_attribute(p: &mut Parser<'_>) -> bool
 
 /// Returns `true` if an arm of a `match` starts here.
 pub fn at_match_arm(p: &mut Parser<'_>) -> bool
-    ensures sees { (c : Bool) → Saw c (looks rules.match_arm) p.old result }
+    ensures sees { (c : Condition) → Saw c (looks rules.match_arm) p.old result }
     ensures some { IsTrue result → 1 ≤ tokens p.old }
     ensures peeks { Peeks 10 p.old p.new }
 {
@@ -50,7 +50,7 @@ pub fn at_match_arm(p: &mut Parser<'_>) -> bool
 /// Returns `true` if a path starts here that has several segments or begins with `::`. The first
 /// segment has no arguments.
 pub fn at_long_path(p: &mut Parser<'_>) -> bool
-    ensures sees { (c : Bool) → Saw c rows.long_path_begins p.old result }
+    ensures sees { (c : Condition) → Saw c rows.long_path_begins p.old result }
     ensures some { IsTrue result → 2 ≤ tokens p.old }
     ensures peeks { Peeks 5 p.old p.new }
 {
@@ -74,7 +74,7 @@ pub fn at_long_path(p: &mut Parser<'_>) -> bool
 
 /// Returns `true` if `!` and a `{` are next, after a path.
 pub fn at_braced_macro(p: &mut Parser<'_>) -> bool
-    ensures sees { (c : Bool) → Saw c rows.braced_macro_begins p.old result }
+    ensures sees { (c : Condition) → Saw c rows.braced_macro_begins p.old result }
     ensures some { IsTrue result → 2 ≤ tokens p.old }
     ensures peeks { Peeks 2 p.old p.new }
 {

@@ -1,6 +1,6 @@
 //! Names, lifetimes and literals.
 
-ghost use Rattle.std.specs.Prelude.{◌≡◌, ◌+◌, ◌≤◌, Bool, IsTrue};
+ghost use Rattle.std.specs.Prelude.{◌≡◌, ◌+◌, ◌≤◌, IsTrue};
 ghost use Rattle.parser_input.specs.Kinds as kinds;
 ghost use Rattle.parser_events.specs.Forest.{Expected};
 ghost use Rattle.rust_productions.specs.Looks.{tokens, spent, Asks, Peeks};
@@ -9,7 +9,7 @@ ghost use Rattle.rust_grammar.specs.Patterns.{literal_token};
 ghost use Rattle.rust_grammar.specs.Calls.{Name, Lifetime, Ref, Literal};
 ghost use Rattle.rust_grammar.specs.Rule as rules;
 ghost use Rattle.rust_grammar.specs.Paths as rows;
-ghost use Rattle.rust_productions.specs.Reads.{looks, Gives, Reads, Saw};
+ghost use Rattle.rust_productions.specs.Reads.{looks, Gives, Reads, Saw, Condition};
 
 use crate::grammar::{at, complete, current, error, start, take};
 use parser_events::message::Message;
@@ -20,7 +20,7 @@ use parser_input::syntax_kind::SyntaxKind;
 // a
 pub fn name(p: &mut Parser<'_>)
     requires { 1 ≤ tokens p.old }
-    ensures gives { (c : Bool) → Gives rules.name c p.old p.new }
+    ensures gives { (c : Condition) → Gives rules.name c p.old p.new }
     ensures left { tokens p.new + 1 ≡ tokens p.old }
     ensures looks { spent p.new + 4096 ≡ spent p.old }
 {
@@ -32,7 +32,7 @@ pub fn name(p: &mut Parser<'_>)
 /// Parses a name; emits an error if there is none.
 // a
 pub fn expect_name(p: &mut Parser<'_>)
-    ensures reads { (c : Bool) → Reads c (Name !) p.old p.new }
+    ensures reads { (c : Condition) → Reads c (Name !) p.old p.new }
     ensures asks { Asks 1 p.old p.new }
 {
     if at(p, SyntaxKind::IDENT) {
@@ -46,7 +46,7 @@ pub fn expect_name(p: &mut Parser<'_>)
 // 'a
 pub fn lifetime(p: &mut Parser<'_>)
     requires { 1 ≤ tokens p.old }
-    ensures gives { (c : Bool) → Gives rules.lifetime c p.old p.new }
+    ensures gives { (c : Condition) → Gives rules.lifetime c p.old p.new }
     ensures left { tokens p.new + 1 ≡ tokens p.old }
     ensures looks { spent p.new + 4096 ≡ spent p.old }
 {
@@ -58,7 +58,7 @@ pub fn lifetime(p: &mut Parser<'_>)
 /// Parses an optional lifetime.
 // 'a
 pub fn opt_lifetime(p: &mut Parser<'_>)
-    ensures reads { (c : Bool) → Reads c ⁅ Lifetime ⁆ p.old p.new }
+    ensures reads { (c : Condition) → Reads c ⁅ Lifetime ⁆ p.old p.new }
     ensures asks { Asks 1 p.old p.new }
 {
     if at(p, SyntaxKind::LIFETIME_IDENT) {
@@ -70,7 +70,7 @@ pub fn opt_lifetime(p: &mut Parser<'_>)
 // self
 fn take_word(p: &mut Parser<'_>)
     requires { 1 ≤ tokens p.old }
-    ensures reads { (c : Bool) → Reads c rows.ref_word p.old p.new }
+    ensures reads { (c : Condition) → Reads c rows.ref_word p.old p.new }
     ensures left { tokens p.new + 1 ≡ tokens p.old }
     ensures looks { spent p.new + 4095 ≤ spent p.old }
 {
@@ -87,7 +87,7 @@ fn take_word(p: &mut Parser<'_>)
 // self
 pub fn name_ref(p: &mut Parser<'_>)
     requires { 1 ≤ tokens p.old }
-    ensures gives { (c : Bool) → Gives rules.name_ref c p.old p.new }
+    ensures gives { (c : Condition) → Gives rules.name_ref c p.old p.new }
     ensures left { tokens p.new + 1 ≡ tokens p.old }
     ensures looks { spent p.new + 4095 ≤ spent p.old }
 {
@@ -97,8 +97,9 @@ pub fn name_ref(p: &mut Parser<'_>)
 }
 
 /// Returns `true` if a name reference starts here.
+#[inline(always)]
 pub fn at_name_ref(p: &mut Parser<'_>) -> bool
-    ensures sees { (c : Bool) → Saw c (looks rules.name_ref) p.old result }
+    ensures sees { (c : Condition) → Saw c (looks rules.name_ref) p.old result }
     ensures some { IsTrue result → 1 ≤ tokens p.old }
     ensures peeks { Peeks 1 p.old p.new }
 {
@@ -115,7 +116,7 @@ pub fn at_name_ref(p: &mut Parser<'_>) -> bool
 /// Parses a name reference; emits an error if there is none.
 // self
 pub(crate) fn expect_name_ref(p: &mut Parser<'_>)
-    ensures reads { (c : Bool) → Reads c (Ref !) p.old p.new }
+    ensures reads { (c : Condition) → Reads c (Ref !) p.old p.new }
     ensures asks { Asks 1 p.old p.new }
 {
     if at_name_ref(p) {
@@ -129,7 +130,7 @@ pub(crate) fn expect_name_ref(p: &mut Parser<'_>)
 // 1
 fn take_literal(p: &mut Parser<'_>)
     requires { 1 ≤ tokens p.old }
-    ensures reads { (c : Bool) → Reads c literal_token p.old p.new }
+    ensures reads { (c : Condition) → Reads c literal_token p.old p.new }
     ensures left { tokens p.new + 1 ≡ tokens p.old }
     ensures looks { spent p.new + 4095 ≤ spent p.old }
 {
@@ -150,7 +151,7 @@ fn take_literal(p: &mut Parser<'_>)
 // 1
 pub fn literal(p: &mut Parser<'_>)
     requires { 1 ≤ tokens p.old }
-    ensures gives { (c : Bool) → Gives rules.literal c p.old p.new }
+    ensures gives { (c : Condition) → Gives rules.literal c p.old p.new }
     ensures left { tokens p.new + 1 ≡ tokens p.old }
     ensures looks { spent p.new + 4095 ≤ spent p.old }
 {
@@ -160,8 +161,9 @@ pub fn literal(p: &mut Parser<'_>)
 }
 
 /// Returns `true` if a literal starts here.
+#[inline(always)]
 pub fn at_literal(p: &mut Parser<'_>) -> bool
-    ensures sees { (c : Bool) → Saw c (looks rules.literal) p.old result }
+    ensures sees { (c : Condition) → Saw c (looks rules.literal) p.old result }
     ensures some { IsTrue result → 1 ≤ tokens p.old }
     ensures peeks { Peeks 1 p.old p.new }
 {
@@ -182,7 +184,7 @@ pub fn at_literal(p: &mut Parser<'_>) -> bool
 /// Parses a literal; emits an error if there is none.
 // 1
 pub fn expect_literal(p: &mut Parser<'_>)
-    ensures reads { (c : Bool) → Reads c (Literal !) p.old p.new }
+    ensures reads { (c : Condition) → Reads c (Literal !) p.old p.new }
     ensures asks { Asks 1 p.old p.new }
 {
     if at_literal(p) {

@@ -1,10 +1,10 @@
 //! Operands that only the whole language has.
 
-ghost use Rattle.std.specs.Prelude.{◌≤◌, Bool, IsTrue};
+ghost use Rattle.std.specs.Prelude.{◌≤◌, IsTrue};
 ghost use Rattle.rust_grammar.specs.Expressions as rows;
 ghost use Rattle.rust_grammar.specs.Notation.{⁅◌⁆, wide};
 ghost use Rattle.rust_productions.specs.Looks.{tokens, Asks, Peeks};
-ghost use Rattle.rust_productions.specs.Reads.{Reads, Saw};
+ghost use Rattle.rust_productions.specs.Reads.{Reads, Saw, Condition};
 
 use crate::grammar::operators::at_joint;
 use crate::grammar::{at, at_second, at_second_contextual, at_whole, current, nth, take};
@@ -13,7 +13,7 @@ use parser_input::syntax_kind::SyntaxKind;
 
 /// Returns `true` if a raw reference starts here: at `&raw` before `mut`, `const` or a name.
 pub fn at_raw(p: &mut Parser<'_>) -> bool
-    ensures sees { (c : Bool) → Saw c rows.raw_begins p.old result }
+    ensures sees { (c : Condition) → Saw c rows.raw_begins p.old result }
     ensures some { IsTrue result → 2 ≤ tokens p.old }
     ensures peeks { Peeks 2 p.old p.new }
 {
@@ -32,7 +32,7 @@ pub fn at_raw(p: &mut Parser<'_>) -> bool
 /// Returns `true` if an operand starts here that only the whole language has: a raw reference, one
 /// after attributes, or a range without a start.
 pub fn at_new_operand(p: &mut Parser<'_>) -> bool
-    ensures sees { (c : Bool) → Saw c (wide rows.new_operand_begins) p.old result }
+    ensures sees { (c : Condition) → Saw c (wide rows.new_operand_begins) p.old result }
     ensures some { IsTrue result → 1 ≤ tokens p.old }
     ensures peeks { Peeks 5 p.old p.new }
 {
@@ -53,7 +53,7 @@ pub fn at_new_operand(p: &mut Parser<'_>) -> bool
 
 /// Returns `true` if a range operator is next that begins an operand, in the whole language.
 pub(crate) fn at_new_mark(p: &mut Parser<'_>) -> bool
-    ensures sees { (c : Bool) → Saw c (wide rows.mark_begins) p.old result }
+    ensures sees { (c : Condition) → Saw c (wide rows.mark_begins) p.old result }
     ensures some { IsTrue result → 1 ≤ tokens p.old }
     ensures peeks { Peeks 2 p.old p.new }
 {
@@ -75,7 +75,7 @@ pub(crate) fn at_new_mark(p: &mut Parser<'_>) -> bool
 /// Takes the `mut` or the `const` of a raw reference, if it is there.
 // mut
 pub fn opt_mut_or_const(p: &mut Parser<'_>)
-    ensures reads { (c : Bool) → Reads c ⁅ rows.mut_or_const ⁆ p.old p.new }
+    ensures reads { (c : Condition) → Reads c ⁅ rows.mut_or_const ⁆ p.old p.new }
     ensures asks { Asks 1 p.old p.new }
 {
     match current(p) {

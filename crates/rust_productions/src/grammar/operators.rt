@@ -1,6 +1,6 @@
 //! The operators between operands.
 
-ghost use Rattle.std.specs.Prelude.{◌≡◌, ◌≢◌, ◌≤◌, Bool, IsTrue, Some, true, if◌then◌else◌};
+ghost use Rattle.std.specs.Prelude.{◌≡◌, ◌≢◌, ◌≤◌, IsTrue, Some, true, if◌then◌else◌};
 ghost use Rattle.parser_input.specs.Kind.{raw_of};
 ghost use Rattle.parser_input.specs.Kinds as kinds;
 ghost use Rattle.rust_grammar.specs.Rule.{Both, Joint, Kind, One, spelled_at};
@@ -9,7 +9,7 @@ ghost use Rattle.rust_grammar.specs.Words.{'|>'};
 ghost use Rattle.rust_productions.specs.Layers.{operators_at};
 ghost use Rattle.rust_productions.specs.Looks.{tokens, Takes, Peeks, Stays};
 ghost use Rattle.rust_productions.specs.Operators.{IsMark, IsNext, spelling_of};
-ghost use Rattle.rust_productions.specs.Reads.{Does, Reads, Saw};
+ghost use Rattle.rust_productions.specs.Reads.{Does, Reads, Saw, Condition};
 ghost use Rattle.rust_productions.specs.Starts.{Starts};
 
 use crate::grammar::{at, at_contextual, at_second, at_third, current};
@@ -58,7 +58,7 @@ impl Operator {
 
 /// Returns `true` if the next token touches the second, and that is of this kind.
 fn at_joined(p: &mut Parser<'_>, kind: SyntaxKind) -> bool
-    ensures sees { (c : Bool) → Saw c (Both (Joint 0) (Kind 1 (raw_of kind))) p.old result }
+    ensures sees { (c : Condition) → Saw c (Both (Joint 0) (Kind 1 (raw_of kind))) p.old result }
     ensures some { IsTrue result → raw_of kind ≢ kinds.EOF → 2 ≤ tokens p.old }
     ensures peeks { Peeks 1 p.old p.new }
 {
@@ -70,7 +70,7 @@ fn at_joined(p: &mut Parser<'_>, kind: SyntaxKind) -> bool
 
 /// Returns `true` if the second token touches the third, and that is of this kind.
 pub(crate) fn at_joined_after(p: &mut Parser<'_>, kind: SyntaxKind) -> bool
-    ensures sees { (c : Bool) → Saw c (Both (Joint 1) (Kind 2 (raw_of kind))) p.old result }
+    ensures sees { (c : Condition) → Saw c (Both (Joint 1) (Kind 2 (raw_of kind))) p.old result }
     ensures some { IsTrue result → raw_of kind ≢ kinds.EOF → 3 ≤ tokens p.old }
     ensures peeks { Peeks 1 p.old p.new }
 {
@@ -82,8 +82,8 @@ pub(crate) fn at_joined_after(p: &mut Parser<'_>, kind: SyntaxKind) -> bool
 
 /// Returns `true` if the operator `|>` is next. The current token is `|`.
 fn at_pipe_gt(p: &mut Parser<'_>) -> bool
-    requires { (c : Bool) → Saw c (Kind 0 kinds.PIPE) p.old true }
-    ensures sees { (c : Bool) → Saw c (spelled_at 0 '|>') p.old result }
+    requires { (c : Condition) → Saw c (Kind 0 kinds.PIPE) p.old true }
+    ensures sees { (c : Condition) → Saw c (spelled_at 0 '|>') p.old result }
     ensures some { IsTrue result → 2 ≤ tokens p.old }
     ensures peeks { Peeks 1 p.old p.new }
 {
@@ -95,7 +95,7 @@ fn at_pipe_gt(p: &mut Parser<'_>) -> bool
 
 /// Returns `true` if the next token touches the second.
 pub fn at_joint(p: &mut Parser<'_>) -> bool
-    ensures sees { (c : Bool) → Saw c (Joint 0) p.old result }
+    ensures sees { (c : Condition) → Saw c (Joint 0) p.old result }
     ensures same { Does (λ s. s) p.old p.new }
     ensures stays { Stays p.old p.new }
 {
@@ -144,7 +144,7 @@ pub fn present_mark(p: &mut Parser<'_>) -> RangeMark
 /// Takes the range operator that is next.
 pub fn take_mark(p: &mut Parser<'_>, mark: RangeMark)
     requires { IsMark (Some mark) p.old }
-    ensures reads { (c : Bool) → Reads c (One (spelling_of mark)) p.old p.new }
+    ensures reads { (c : Condition) → Reads c (One (spelling_of mark)) p.old p.new }
     ensures takes { Takes 4096 p.old p.new }
 {
     match mark {
@@ -196,7 +196,7 @@ pub fn current_op(p: &mut Parser<'_>) -> Operator
 
 /// Returns the operator that starts with the `&` that is next.
 fn after_ampersand(p: &mut Parser<'_>) -> Operator
-    requires first { (c : Bool) → Saw c (Kind 0 kinds.AMP) p.old true }
+    requires first { (c : Condition) → Saw c (Kind 0 kinds.AMP) p.old true }
     requires some { 1 ≤ tokens p.old }
     ensures next { IsNext result p.old }
     ensures peeks { Peeks 2 p.old p.new }
@@ -210,7 +210,7 @@ fn after_ampersand(p: &mut Parser<'_>) -> Operator
 
 /// Returns the operator that starts with the `|` that is next.
 fn after_pipe(p: &mut Parser<'_>) -> Operator
-    requires first { (c : Bool) → Saw c (Kind 0 kinds.PIPE) p.old true }
+    requires first { (c : Condition) → Saw c (Kind 0 kinds.PIPE) p.old true }
     requires some { 1 ≤ tokens p.old }
     ensures next { IsNext result p.old }
     ensures peeks { Peeks 3 p.old p.new }
@@ -227,7 +227,7 @@ fn after_pipe(p: &mut Parser<'_>) -> Operator
 
 /// Returns the operator that starts with the `=` that is next, if there is one: `=>` is none.
 fn after_equals(p: &mut Parser<'_>) -> Operator
-    requires first { (c : Bool) → Saw c (Kind 0 kinds.EQ) p.old true }
+    requires first { (c : Condition) → Saw c (Kind 0 kinds.EQ) p.old true }
     requires some { 1 ≤ tokens p.old }
     ensures next { IsNext result p.old }
     ensures peeks { Peeks 2 p.old p.new }
@@ -243,7 +243,7 @@ fn after_equals(p: &mut Parser<'_>) -> Operator
 
 /// Returns the operator that starts with the `!` that is next, if there is one.
 fn after_bang(p: &mut Parser<'_>) -> Operator
-    requires first { (c : Bool) → Saw c (Kind 0 kinds.BANG) p.old true }
+    requires first { (c : Condition) → Saw c (Kind 0 kinds.BANG) p.old true }
     requires some { 1 ≤ tokens p.old }
     ensures next { IsNext result p.old }
     ensures peeks { Peeks 1 p.old p.new }
@@ -256,7 +256,7 @@ fn after_bang(p: &mut Parser<'_>) -> Operator
 
 /// Returns the operator that starts with the `<` that is next.
 fn after_left_angle(p: &mut Parser<'_>) -> Operator
-    requires first { (c : Bool) → Saw c (Kind 0 kinds.L_ANGLE) p.old true }
+    requires first { (c : Condition) → Saw c (Kind 0 kinds.L_ANGLE) p.old true }
     requires some { 1 ≤ tokens p.old }
     ensures next { IsNext result p.old }
     ensures peeks { Peeks 3 p.old p.new }
@@ -278,7 +278,7 @@ fn after_left_angle(p: &mut Parser<'_>) -> Operator
 
 /// Returns the operator that starts with the `>` that is next.
 fn after_right_angle(p: &mut Parser<'_>) -> Operator
-    requires first { (c : Bool) → Saw c (Kind 0 kinds.R_ANGLE) p.old true }
+    requires first { (c : Condition) → Saw c (Kind 0 kinds.R_ANGLE) p.old true }
     requires some { 1 ≤ tokens p.old }
     ensures next { IsNext result p.old }
     ensures peeks { Peeks 3 p.old p.new }
@@ -302,7 +302,7 @@ fn after_right_angle(p: &mut Parser<'_>) -> Operator
 pub fn take_operator(p: &mut Parser<'_>, operator: Operator)
     requires next { IsNext operator p.old }
     requires is { 1 ≤ operator.height }
-    ensures reads { (c : Bool) → Reads c (operators_at operator.height) p.old p.new }
+    ensures reads { (c : Condition) → Reads c (operators_at operator.height) p.old p.new }
     ensures takes { Takes 4096 p.old p.new }
 {
     p.token(operator.kind, operator.width as usize);

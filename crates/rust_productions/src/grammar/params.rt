@@ -1,6 +1,6 @@
 //! Parameters of functions.
 
-ghost use Rattle.std.specs.Prelude.{◌≤◌, Bool, IsTrue};
+ghost use Rattle.std.specs.Prelude.{◌≤◌, IsTrue};
 ghost use Rattle.rust_productions.specs.Looks.{tokens, Peeks};
 ghost use Rattle.rust_grammar.specs.Expressions.{closure_param};
 ghost use Rattle.rust_grammar.specs.Items as rows;
@@ -8,7 +8,7 @@ ghost use Rattle.rust_grammar.specs.Notation.{wide};
 ghost use Rattle.rust_grammar.specs.Rule as rules;
 ghost use Rattle.rust_grammar.specs.Rule.{begins};
 ghost use Rattle.rust_grammar.specs.Shared.{dots_dot};
-ghost use Rattle.rust_productions.specs.Reads.{looks, Saw};
+ghost use Rattle.rust_productions.specs.Reads.{looks, Saw, Condition};
 
 use crate::grammar::patterns::{at_pattern, at_single_pattern};
 use crate::grammar::{at, at_dots_dot, at_new, at_whole};
@@ -18,7 +18,7 @@ use parser_input::syntax_kind::SyntaxKind;
 /// Returns `true` if a function parameter starts here. A `self` parameter starts as a pattern
 /// does, and in the whole language an attribute may be before it.
 pub fn at_param(p: &mut Parser<'_>) -> bool
-    ensures sees { (c : Bool) → Saw c (looks rules.param) p.old result }
+    ensures sees { (c : Condition) → Saw c (looks rules.param) p.old result }
     ensures some { IsTrue result → 1 ≤ tokens p.old }
     ensures peeks { Peeks 13 p.old p.new }
 {
@@ -31,7 +31,7 @@ pub fn at_param(p: &mut Parser<'_>) -> bool
 /// Returns `true` if a parameter starts here as only the whole language has it: at `...` or at an
 /// attribute.
 pub fn at_new_param(p: &mut Parser<'_>) -> bool
-    ensures sees { (c : Bool) → Saw c (wide rows.new_param_begins) p.old result }
+    ensures sees { (c : Condition) → Saw c (wide rows.new_param_begins) p.old result }
     ensures some { IsTrue result → 1 ≤ tokens p.old }
     ensures peeks { Peeks 4 p.old p.new }
 {
@@ -49,7 +49,7 @@ pub fn at_new_param(p: &mut Parser<'_>) -> bool
 
 /// Returns `true` if `...` is next, in the whole language.
 pub fn at_new_dots(p: &mut Parser<'_>) -> bool
-    ensures sees { (c : Bool) → Saw c (wide dots_dot) p.old result }
+    ensures sees { (c : Condition) → Saw c (wide dots_dot) p.old result }
     ensures some { IsTrue result → 3 ≤ tokens p.old }
     ensures peeks { Peeks 3 p.old p.new }
 {
@@ -64,7 +64,7 @@ pub fn at_new_dots(p: &mut Parser<'_>) -> bool
 
 /// Returns `true` if a parameter of a closure starts here.
 pub fn at_closure_param(p: &mut Parser<'_>) -> bool
-    ensures sees { (c : Bool) → Saw c (begins looks closure_param) p.old result }
+    ensures sees { (c : Condition) → Saw c (begins looks closure_param) p.old result }
     ensures some { IsTrue result → 1 ≤ tokens p.old }
     ensures peeks { Peeks 9 p.old p.new }
 {

@@ -1,6 +1,6 @@
 //! Paths.
 
-ghost use Rattle.std.specs.Prelude.{◌≤◌, Bool, true, false, IsTrue, [], ◌∷◌};
+ghost use Rattle.std.specs.Prelude.{◌≤◌, true, false, IsTrue, [], ◌∷◌};
 ghost use Rattle.parser_input.specs.Kinds as kinds;
 ghost use Rattle.parser_events.specs.Stack.{IsInnermost};
 ghost use Rattle.rust_productions.specs.Looks.{tokens, Takes, Asks, Peeks, TakesTwoIn, AsksIn};
@@ -11,7 +11,7 @@ ghost use Rattle.rust_grammar.specs.Rule as rules;
 ghost use Rattle.rust_grammar.specs.Rule.{Kind, Joint, Both, Nothing};
 ghost use Rattle.rust_grammar.specs.Words.{'::', 'l_paren', 'dots'};
 ghost use Rattle.rust_grammar.specs.Paths as rows;
-ghost use Rattle.rust_productions.specs.Reads.{looks, Gives, Reads, Saw};
+ghost use Rattle.rust_productions.specs.Reads.{looks, Gives, Reads, Saw, Condition};
 ghost use Rattle.rust_productions.specs.Starts.{Starts};
 
 use crate::grammar::names::{at_name_ref, expect_name_ref, name_ref};
@@ -25,7 +25,7 @@ use parser_input::syntax_kind::SyntaxKind;
 
 /// Returns `true` if `::` is next.
 pub fn at_colons(p: &mut Parser<'_>) -> bool
-    ensures sees { (c : Bool) → Saw c (Both (Kind 0 kinds.COLON)
+    ensures sees { (c : Condition) → Saw c (Both (Kind 0 kinds.COLON)
         (Both (Joint 0) (Kind 1 kinds.COLON))) p.old result }
     ensures some { IsTrue result → 2 ≤ tokens p.old }
     ensures peeks { Peeks 2 p.old p.new }
@@ -35,7 +35,7 @@ pub fn at_colons(p: &mut Parser<'_>) -> bool
 
 /// Returns `true` if a path starts here.
 pub fn at_path(p: &mut Parser<'_>) -> bool
-    ensures sees { (c : Bool) → Saw c (looks rules.path) p.old result }
+    ensures sees { (c : Condition) → Saw c (looks rules.path) p.old result }
     ensures some { IsTrue result → 1 ≤ tokens p.old }
     ensures peeks { Peeks 3 p.old p.new }
 {
@@ -50,7 +50,7 @@ pub fn at_path(p: &mut Parser<'_>) -> bool
 
 /// Returns `true` if the arguments of `Fn` start here, in the whole language: `(` or `::(`.
 pub fn at_fn_args(p: &mut Parser<'_>) -> bool
-    ensures sees { (c : Bool) → Saw c (wide rows.fn_args_begin) p.old result }
+    ensures sees { (c : Condition) → Saw c (wide rows.fn_args_begin) p.old result }
     ensures some { IsTrue result → 1 ≤ tokens p.old }
     ensures peeks { Peeks 4 p.old p.new }
 {
@@ -71,7 +71,7 @@ pub fn at_fn_args(p: &mut Parser<'_>) -> bool
 
 /// Returns `true` if `(..` is next.
 pub fn at_dots_args(p: &mut Parser<'_>) -> bool
-    ensures sees { (c : Bool) → Saw c ('l_paren' before 'dots') p.old result }
+    ensures sees { (c : Condition) → Saw c ('l_paren' before 'dots') p.old result }
     ensures some { IsTrue result → 3 ≤ tokens p.old }
     ensures peeks { Peeks 3 p.old p.new }
 {
@@ -86,7 +86,7 @@ pub fn at_dots_args(p: &mut Parser<'_>) -> bool
 
 /// Returns `true` if `::(..` is next.
 pub fn at_colons_dots_args(p: &mut Parser<'_>) -> bool
-    ensures sees { (c : Bool) → Saw c (row 0 ('::' ∷ 'l_paren' ∷ 'dots' ∷ [])) p.old result }
+    ensures sees { (c : Condition) → Saw c (row 0 ('::' ∷ 'l_paren' ∷ 'dots' ∷ [])) p.old result }
     ensures some { IsTrue result → 5 ≤ tokens p.old }
     ensures peeks { Peeks 5 p.old p.new }
 {
@@ -104,7 +104,7 @@ pub fn at_colons_dots_args(p: &mut Parser<'_>) -> bool
 
 /// Returns `true` if `!` is next, and no `!=`.
 pub fn at_macro_call(p: &mut Parser<'_>) -> bool
-    ensures sees { (c : Bool) → Saw c rows.macro_call_begins p.old result }
+    ensures sees { (c : Condition) → Saw c rows.macro_call_begins p.old result }
     ensures some { IsTrue result → 1 ≤ tokens p.old }
     ensures peeks { Peeks 3 p.old p.new }
 {
@@ -120,9 +120,9 @@ pub fn at_macro_call(p: &mut Parser<'_>) -> bool
 /// Parses the optional `::` and the first word of a path.
 // ::a
 pub fn first_word(p: &mut Parser<'_>)
-    requires begins { (c : Bool) → Saw c (looks rules.path) p.old true }
+    requires begins { (c : Condition) → Saw c (looks rules.path) p.old true }
     requires some { 1 ≤ tokens p.old }
-    ensures reads { (c : Bool) → Reads c (rows.first_word Nothing) p.old p.new }
+    ensures reads { (c : Condition) → Reads c (rows.first_word Nothing) p.old p.new }
     ensures takes { Takes 4090 p.old p.new }
 {
     if at_colons(p) {
@@ -136,9 +136,9 @@ pub fn first_word(p: &mut Parser<'_>)
 /// Parses the first segment of a path without generic arguments.
 // ::a
 fn first_segment(p: &mut Parser<'_>)
-    requires begins { (c : Bool) → Saw c (looks rules.path) p.old true }
+    requires begins { (c : Condition) → Saw c (looks rules.path) p.old true }
     requires some { 1 ≤ tokens p.old }
-    ensures reads { (c : Bool) → Reads c (rows.first_segment Nothing) p.old p.new }
+    ensures reads { (c : Condition) → Reads c (rows.first_segment Nothing) p.old p.new }
     ensures takes { Takes 4090 p.old p.new }
 {
     let path = start(p);
@@ -150,7 +150,7 @@ fn first_segment(p: &mut Parser<'_>)
 
 /// Returns `true` if a path continues here: at a `::` that is before neither `*` nor `{`.
 pub fn at_next_segment(p: &mut Parser<'_>) -> bool
-    ensures sees { (c : Bool) → Saw c path_goes_on p.old result }
+    ensures sees { (c : Condition) → Saw c path_goes_on p.old result }
     ensures some { IsTrue result → 2 ≤ tokens p.old }
     ensures peeks { Peeks 3 p.old p.new }
 {
@@ -166,7 +166,7 @@ pub fn at_next_segment(p: &mut Parser<'_>) -> bool
 /// Parses a path segment without generic arguments; emits an error if there is none.
 // a
 fn expect_segment(p: &mut Parser<'_>)
-    ensures reads { (c : Bool) → Reads c (rows.segment Nothing !) p.old p.new }
+    ensures reads { (c : Condition) → Reads c (rows.segment Nothing !) p.old p.new }
     ensures asks { Asks 1 p.old p.new }
 {
     if at_name_ref(p) {
@@ -183,7 +183,7 @@ fn expect_segment(p: &mut Parser<'_>)
 fn next_segment(p: &mut Parser<'_>, path: Marker) -> Marker
     requires innermost { IsInnermost path p.old.nodes }
     requires some { 2 ≤ tokens p.old }
-    ensures reads { (c : Bool) → Reads c (rows.next_segment Nothing) p.old p.new }
+    ensures reads { (c : Condition) → Reads c (rows.next_segment Nothing) p.old p.new }
     ensures takes { TakesTwoIn result 8000 p.old p.new }
 {
     take_pair(p, SyntaxKind::COLON2);
@@ -195,8 +195,8 @@ fn next_segment(p: &mut Parser<'_>, path: Marker) -> Marker
 // ::a::b
 fn next_segments(p: &mut Parser<'_>, path: Marker) -> Marker
     requires { IsInnermost path p.old.nodes }
-    ensures reads { (c : Bool) → Reads c (rows.next_segments Nothing) p.old p.new }
-    ensures ends { (c : Bool) → Saw c path_goes_on p.new false }
+    ensures reads { (c : Condition) → Reads c (rows.next_segments Nothing) p.old p.new }
+    ensures ends { (c : Condition) → Saw c path_goes_on p.new false }
     ensures asks { AsksIn result 3 p.old p.new }
 {
     let mut path = path;
@@ -210,8 +210,8 @@ fn next_segments(p: &mut Parser<'_>, path: Marker) -> Marker
 // a::b
 pub fn path(p: &mut Parser<'_>)
     requires begins { Starts (looks rules.path) p.old }
-    ensures gives { (c : Bool) → Gives rules.path c p.old p.new }
-    ensures ends { (c : Bool) → Saw c path_goes_on p.new false }
+    ensures gives { (c : Condition) → Gives rules.path c p.old p.new }
+    ensures ends { (c : Condition) → Saw c path_goes_on p.new false }
     ensures takes { Takes 4000 p.old p.new }
 {
     let frame = start(p);
@@ -223,7 +223,7 @@ pub fn path(p: &mut Parser<'_>)
 /// Parses a path without generic arguments; emits an error if there is none.
 // a::b
 pub fn expect_path(p: &mut Parser<'_>)
-    ensures reads { (c : Bool) → Reads c (Path !) p.old p.new }
+    ensures reads { (c : Condition) → Reads c (Path !) p.old p.new }
     ensures asks { Asks 3 p.old p.new }
 {
     if at_path(p) {

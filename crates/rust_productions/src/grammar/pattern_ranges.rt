@@ -1,6 +1,6 @@
 //! Range patterns.
 
-ghost use Rattle.std.specs.Prelude.{◌≤◌, Bool, IsTrue, true};
+ghost use Rattle.std.specs.Prelude.{◌≤◌, IsTrue, true};
 ghost use Rattle.rust_productions.specs.Looks.{tokens, Takes, Peeks};
 ghost use Rattle.rust_grammar.specs.Notation.{wide};
 ghost use Rattle.rust_grammar.specs.Patterns as rows;
@@ -8,7 +8,7 @@ ghost use Rattle.rust_grammar.specs.Rule as rules;
 ghost use Rattle.rust_grammar.specs.Rule.{One, spelled_at};
 ghost use Rattle.rust_grammar.specs.Shared.{dots_and_dot};
 ghost use Rattle.rust_grammar.specs.Words.{'dots_eq'};
-ghost use Rattle.rust_productions.specs.Reads.{looks, Reads, Saw};
+ghost use Rattle.rust_productions.specs.Reads.{looks, Reads, Saw, Condition};
 
 use crate::grammar::operators::{at_joined_after, at_joint};
 use crate::grammar::{
@@ -19,7 +19,7 @@ use parser_input::syntax_kind::SyntaxKind;
 
 /// Returns `true` if `..=` is next.
 pub(crate) fn at_dots_eq(p: &mut Parser<'_>) -> bool
-    ensures sees { (c : Bool) → Saw c (spelled_at 0 'dots_eq') p.old result }
+    ensures sees { (c : Condition) → Saw c (spelled_at 0 'dots_eq') p.old result }
     ensures some { IsTrue result → 3 ≤ tokens p.old }
     ensures peeks { Peeks 3 p.old p.new }
 {
@@ -40,7 +40,7 @@ pub(crate) fn at_dots_eq(p: &mut Parser<'_>) -> bool
 
 /// Returns `true` if `..` is next, and after it a token at which an end of a range can start.
 fn at_dots_before_end(p: &mut Parser<'_>) -> bool
-    ensures sees { (c : Bool) → Saw c rows.dots_before_end p.old result }
+    ensures sees { (c : Condition) → Saw c rows.dots_before_end p.old result }
     ensures some { IsTrue result → 2 ≤ tokens p.old }
     ensures peeks { Peeks 5 p.old p.new }
 {
@@ -76,8 +76,8 @@ fn at_dots_before_end(p: &mut Parser<'_>) -> bool
 /// Returns `true` if a range pattern without a start is next, in the whole language: at `..=`, or at
 /// `..` before an end.
 pub fn at_open_range(p: &mut Parser<'_>) -> bool
-    ensures sees { (c : Bool) → Saw c (wide rows.open_range_begins) p.old result }
-    ensures op { IsTrue result → (c : Bool) → Saw c rows.range_op_begins p.old true }
+    ensures sees { (c : Condition) → Saw c (wide rows.open_range_begins) p.old result }
+    ensures op { IsTrue result → (c : Condition) → Saw c rows.range_op_begins p.old true }
     ensures some { IsTrue result → 2 ≤ tokens p.old }
     ensures peeks { Peeks 8 p.old p.new }
 {
@@ -95,8 +95,8 @@ pub fn at_open_range(p: &mut Parser<'_>) -> bool
 
 /// Returns `true` if an end of a range pattern starts here.
 pub fn at_range_end(p: &mut Parser<'_>) -> bool
-    ensures sees { (c : Bool) → Saw c rows.range_end_begins p.old result }
-    ensures atom { IsTrue result → (c : Bool) → Saw c (looks rules.pattern_atom) p.old true }
+    ensures sees { (c : Condition) → Saw c rows.range_end_begins p.old result }
+    ensures atom { IsTrue result → (c : Condition) → Saw c (looks rules.pattern_atom) p.old true }
     ensures some { IsTrue result → 1 ≤ tokens p.old }
     ensures peeks { Peeks 3 p.old p.new }
 {
@@ -133,7 +133,7 @@ pub fn at_range_end(p: &mut Parser<'_>) -> bool
 
 /// Returns `true` if a range operator is next, in the whole language.
 pub fn at_range_op(p: &mut Parser<'_>) -> bool
-    ensures sees { (c : Bool) → Saw c (wide rows.range_op_begins) p.old result }
+    ensures sees { (c : Condition) → Saw c (wide rows.range_op_begins) p.old result }
     ensures some { IsTrue result → 2 ≤ tokens p.old }
     ensures peeks { Peeks 2 p.old p.new }
 {
@@ -156,7 +156,7 @@ pub fn at_range_op(p: &mut Parser<'_>) -> bool
 // ...
 pub fn take_three_dots(p: &mut Parser<'_>)
     requires { 3 ≤ tokens p.old }
-    ensures reads { (c : Bool) → Reads c dots_and_dot p.old p.new }
+    ensures reads { (c : Condition) → Reads c dots_and_dot p.old p.new }
     ensures takes { Takes 8192 p.old p.new }
 {
     take_pair(p, SyntaxKind::DOT2);
@@ -167,7 +167,7 @@ pub fn take_three_dots(p: &mut Parser<'_>)
 // ..=
 fn take_dots_eq(p: &mut Parser<'_>)
     requires { 3 ≤ tokens p.old }
-    ensures reads { (c : Bool) → Reads c (One 'dots_eq') p.old p.new }
+    ensures reads { (c : Condition) → Reads c (One 'dots_eq') p.old p.new }
     ensures takes { Takes 8192 p.old p.new }
 {
     p.token(SyntaxKind::DOT2EQ, 3);
@@ -176,9 +176,9 @@ fn take_dots_eq(p: &mut Parser<'_>)
 /// Takes `..=` or `..`, of which one is next.
 // ..=
 pub fn take_two_dots(p: &mut Parser<'_>)
-    requires begins { (c : Bool) → Saw c rows.range_op_begins p.old true }
+    requires begins { (c : Condition) → Saw c rows.range_op_begins p.old true }
     requires some { 2 ≤ tokens p.old }
-    ensures reads { (c : Bool) → Reads c rows.two_dots p.old p.new }
+    ensures reads { (c : Condition) → Reads c rows.two_dots p.old p.new }
     ensures takes { Takes 8000 p.old p.new }
 {
     if at_dots_eq(p) {
@@ -191,9 +191,9 @@ pub fn take_two_dots(p: &mut Parser<'_>)
 /// Takes the range operator that is next.
 // ...
 pub fn take_range_op(p: &mut Parser<'_>)
-    requires begins { (c : Bool) → Saw c rows.range_op_begins p.old true }
+    requires begins { (c : Condition) → Saw c rows.range_op_begins p.old true }
     requires some { 2 ≤ tokens p.old }
-    ensures reads { (c : Bool) → Reads c rows.range_op p.old p.new }
+    ensures reads { (c : Condition) → Reads c rows.range_op p.old p.new }
     ensures takes { Takes 7900 p.old p.new }
 {
     if at_dots_dot(p) {

@@ -1,6 +1,6 @@
 //! Patterns.
 
-ghost use Rattle.std.specs.Prelude.{◌≤◌, Bool, IsTrue};
+ghost use Rattle.std.specs.Prelude.{◌≤◌, IsTrue};
 ghost use Rattle.rust_productions.specs.Looks.{tokens, Peeks};
 ghost use Rattle.rust_grammar.specs.Shared.{field_name};
 ghost use Rattle.rust_grammar.specs.Words.{':'};
@@ -8,7 +8,7 @@ ghost use Rattle.rust_grammar.specs.Notation.{◌▹◌};
 ghost use Rattle.rust_grammar.specs.Patterns as rows;
 ghost use Rattle.rust_grammar.specs.Rule as rules;
 ghost use Rattle.rust_grammar.specs.Rule.{begins, One};
-ghost use Rattle.rust_productions.specs.Reads.{looks, Saw};
+ghost use Rattle.rust_productions.specs.Reads.{looks, Saw, Condition};
 
 use crate::grammar::names::at_literal;
 use crate::grammar::operators::at_joint;
@@ -19,7 +19,7 @@ use parser_input::syntax_kind::SyntaxKind;
 
 /// Returns `true` if a pattern without top-level alternatives starts here.
 pub fn at_single_pattern(p: &mut Parser<'_>) -> bool
-    ensures sees { (c : Bool) → Saw c (looks rules.single_pattern) p.old result }
+    ensures sees { (c : Condition) → Saw c (looks rules.single_pattern) p.old result }
     ensures some { IsTrue result → 1 ≤ tokens p.old }
     ensures peeks { Peeks 8 p.old p.new }
 {
@@ -61,7 +61,7 @@ pub fn at_single_pattern(p: &mut Parser<'_>) -> bool
 
 /// Returns `true` if a pattern starts here.
 pub fn at_pattern(p: &mut Parser<'_>) -> bool
-    ensures sees { (c : Bool) → Saw c (looks rules.pattern) p.old result }
+    ensures sees { (c : Condition) → Saw c (looks rules.pattern) p.old result }
     ensures some { IsTrue result → 1 ≤ tokens p.old }
     ensures peeks { Peeks 9 p.old p.new }
 {
@@ -76,7 +76,7 @@ pub fn at_pattern(p: &mut Parser<'_>) -> bool
 
 /// Returns `true` if the name or the number of a field is next, with a colon after it.
 pub fn at_named_field(p: &mut Parser<'_>) -> bool
-    ensures sees { (c : Bool) → Saw c (begins looks (field_name ▹ One ':')) p.old result }
+    ensures sees { (c : Condition) → Saw c (begins looks (field_name ▹ One ':')) p.old result }
     ensures some { IsTrue result → 2 ≤ tokens p.old }
     ensures peeks { Peeks 2 p.old p.new }
 {
@@ -92,7 +92,7 @@ pub fn at_named_field(p: &mut Parser<'_>) -> bool
 /// Returns `true` if the name or the number of a field is next, with a colon after it. The field has
 /// attributes.
 pub fn at_attributed_named_field(p: &mut Parser<'_>) -> bool
-    ensures sees { (c : Bool) → Saw c rows.named_field_begins p.old result }
+    ensures sees { (c : Condition) → Saw c rows.named_field_begins p.old result }
     ensures some { IsTrue result → 2 ≤ tokens p.old }
     ensures peeks { Peeks 2 p.old p.new }
 {
@@ -109,7 +109,7 @@ pub fn at_attributed_named_field(p: &mut Parser<'_>) -> bool
 
 /// Returns `true` if a field of a record pattern starts here.
 pub fn at_pattern_field(p: &mut Parser<'_>) -> bool
-    ensures sees { (c : Bool) → Saw c (looks rules.pattern_field) p.old result }
+    ensures sees { (c : Condition) → Saw c (looks rules.pattern_field) p.old result }
     ensures some { IsTrue result → 1 ≤ tokens p.old }
     ensures peeks { Peeks 6 p.old p.new }
 {

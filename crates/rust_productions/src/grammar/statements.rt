@@ -1,12 +1,12 @@
 //! Where statements start that are items, or that only the whole language has.
 
-ghost use Rattle.std.specs.Prelude.{◌≤◌, ◌∷◌, [], Bool, IsTrue};
+ghost use Rattle.std.specs.Prelude.{◌≤◌, ◌∷◌, [], IsTrue};
 ghost use Rattle.rust_grammar.specs.Notation.{one_of, wide};
 ghost use Rattle.rust_grammar.specs.Rule.{Both, Not, Whole};
 ghost use Rattle.rust_grammar.specs.Statements as rows;
 ghost use Rattle.rust_grammar.specs.Words.{'fn', 'impl', 'trait', '|', 'move', 'async'};
 ghost use Rattle.rust_productions.specs.Looks.{tokens, Peeks};
-ghost use Rattle.rust_productions.specs.Reads.{Saw};
+ghost use Rattle.rust_productions.specs.Reads.{Saw, Condition};
 
 use crate::grammar::item_words::at_new_item;
 use crate::grammar::match_arms::at_long_path;
@@ -15,8 +15,9 @@ use parser_events::parser::Parser;
 use parser_input::syntax_kind::SyntaxKind;
 
 /// Returns `true` if an item of both languages starts here, among statements.
+#[inline(always)]
 pub fn at_item(p: &mut Parser<'_>) -> bool
-    ensures sees { (c : Bool) → Saw c rows.item_begins p.old result }
+    ensures sees { (c : Condition) → Saw c rows.item_begins p.old result }
     ensures some { IsTrue result → 1 ≤ tokens p.old }
     ensures peeks { Peeks 2 p.old p.new }
 {
@@ -45,7 +46,7 @@ pub fn at_item(p: &mut Parser<'_>) -> bool
 
 /// Returns `true` if the token after the next one is `fn`, `impl` or `trait`.
 fn at_item_after_unsafe(p: &mut Parser<'_>) -> bool
-    ensures sees { (c : Bool) → Saw c (one_of 1 ('fn' ∷ 'impl' ∷ 'trait' ∷ [])) p.old result }
+    ensures sees { (c : Condition) → Saw c (one_of 1 ('fn' ∷ 'impl' ∷ 'trait' ∷ [])) p.old result }
     ensures peeks { Peeks 1 p.old p.new }
 {
     match nth(p, 1) {
@@ -56,7 +57,7 @@ fn at_item_after_unsafe(p: &mut Parser<'_>) -> bool
 
 /// Returns `true` if an item of the profile starts here, among statements, and the profile is read.
 pub fn at_profile_item(p: &mut Parser<'_>) -> bool
-    ensures sees { (c : Bool) → Saw c (Both rows.item_begins (Not (Whole 0))) p.old result }
+    ensures sees { (c : Condition) → Saw c (Both rows.item_begins (Not (Whole 0))) p.old result }
     ensures some { IsTrue result → 1 ≤ tokens p.old }
     ensures peeks { Peeks 2 p.old p.new }
 {
@@ -72,7 +73,7 @@ pub fn at_profile_item(p: &mut Parser<'_>) -> bool
 /// Returns `true` if a `let` after `super` starts here.
 // super let
 pub fn at_super_let(p: &mut Parser<'_>) -> bool
-    ensures sees { (c : Bool) → Saw c rows.super_let_begins p.old result }
+    ensures sees { (c : Condition) → Saw c rows.super_let_begins p.old result }
     ensures some { IsTrue result → 2 ≤ tokens p.old }
     ensures peeks { Peeks 2 p.old p.new }
 {
@@ -87,7 +88,7 @@ pub fn at_super_let(p: &mut Parser<'_>) -> bool
 
 /// Returns `true` if the token after `static` begins a closure.
 fn at_closure_after_static(p: &mut Parser<'_>) -> bool
-    ensures sees { (c : Bool) → Saw c (one_of 1 ('|' ∷ 'move' ∷ 'async' ∷ [])) p.old result }
+    ensures sees { (c : Condition) → Saw c (one_of 1 ('|' ∷ 'move' ∷ 'async' ∷ [])) p.old result }
     ensures peeks { Peeks 1 p.old p.new }
 {
     match nth(p, 1) {
@@ -99,7 +100,7 @@ fn at_closure_after_static(p: &mut Parser<'_>) -> bool
 /// Returns `true` if a const block starts here, or a closure after `static`: neither is an item.
 // const {
 fn at_no_item(p: &mut Parser<'_>) -> bool
-    ensures sees { (c : Bool) → Saw c rows.no_item_begins p.old result }
+    ensures sees { (c : Condition) → Saw c rows.no_item_begins p.old result }
     ensures peeks { Peeks 2 p.old p.new }
 {
     match current(p) {
@@ -121,7 +122,7 @@ fn at_no_item(p: &mut Parser<'_>) -> bool
 
 /// Returns `true` if an item starts here, among statements of the whole language.
 fn at_any_item(p: &mut Parser<'_>) -> bool
-    ensures sees { (c : Bool) → Saw c (wide rows.any_item_begins) p.old result }
+    ensures sees { (c : Condition) → Saw c (wide rows.any_item_begins) p.old result }
     ensures some { IsTrue result → 1 ≤ tokens p.old }
     ensures peeks { Peeks 24 p.old p.new }
 {
@@ -142,7 +143,7 @@ fn at_any_item(p: &mut Parser<'_>) -> bool
 
 /// Returns `true` if a statement starts here that only the whole language has, or an item there.
 pub fn at_new_statement(p: &mut Parser<'_>) -> bool
-    ensures sees { (c : Bool) → Saw c (wide rows.new_statement_begins) p.old result }
+    ensures sees { (c : Condition) → Saw c (wide rows.new_statement_begins) p.old result }
     ensures some { IsTrue result → 1 ≤ tokens p.old }
     ensures peeks { Peeks 32 p.old p.new }
 {
@@ -164,7 +165,7 @@ pub fn at_new_statement(p: &mut Parser<'_>) -> bool
 /// Returns `true` if an item starts here after attributes, among statements of the whole language.
 // pub fn
 pub fn at_item_after_attributes(p: &mut Parser<'_>) -> bool
-    ensures sees { (c : Bool) → Saw c (wide rows.item_after_attributes_begins) p.old result }
+    ensures sees { (c : Condition) → Saw c (wide rows.item_after_attributes_begins) p.old result }
     ensures some { IsTrue result → 1 ≤ tokens p.old }
     ensures peeks { Peeks 30 p.old p.new }
 {

@@ -1,6 +1,6 @@
 //! Token trees: tokens with brackets around them.
 
-ghost use Rattle.std.specs.Prelude.{◌≢◌, ◌*◌, ◌≤◌, Bool, IsTrue};
+ghost use Rattle.std.specs.Prelude.{◌≢◌, ◌*◌, ◌≤◌, IsTrue};
 ghost use Rattle.parser_input.specs.Kind.{raw_of};
 ghost use Rattle.parser_input.specs.Kinds as kinds;
 ghost use Rattle.parser_input.specs.Kinds.{TOKEN_TREE};
@@ -13,7 +13,7 @@ ghost use Rattle.rust_grammar.specs.Items.{inner_token};
 ghost use Rattle.rust_grammar.specs.Rule as rules;
 ghost use Rattle.rust_grammar.specs.Rule.{Either, Want, One};
 ghost use Rattle.rust_grammar.specs.Items as rows;
-ghost use Rattle.rust_productions.specs.Reads.{looks, Gives, Reads, Saw};
+ghost use Rattle.rust_productions.specs.Reads.{looks, Gives, Reads, Saw, Condition};
 
 use crate::grammar::{complete, current, error, expect, start, take, take_any};
 use parser_events::message::Message;
@@ -22,7 +22,7 @@ use parser_input::syntax_kind::SyntaxKind;
 
 /// Returns `true` if a token tree starts here.
 pub fn at_token_tree(p: &mut Parser<'_>) -> bool
-    ensures sees { (c : Bool) → Saw c (looks rules.token_tree) p.old result }
+    ensures sees { (c : Condition) → Saw c (looks rules.token_tree) p.old result }
     ensures some { IsTrue result → 1 ≤ tokens p.old }
     ensures peeks { Peeks 1 p.old p.new }
 {
@@ -34,7 +34,7 @@ pub fn at_token_tree(p: &mut Parser<'_>) -> bool
 
 /// Returns `true` if a token is next that is no closing delimiter.
 fn at_inner(p: &mut Parser<'_>) -> bool
-    ensures sees { (c : Bool) → Saw c
+    ensures sees { (c : Condition) → Saw c
         (Either (looks rules.token_tree) rows.no_closing) p.old result }
     ensures some { IsTrue result → 1 ≤ tokens p.old }
     ensures peeks { Peeks 1 p.old p.new }
@@ -50,7 +50,7 @@ fn at_inner(p: &mut Parser<'_>) -> bool
 #[cycle(token_trees)]
 fn inner(p: &mut Parser<'_>)
     requires { 1 ≤ tokens p.old }
-    ensures reads { (c : Bool) → Reads c inner_token p.old p.new }
+    ensures reads { (c : Condition) → Reads c inner_token p.old p.new }
     ensures takes { Takes 4000 p.old p.new }
 {
     if at_token_tree(p) {
@@ -64,7 +64,7 @@ fn inner(p: &mut Parser<'_>)
 // a (b) c
 #[cycle(token_trees)]
 fn inner_tokens(p: &mut Parser<'_>)
-    ensures reads { (c : Bool) → Reads c (inner_token *) p.old p.new }
+    ensures reads { (c : Condition) → Reads c (inner_token *) p.old p.new }
     ensures asks { Asks 1 p.old p.new }
 {
     'turns: while at_inner(p) {
@@ -78,7 +78,7 @@ fn inner_tokens(p: &mut Parser<'_>)
 fn bracketed(p: &mut Parser<'_>, opening: SyntaxKind, closing: SyntaxKind)
     requires some { 1 ≤ tokens p.old }
     requires closing { raw_of closing ≢ kinds.EOF }
-    ensures reads { (c : Bool) → Reads c
+    ensures reads { (c : Condition) → Reads c
         (TOKEN_TREE
         ⟨ One (one (raw_of opening))
         ▸ inner_token *
@@ -97,7 +97,7 @@ fn bracketed(p: &mut Parser<'_>, opening: SyntaxKind, closing: SyntaxKind)
 #[cycle(token_trees)]
 pub fn token_tree(p: &mut Parser<'_>)
     requires { 1 ≤ tokens p.old }
-    ensures gives { (c : Bool) → Gives rules.token_tree c p.old p.new }
+    ensures gives { (c : Condition) → Gives rules.token_tree c p.old p.new }
     ensures takes { Takes 4070 p.old p.new }
 {
     match current(p) {
@@ -110,7 +110,7 @@ pub fn token_tree(p: &mut Parser<'_>)
 /// Parses a token tree; emits an error if there is none.
 // (a b)
 pub fn expect_token_tree(p: &mut Parser<'_>)
-    ensures reads { (c : Bool) → Reads c (TokenTree !) p.old p.new }
+    ensures reads { (c : Condition) → Reads c (TokenTree !) p.old p.new }
     ensures asks { Asks 1 p.old p.new }
 {
     if at_token_tree(p) {

@@ -1,6 +1,6 @@
 //! Types.
 
-ghost use Rattle.std.specs.Prelude.{◌≤◌, Bool, IsTrue, true, [], ◌∷◌};
+ghost use Rattle.std.specs.Prelude.{◌≤◌, IsTrue, true, [], ◌∷◌};
 ghost use Rattle.parser_input.specs.Kinds as kinds;
 ghost use Rattle.rust_productions.specs.Looks.{tokens, Peeks};
 ghost use Rattle.rust_grammar.specs.Rule as rules;
@@ -8,7 +8,7 @@ ghost use Rattle.rust_grammar.specs.Notation.{one_of, wide};
 ghost use Rattle.rust_grammar.specs.Rule.{begins};
 ghost use Rattle.rust_grammar.specs.Words.{'ident', '_'};
 ghost use Rattle.rust_grammar.specs.Types as rows;
-ghost use Rattle.rust_productions.specs.Reads.{looks, Saw};
+ghost use Rattle.rust_productions.specs.Reads.{looks, Saw, Condition};
 
 use crate::grammar::paths::at_path;
 use crate::grammar::{
@@ -20,7 +20,7 @@ use parser_input::syntax_kind::SyntaxKind;
 /// Returns `true` if the second token can follow `dyn` in the whole language alone: `(`, or `for`
 /// before `<`.
 fn at_new_after_dyn(p: &mut Parser<'_>) -> bool
-    ensures sees { (c : Bool) → Saw c (wide rows.new_after_dyn) p.old result }
+    ensures sees { (c : Condition) → Saw c (wide rows.new_after_dyn) p.old result }
     ensures peeks { Peeks 3 p.old p.new }
 {
     if !at_whole(p) {
@@ -40,7 +40,7 @@ fn at_new_after_dyn(p: &mut Parser<'_>) -> bool
 
 /// Returns `true` if `dyn` is next as an identifier, before a token that can follow `dyn`.
 pub fn at_dyn_word(p: &mut Parser<'_>) -> bool
-    ensures sees { (c : Bool) → Saw c rows.dyn_begins p.old result }
+    ensures sees { (c : Condition) → Saw c rows.dyn_begins p.old result }
     ensures some { IsTrue result → 1 ≤ tokens p.old }
     ensures peeks { Peeks 4 p.old p.new }
 {
@@ -66,7 +66,7 @@ pub fn at_dyn_word(p: &mut Parser<'_>) -> bool
 
 /// Returns `true` if a function pointer type starts here.
 pub fn at_fn_ptr(p: &mut Parser<'_>) -> bool
-    ensures sees { (c : Bool) → Saw c rows.fn_ptr_begins p.old result }
+    ensures sees { (c : Condition) → Saw c rows.fn_ptr_begins p.old result }
     ensures some { IsTrue result → 1 ≤ tokens p.old }
     ensures peeks { Peeks 3 p.old p.new }
 {
@@ -88,7 +88,7 @@ pub fn at_fn_ptr(p: &mut Parser<'_>) -> bool
 /// Returns `true` if a type starts here that only the whole language has, or that may have bounds
 /// after it there.
 pub fn at_new_type(p: &mut Parser<'_>) -> bool
-    ensures sees { (c : Bool) → Saw c (wide rows.new_type_begins) p.old result }
+    ensures sees { (c : Condition) → Saw c (wide rows.new_type_begins) p.old result }
     ensures some { IsTrue result → 1 ≤ tokens p.old }
     ensures peeks { Peeks 7 p.old p.new }
 {
@@ -123,8 +123,8 @@ pub fn at_new_type(p: &mut Parser<'_>) -> bool
 
 /// Returns `true` if a type starts here that the whole language reads without the bounds after it.
 pub fn at_bare_type(p: &mut Parser<'_>) -> bool
-    ensures sees { (c : Bool) → Saw c (wide rows.bare_type_begins) p.old result }
-    ensures front { IsTrue result → (c : Bool) → Saw c rows.for_or_path_begins p.old true }
+    ensures sees { (c : Condition) → Saw c (wide rows.bare_type_begins) p.old result }
+    ensures front { IsTrue result → (c : Condition) → Saw c rows.for_or_path_begins p.old true }
     ensures some { IsTrue result → 1 ≤ tokens p.old }
     ensures peeks { Peeks 8 p.old p.new }
 {
@@ -153,7 +153,7 @@ pub fn at_bare_type(p: &mut Parser<'_>) -> bool
 
 /// Returns `true` if a type starts here.
 pub fn at_type(p: &mut Parser<'_>) -> bool
-    ensures sees { (c : Bool) → Saw c (looks rules.any_type) p.old result }
+    ensures sees { (c : Condition) → Saw c (looks rules.any_type) p.old result }
     ensures some { IsTrue result → 1 ≤ tokens p.old }
     ensures peeks { Peeks 16 p.old p.new }
 {
@@ -183,7 +183,7 @@ pub fn at_type(p: &mut Parser<'_>) -> bool
 
 /// Returns `true` if a type starts here that has no bounds after it.
 pub fn at_type_no_bounds(p: &mut Parser<'_>) -> bool
-    ensures sees { (c : Bool) → Saw c (looks rules.type_no_bounds) p.old result }
+    ensures sees { (c : Condition) → Saw c (looks rules.type_no_bounds) p.old result }
     ensures some { IsTrue result → 1 ≤ tokens p.old }
     ensures peeks { Peeks 24 p.old p.new }
 {
@@ -198,8 +198,8 @@ pub fn at_type_no_bounds(p: &mut Parser<'_>) -> bool
 
 /// Returns `true` if an identifier or a `_` is next.
 fn at_ident_or_underscore(p: &mut Parser<'_>) -> bool
-    ensures sees { (c : Bool) → Saw c (one_of 0 ('ident' ∷ '_' ∷ [])) p.old result }
-    ensures pattern { IsTrue result → (c : Bool) → Saw c (looks rules.single_pattern) p.old true }
+    ensures sees { (c : Condition) → Saw c (one_of 0 ('ident' ∷ '_' ∷ [])) p.old result }
+    ensures pattern { IsTrue result → (c : Condition) → Saw c (looks rules.single_pattern) p.old true }
     ensures some { IsTrue result → 1 ≤ tokens p.old }
     ensures peeks { Peeks 1 p.old p.new }
 {
@@ -211,8 +211,8 @@ fn at_ident_or_underscore(p: &mut Parser<'_>) -> bool
 
 /// Returns `true` if a parameter of a function pointer type starts here with a name.
 pub fn at_named_param(p: &mut Parser<'_>) -> bool
-    ensures sees { (c : Bool) → Saw c rows.named_param_begins p.old result }
-    ensures pattern { IsTrue result → (c : Bool) → Saw c (looks rules.single_pattern) p.old true }
+    ensures sees { (c : Condition) → Saw c rows.named_param_begins p.old result }
+    ensures pattern { IsTrue result → (c : Condition) → Saw c (looks rules.single_pattern) p.old true }
     ensures some { IsTrue result → 1 ≤ tokens p.old }
     ensures peeks { Peeks 4 p.old p.new }
 {
@@ -230,7 +230,7 @@ pub fn at_named_param(p: &mut Parser<'_>) -> bool
 
 /// Returns `true` if a parameter of a function pointer type starts here.
 pub fn at_fn_ptr_param(p: &mut Parser<'_>) -> bool
-    ensures sees { (c : Bool) → Saw c (begins looks rows.fn_ptr_param) p.old result }
+    ensures sees { (c : Condition) → Saw c (begins looks rows.fn_ptr_param) p.old result }
     ensures peeks { Peeks 24 p.old p.new }
 {
     if at_new(p, SyntaxKind::POUND) {

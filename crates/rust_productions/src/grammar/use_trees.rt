@@ -1,6 +1,6 @@
 //! What a `use` names.
 
-ghost use Rattle.std.specs.Prelude.{◌*◌, ◌≤◌, Bool, true, false, IsTrue, [], ◌∷◌};
+ghost use Rattle.std.specs.Prelude.{◌*◌, ◌≤◌, true, false, IsTrue, [], ◌∷◌};
 ghost use Rattle.parser_input.specs.Kinds as kinds;
 ghost use Rattle.parser_input.specs.Kinds.{USE_TREE, USE_TREE_LIST};
 ghost use Rattle.rust_productions.specs.Looks.{tokens, Takes, Asks, Peeks};
@@ -12,7 +12,7 @@ ghost use Rattle.rust_grammar.specs.Shared.{colons_before_more, path_goes_on};
 ghost use Rattle.rust_grammar.specs.Rule as rules;
 ghost use Rattle.rust_grammar.specs.Rule.{Both, Either, Not, Unless};
 ghost use Rattle.rust_grammar.specs.Items as rows;
-ghost use Rattle.rust_productions.specs.Reads.{looks, Gives, Reads, Saw};
+ghost use Rattle.rust_productions.specs.Reads.{looks, Gives, Reads, Saw, Condition, Off};
 
 use crate::grammar::lists::{at_list_end, at_unexpected, comma};
 use crate::grammar::names::expect_name;
@@ -26,7 +26,7 @@ use parser_input::syntax_kind::SyntaxKind;
 
 /// Returns `true` if `::` is next, and `*` or `{` after it.
 fn at_colons_before_more(p: &mut Parser<'_>) -> bool
-    ensures sees { (c : Bool) → Saw c colons_before_more p.old result }
+    ensures sees { (c : Condition) → Saw c colons_before_more p.old result }
     ensures some { IsTrue result → 3 ≤ tokens p.old }
     ensures peeks { Peeks 4 p.old p.new }
 {
@@ -44,7 +44,7 @@ fn at_colons_before_more(p: &mut Parser<'_>) -> bool
 
 /// Returns `true` if a use tree starts here.
 fn at_use_tree(p: &mut Parser<'_>) -> bool
-    ensures sees { (c : Bool) → Saw c (looks rules.use_tree) p.old result }
+    ensures sees { (c : Condition) → Saw c (looks rules.use_tree) p.old result }
     ensures some { IsTrue result → 1 ≤ tokens p.old }
     ensures peeks { Peeks 6 p.old p.new }
 {
@@ -63,7 +63,7 @@ fn at_use_tree(p: &mut Parser<'_>) -> bool
 /// Parses a use tree; emits an error if there is none.
 // a::b
 pub(crate) fn expect_use_tree(p: &mut Parser<'_>)
-    ensures reads { (c : Bool) → Reads c (UseTree !) p.old p.new }
+    ensures reads { (c : Condition) → Reads c (UseTree !) p.old p.new }
     ensures asks { Asks 6 p.old p.new }
 {
     if at_use_tree(p) {
@@ -77,7 +77,7 @@ pub(crate) fn expect_use_tree(p: &mut Parser<'_>)
 // as b
 fn rename(p: &mut Parser<'_>)
     requires { 1 ≤ tokens p.old }
-    ensures reads { (c : Bool) → Reads c rows.rename p.old p.new }
+    ensures reads { (c : Condition) → Reads c rows.rename p.old p.new }
     ensures takes { Takes 4090 p.old p.new }
 {
     let rename = start(p);
@@ -89,7 +89,7 @@ fn rename(p: &mut Parser<'_>)
 /// Parses an optional rename.
 // as b
 pub(crate) fn opt_rename(p: &mut Parser<'_>)
-    ensures reads { (c : Bool) → Reads c ⁅ rows.rename ⁆ p.old p.new }
+    ensures reads { (c : Condition) → Reads c ⁅ rows.rename ⁆ p.old p.new }
     ensures asks { Asks 1 p.old p.new }
 {
     if at(p, SyntaxKind::AS_KW) {
@@ -100,7 +100,7 @@ pub(crate) fn opt_rename(p: &mut Parser<'_>)
 /// Parses `_` or a name; emits an error if there is neither.
 // _
 pub fn underscore_or_name(p: &mut Parser<'_>)
-    ensures reads { (c : Bool) → Reads c rows.underscore_or_name p.old p.new }
+    ensures reads { (c : Condition) → Reads c rows.underscore_or_name p.old p.new }
     ensures asks { Asks 2 p.old p.new }
 {
     if at(p, SyntaxKind::UNDERSCORE) {
@@ -115,7 +115,7 @@ pub fn underscore_or_name(p: &mut Parser<'_>)
 #[cycle(use_trees)]
 fn star_or_list(p: &mut Parser<'_>)
     requires { 1 ≤ tokens p.old }
-    ensures reads { (c : Bool) → Reads c rows.star_or_list p.old p.new }
+    ensures reads { (c : Condition) → Reads c rows.star_or_list p.old p.new }
     ensures takes { Takes 3900 p.old p.new }
 {
     if at(p, SyntaxKind::STAR) {
@@ -129,8 +129,8 @@ fn star_or_list(p: &mut Parser<'_>)
 // ::{a, b}
 #[cycle(use_trees)]
 fn after_path(p: &mut Parser<'_>)
-    requires ends { (c : Bool) → Saw c path_goes_on p.old false }
-    ensures reads { (c : Bool) → Reads c after_use p.old p.new }
+    requires ends { (c : Condition) → Saw c path_goes_on p.old false }
+    ensures reads { (c : Condition) → Reads c after_use p.old p.new }
     ensures asks { Asks 5 p.old p.new }
 {
     if at_colons_before_more(p) {
@@ -147,9 +147,9 @@ fn after_path(p: &mut Parser<'_>)
 // a::{b, c}
 #[cycle(use_trees)]
 fn path_tree(p: &mut Parser<'_>)
-    requires begins { (c : Bool) → Saw c (looks rules.path) p.old true }
+    requires begins { (c : Condition) → Saw c (looks rules.path) p.old true }
     requires some { 1 ≤ tokens p.old }
-    ensures reads { (c : Bool) → Reads c rows.path_tree p.old p.new }
+    ensures reads { (c : Condition) → Reads c rows.path_tree p.old p.new }
     ensures takes { Takes 3900 p.old p.new }
 {
     path(p);
@@ -160,9 +160,9 @@ fn path_tree(p: &mut Parser<'_>)
 // {a, b}
 #[cycle(use_trees)]
 fn after_colons(p: &mut Parser<'_>)
-    requires next { (c : Bool) → Saw c (one_of 0 ('*' ∷ 'l_curly' ∷ [])) p.old true }
+    requires next { (c : Condition) → Saw c (one_of 0 ('*' ∷ 'l_curly' ∷ [])) p.old true }
     requires some { 1 ≤ tokens p.old }
-    ensures reads { (c : Bool) → Reads c rows.after_colons p.old p.new }
+    ensures reads { (c : Condition) → Reads c rows.after_colons p.old p.new }
     ensures takes { Takes 3900 p.old p.new }
 {
     if at(p, SyntaxKind::STAR) {
@@ -176,9 +176,9 @@ fn after_colons(p: &mut Parser<'_>)
 // a::{b, c}
 #[cycle(use_trees)]
 fn inside(p: &mut Parser<'_>)
-    requires begins { (c : Bool) → Saw c (looks rules.use_tree) p.old true }
+    requires begins { (c : Condition) → Saw c (looks rules.use_tree) p.old true }
     requires some { 1 ≤ tokens p.old }
-    ensures reads { (c : Bool) → Reads c rows.in_use_tree p.old p.new }
+    ensures reads { (c : Condition) → Reads c rows.in_use_tree p.old p.new }
     ensures takes { Takes 3890 p.old p.new }
 {
     if at_colons_before_more(p) {
@@ -197,9 +197,9 @@ fn inside(p: &mut Parser<'_>)
 // a::{b, c}
 #[cycle(use_trees)]
 pub fn use_tree(p: &mut Parser<'_>)
-    requires begins { (c : Bool) → Saw c (looks rules.use_tree) p.old true }
+    requires begins { (c : Condition) → Saw c (looks rules.use_tree) p.old true }
     requires some { 1 ≤ tokens p.old }
-    ensures gives { (c : Bool) → Gives rules.use_tree c p.old p.new }
+    ensures gives { (c : Condition) → Gives rules.use_tree c p.old p.new }
     ensures takes { Takes 3880 p.old p.new }
 {
     let tree = start(p);
@@ -212,7 +212,7 @@ pub fn use_tree(p: &mut Parser<'_>)
 #[cycle(use_trees)]
 pub fn use_list(p: &mut Parser<'_>)
     requires { 1 ≤ tokens p.old }
-    ensures gives { (c : Bool) → Gives rules.use_list c p.old p.new }
+    ensures gives { (c : Condition) → Gives rules.use_list c p.old p.new }
     ensures takes { Takes 4000 p.old p.new }
 {
     let list = start(p);
@@ -224,7 +224,7 @@ pub fn use_list(p: &mut Parser<'_>)
 
 /// Returns `true` if a use tree list continues here.
 fn at_use_turn(p: &mut Parser<'_>) -> bool
-    ensures sees { (c : Bool) → Saw c
+    ensures sees { (c : Condition) → Saw c
         (Both (Not (until 'r_curly')) (Either (looks rules.use_tree) unexpected)) p.old result }
     ensures some { IsTrue result → 1 ≤ tokens p.old }
     ensures peeks { Peeks 9 p.old p.new }
@@ -246,7 +246,7 @@ fn at_use_turn(p: &mut Parser<'_>) -> bool
 #[cycle(use_trees)]
 fn use_turn(p: &mut Parser<'_>)
     requires { 1 ≤ tokens p.old }
-    ensures reads { Reads false (list_element USE_TREE_LIST UseTree 'r_curly') p.old p.new }
+    ensures reads { Reads Off (list_element USE_TREE_LIST UseTree 'r_curly') p.old p.new }
     ensures takes { Takes 3860 p.old p.new }
 {
     if at_use_tree(p) {
@@ -261,7 +261,7 @@ fn use_turn(p: &mut Parser<'_>)
 // a, b as c
 #[cycle(use_trees)]
 fn use_turns(p: &mut Parser<'_>)
-    ensures reads { Reads false
+    ensures reads { Reads Off
         ((Unless (until 'r_curly')
         (list_element USE_TREE_LIST UseTree 'r_curly')) *) p.old p.new }
     ensures asks { Asks 9 p.old p.new }

@@ -1,6 +1,6 @@
 //! Visibility.
 
-ghost use Rattle.std.specs.Prelude.{◌≤◌, Bool, IsTrue};
+ghost use Rattle.std.specs.Prelude.{◌≤◌, IsTrue};
 ghost use Rattle.rust_productions.specs.Looks.{tokens, Takes, Asks, Peeks};
 ghost use Rattle.rust_grammar.specs.Notation.{⁅◌⁆};
 ghost use Rattle.rust_grammar.specs.Calls.{Visibility};
@@ -8,7 +8,7 @@ ghost use Rattle.rust_grammar.specs.Items.{visibility_goes_on};
 ghost use Rattle.rust_grammar.specs.Rule as rules;
 ghost use Rattle.rust_grammar.specs.Rule.{When};
 ghost use Rattle.rust_grammar.specs.Items as rows;
-ghost use Rattle.rust_productions.specs.Reads.{Gives, Reads, Saw};
+ghost use Rattle.rust_productions.specs.Reads.{Gives, Reads, Saw, Condition};
 
 use crate::grammar::paths::expect_path;
 use crate::grammar::{at, at_second, at_third, complete, eat, expect, nth, start, take};
@@ -17,7 +17,7 @@ use parser_input::syntax_kind::SyntaxKind;
 
 /// Returns `true` if the scope of a visibility is next, in its parentheses.
 fn at_scope(p: &mut Parser<'_>) -> bool
-    ensures sees { (c : Bool) → Saw c visibility_goes_on p.old result }
+    ensures sees { (c : Condition) → Saw c visibility_goes_on p.old result }
     ensures some { IsTrue result → 1 ≤ tokens p.old }
     ensures peeks { Peeks 4 p.old p.new }
 {
@@ -39,7 +39,7 @@ fn at_scope(p: &mut Parser<'_>) -> bool
 /// Parses the optional scope of a visibility, in its parentheses.
 // (in a::b)
 fn opt_scope(p: &mut Parser<'_>)
-    ensures reads { (c : Bool) → Reads c
+    ensures reads { (c : Condition) → Reads c
         ⁅ When visibility_goes_on rows.visibility_scope ⁆ p.old p.new }
     ensures asks { Asks 4 p.old p.new }
 {
@@ -55,7 +55,7 @@ fn opt_scope(p: &mut Parser<'_>)
 // pub(crate)
 pub fn visibility(p: &mut Parser<'_>)
     requires { 1 ≤ tokens p.old }
-    ensures gives { (c : Bool) → Gives rules.visibility c p.old p.new }
+    ensures gives { (c : Condition) → Gives rules.visibility c p.old p.new }
     ensures takes { Takes 4092 p.old p.new }
 {
     let visibility = start(p);
@@ -67,7 +67,7 @@ pub fn visibility(p: &mut Parser<'_>)
 /// Parses an optional visibility.
 // pub(crate)
 pub fn opt_visibility(p: &mut Parser<'_>)
-    ensures reads { (c : Bool) → Reads c ⁅ Visibility ⁆ p.old p.new }
+    ensures reads { (c : Condition) → Reads c ⁅ Visibility ⁆ p.old p.new }
     ensures asks { Asks 1 p.old p.new }
 {
     if at(p, SyntaxKind::PUB_KW) {

@@ -152,14 +152,14 @@ expressions::atom::after_path-wrap-requires = atom.expressions::atom::after_path
 pub expressions::atom::after_path-wrap-frame-requires : goal.expressions::atom::after_path-wrap-frame-requires
 expressions::atom::after_path-wrap-frame-requires = atom.expressions::atom::after_path-wrap-frame-requires
 
-pub expressions::atom::after_path-wrap-requires-then-condition : goal.expressions::atom::after_path-wrap-requires-then-condition
-expressions::atom::after_path-wrap-requires-then-condition = atom.expressions::atom::after_path-wrap-requires-then-condition
+pub expressions::atom::after_path-wrap-requires-in-On : goal.expressions::atom::after_path-wrap-requires-in-On
+expressions::atom::after_path-wrap-requires-in-On = atom.expressions::atom::after_path-wrap-requires-in-On
 
 pub expressions::atom::after_path-wrap-requires-then-at-2 : goal.expressions::atom::after_path-wrap-requires-then-at-2
 expressions::atom::after_path-wrap-requires-then-at-2 = atom.expressions::atom::after_path-wrap-requires-then-at-2
 
-pub expressions::atom::after_path-wrap-requires-2 : goal.expressions::atom::after_path-wrap-requires-2
-expressions::atom::after_path-wrap-requires-2 = atom.expressions::atom::after_path-wrap-requires-2
+pub expressions::atom::after_path-wrap-requires-in-Off : goal.expressions::atom::after_path-wrap-requires-in-Off
+expressions::atom::after_path-wrap-requires-in-Off = atom.expressions::atom::after_path-wrap-requires-in-Off
 
 pub expressions::atom::after_path-returns-then-at_pair-clause-reads : goal.expressions::atom::after_path-returns-then-at_pair-clause-reads
 expressions::atom::after_path-returns-then-at_pair-clause-reads = atom.expressions::atom::after_path-returns-then-at_pair-clause-reads
@@ -167,14 +167,14 @@ expressions::atom::after_path-returns-then-at_pair-clause-reads = atom.expressio
 pub expressions::atom::after_path-returns-then-at-clause-reads : goal.expressions::atom::after_path-returns-then-at-clause-reads
 expressions::atom::after_path-returns-then-at-clause-reads = atom.expressions::atom::after_path-returns-then-at-clause-reads
 
-pub expressions::atom::after_path-returns-then-condition-clause-reads : goal.expressions::atom::after_path-returns-then-condition-clause-reads
-expressions::atom::after_path-returns-then-condition-clause-reads = atom.expressions::atom::after_path-returns-then-condition-clause-reads
+pub expressions::atom::after_path-returns-in-On-clause-reads : goal.expressions::atom::after_path-returns-in-On-clause-reads
+expressions::atom::after_path-returns-in-On-clause-reads = atom.expressions::atom::after_path-returns-in-On-clause-reads
 
 pub expressions::atom::after_path-returns-then-at-2-clause-reads : goal.expressions::atom::after_path-returns-then-at-2-clause-reads
 expressions::atom::after_path-returns-then-at-2-clause-reads = atom.expressions::atom::after_path-returns-then-at-2-clause-reads
 
-pub expressions::atom::after_path-returns-clause-reads : goal.expressions::atom::after_path-returns-clause-reads
-expressions::atom::after_path-returns-clause-reads = atom.expressions::atom::after_path-returns-clause-reads
+pub expressions::atom::after_path-returns-else-at-2-clause-reads : goal.expressions::atom::after_path-returns-else-at-2-clause-reads
+expressions::atom::after_path-returns-else-at-2-clause-reads = atom.expressions::atom::after_path-returns-else-at-2-clause-reads
 
 pub expressions::atom::paren_expr-after_paren-requires : goal.expressions::atom::paren_expr-after_paren-requires
 expressions::atom::paren_expr-after_paren-requires = atom.expressions::atom::paren_expr-after_paren-requires
@@ -803,11 +803,11 @@ new_bounds::opt_binder-returns-then-at_binder-clause-reads = new_bounds.new_boun
 pub new_bounds::opt_binder-returns-else-at_binder-clause-reads : goal.new_bounds::opt_binder-returns-else-at_binder-clause-reads
 new_bounds::opt_binder-returns-else-at_binder-clause-reads = new_bounds.new_bounds::opt_binder-returns-else-at_binder-clause-reads
 
-pub new_params::new_param-returns-then-at-clause-anew : goal.new_params::new_param-returns-then-at-clause-anew
-new_params::new_param-returns-then-at-clause-anew = new_params.new_params::new_param-returns-then-at-clause-anew
+pub new_params::new_param-returns-then-at-clause-from_start : goal.new_params::new_param-returns-then-at-clause-from_start
+new_params::new_param-returns-then-at-clause-from_start = new_params.new_params::new_param-returns-then-at-clause-from_start
 
-pub new_params::new_param-returns-clause-anew : goal.new_params::new_param-returns-clause-anew
-new_params::new_param-returns-clause-anew = new_params.new_params::new_param-returns-clause-anew
+pub new_params::new_param-returns-clause-from_start : goal.new_params::new_param-returns-clause-from_start
+new_params::new_param-returns-clause-from_start = new_params.new_params::new_param-returns-clause-from_start
 
 pub new_params::const_param-complete-requires : goal.new_params::const_param-complete-requires
 new_params::const_param-complete-requires = new_params.new_params::const_param-complete-requires
@@ -827,8 +827,8 @@ new_params::const_default-returns-else-at-clause-reads = new_params.new_params::
 pub new_params::attributed_param-after_attributes-requires : goal.new_params::attributed_param-after_attributes-requires
 new_params::attributed_param-after_attributes-requires = new_params.new_params::attributed_param-after_attributes-requires
 
-pub new_params::attributed_param-returns-clause-anew : goal.new_params::attributed_param-returns-clause-anew
-new_params::attributed_param-returns-clause-anew = new_params.new_params::attributed_param-returns-clause-anew
+pub new_params::attributed_param-returns-clause-from_start : goal.new_params::attributed_param-returns-clause-from_start
+new_params::attributed_param-returns-clause-from_start = new_params.new_params::attributed_param-returns-clause-from_start
 
 pub new_params::after_attributes-complete-requires : goal.new_params::after_attributes-complete-requires
 new_params::after_attributes-complete-requires = new_params.new_params::after_attributes-complete-requires
@@ -875,8 +875,8 @@ items::attributed_item-attributes_and_visibility-requires = items.items::attribu
 pub items::attributed_item-body-requires : goal.items::attributed_item-body-requires
 items::attributed_item-body-requires = items.items::attributed_item-body-requires
 
-pub items::attributed_item-returns-clause-anew : goal.items::attributed_item-returns-clause-anew
-items::attributed_item-returns-clause-anew = items.items::attributed_item-returns-clause-anew
+pub items::attributed_item-returns-clause-from_start : goal.items::attributed_item-returns-clause-from_start
+items::attributed_item-returns-clause-from_start = items.items::attributed_item-returns-clause-from_start
 
 pub items::attributes_and_visibility-returns-clause-reads : goal.items::attributes_and_visibility-returns-clause-reads
 items::attributes_and_visibility-returns-clause-reads = items.items::attributes_and_visibility-returns-clause-reads
@@ -884,14 +884,14 @@ items::attributes_and_visibility-returns-clause-reads = items.items::attributes_
 pub items::visible_item-body-requires : goal.items::visible_item-body-requires
 items::visible_item-body-requires = items.items::visible_item-body-requires
 
-pub items::visible_item-returns-clause-anew : goal.items::visible_item-returns-clause-anew
-items::visible_item-returns-clause-anew = items.items::visible_item-returns-clause-anew
+pub items::visible_item-returns-clause-from_start : goal.items::visible_item-returns-clause-from_start
+items::visible_item-returns-clause-from_start = items.items::visible_item-returns-clause-from_start
 
 pub items::bare_item-body-requires : goal.items::bare_item-body-requires
 items::bare_item-body-requires = items.items::bare_item-body-requires
 
-pub items::bare_item-returns-clause-anew : goal.items::bare_item-returns-clause-anew
-items::bare_item-returns-clause-anew = items.items::bare_item-returns-clause-anew
+pub items::bare_item-returns-clause-from_start : goal.items::bare_item-returns-clause-from_start
+items::bare_item-returns-clause-from_start = items.items::bare_item-returns-clause-from_start
 
 pub items::bare_item-returns-clause-takes : goal.items::bare_item-returns-clause-takes
 items::bare_item-returns-clause-takes = items.items::bare_item-returns-clause-takes
@@ -1256,8 +1256,8 @@ expressions::operand::framed_operand-postfixes-frame-requires = operand.expressi
 pub expressions::operand::framed_operand-returns-clause-completes : goal.expressions::operand::framed_operand-returns-clause-completes
 expressions::operand::framed_operand-returns-clause-completes = operand.expressions::operand::framed_operand-returns-clause-completes
 
-pub expressions::operand::operand-returns-clause-anew : goal.expressions::operand::operand-returns-clause-anew
-expressions::operand::operand-returns-clause-anew = operand.expressions::operand::operand-returns-clause-anew
+pub expressions::operand::operand-returns-clause-from_start : goal.expressions::operand::operand-returns-clause-from_start
+expressions::operand::operand-returns-clause-from_start = operand.expressions::operand::operand-returns-clause-from_start
 
 pub expressions::operand::postfixes-turns-preserved : goal.expressions::operand::postfixes-turns-preserved
 expressions::operand::postfixes-turns-preserved = operand.expressions::operand::postfixes-turns-preserved
@@ -1571,11 +1571,11 @@ statements::expression_statement-block_statement-requires = statements.statement
 pub statements::expression_statement-ended_expression-requires : goal.statements::expression_statement-ended_expression-requires
 statements::expression_statement-ended_expression-requires = statements.statements::expression_statement-ended_expression-requires
 
-pub statements::expression_statement-returns-then-at_expression-clause-anew : goal.statements::expression_statement-returns-then-at_expression-clause-anew
-statements::expression_statement-returns-then-at_expression-clause-anew = statements.statements::expression_statement-returns-then-at_expression-clause-anew
+pub statements::expression_statement-returns-then-at_expression-clause-from_start : goal.statements::expression_statement-returns-then-at_expression-clause-from_start
+statements::expression_statement-returns-then-at_expression-clause-from_start = statements.statements::expression_statement-returns-then-at_expression-clause-from_start
 
-pub statements::expression_statement-returns-clause-anew : goal.statements::expression_statement-returns-clause-anew
-statements::expression_statement-returns-clause-anew = statements.statements::expression_statement-returns-clause-anew
+pub statements::expression_statement-returns-clause-from_start : goal.statements::expression_statement-returns-clause-from_start
+statements::expression_statement-returns-clause-from_start = statements.statements::expression_statement-returns-clause-from_start
 
 pub statements::block_statement-block_like-requires : goal.statements::block_statement-block_like-requires
 statements::block_statement-block_like-requires = statements.statements::block_statement-block_like-requires
@@ -1604,8 +1604,8 @@ statements::ended_expression-expression-requires = statements.statements::ended_
 pub statements::ended_expression-statement_end-frame-requires : goal.statements::ended_expression-statement_end-frame-requires
 statements::ended_expression-statement_end-frame-requires = statements.statements::ended_expression-statement_end-frame-requires
 
-pub statements::ended_expression-returns-clause-anew : goal.statements::ended_expression-returns-clause-anew
-statements::ended_expression-returns-clause-anew = statements.statements::ended_expression-returns-clause-anew
+pub statements::ended_expression-returns-clause-from_start : goal.statements::ended_expression-returns-clause-from_start
+statements::ended_expression-returns-clause-from_start = statements.statements::ended_expression-returns-clause-from_start
 
 pub items::traits::impl_item-unsafe_word-requires : goal.items::traits::impl_item-unsafe_word-requires
 items::traits::impl_item-unsafe_word-requires = traits.items::traits::impl_item-unsafe_word-requires
@@ -1949,14 +1949,14 @@ generic_args::generic_arg-type_arg-requires = generic_args.generic_args::generic
 pub generic_args::generic_arg-returns-else-at_literal-clause-gives : goal.generic_args::generic_arg-returns-else-at_literal-clause-gives
 generic_args::generic_arg-returns-else-at_literal-clause-gives = generic_args.generic_args::generic_arg-returns-else-at_literal-clause-gives
 
-pub generic_args::word_arg-returns-then-at_second-clause-anew : goal.generic_args::word_arg-returns-then-at_second-clause-anew
-generic_args::word_arg-returns-then-at_second-clause-anew = generic_args.generic_args::word_arg-returns-then-at_second-clause-anew
+pub generic_args::word_arg-returns-then-at_second-clause-from_start : goal.generic_args::word_arg-returns-then-at_second-clause-from_start
+generic_args::word_arg-returns-then-at_second-clause-from_start = generic_args.generic_args::word_arg-returns-then-at_second-clause-from_start
 
 pub generic_args::word_arg-type_arg-requires : goal.generic_args::word_arg-type_arg-requires
 generic_args::word_arg-type_arg-requires = generic_args.generic_args::word_arg-type_arg-requires
 
-pub generic_args::word_arg-returns-clause-anew : goal.generic_args::word_arg-returns-clause-anew
-generic_args::word_arg-returns-clause-anew = generic_args.generic_args::word_arg-returns-clause-anew
+pub generic_args::word_arg-returns-clause-from_start : goal.generic_args::word_arg-returns-clause-from_start
+generic_args::word_arg-returns-clause-from_start = generic_args.generic_args::word_arg-returns-clause-from_start
 
 pub generic_args::type_arg-any_type-requires : goal.generic_args::type_arg-any_type-requires
 generic_args::type_arg-any_type-requires = generic_args.generic_args::type_arg-any_type-requires
@@ -2297,8 +2297,8 @@ fields::pattern_field-shorthand-requires-clause-begins = fields.fields::pattern_
 pub fields::attributed_pattern_field-after_attributes-requires : goal.fields::attributed_pattern_field-after_attributes-requires
 fields::attributed_pattern_field-after_attributes-requires = fields.fields::attributed_pattern_field-after_attributes-requires
 
-pub fields::attributed_pattern_field-returns-clause-anew : goal.fields::attributed_pattern_field-returns-clause-anew
-fields::attributed_pattern_field-returns-clause-anew = fields.fields::attributed_pattern_field-returns-clause-anew
+pub fields::attributed_pattern_field-returns-clause-from_start : goal.fields::attributed_pattern_field-returns-clause-from_start
+fields::attributed_pattern_field-returns-clause-from_start = fields.fields::attributed_pattern_field-returns-clause-from_start
 
 pub fields::after_attributes-returns-then-at_pair-clause-completes : goal.fields::after_attributes-returns-then-at_pair-clause-completes
 fields::after_attributes-returns-then-at_pair-clause-completes = fields.fields::after_attributes-returns-then-at_pair-clause-completes
@@ -2525,20 +2525,20 @@ params::param-returns-clause-gives = params.params::param-returns-clause-gives
 pub params::new_param-dots_param-requires : goal.params::new_param-dots_param-requires
 params::new_param-dots_param-requires = params.params::new_param-dots_param-requires
 
-pub params::new_param-returns-then-at_dots_dot-clause-anew : goal.params::new_param-returns-then-at_dots_dot-clause-anew
-params::new_param-returns-then-at_dots_dot-clause-anew = params.params::new_param-returns-then-at_dots_dot-clause-anew
+pub params::new_param-returns-then-at_dots_dot-clause-from_start : goal.params::new_param-returns-then-at_dots_dot-clause-from_start
+params::new_param-returns-then-at_dots_dot-clause-from_start = params.params::new_param-returns-then-at_dots_dot-clause-from_start
 
 pub params::new_param-attributed_param-requires : goal.params::new_param-attributed_param-requires
 params::new_param-attributed_param-requires = params.params::new_param-attributed_param-requires
 
-pub params::new_param-returns-clause-anew : goal.params::new_param-returns-clause-anew
-params::new_param-returns-clause-anew = params.params::new_param-returns-clause-anew
+pub params::new_param-returns-clause-from_start : goal.params::new_param-returns-clause-from_start
+params::new_param-returns-clause-from_start = params.params::new_param-returns-clause-from_start
 
 pub params::attributed_param-after_attributes-requires : goal.params::attributed_param-after_attributes-requires
 params::attributed_param-after_attributes-requires = params.params::attributed_param-after_attributes-requires
 
-pub params::attributed_param-returns-clause-anew : goal.params::attributed_param-returns-clause-anew
-params::attributed_param-returns-clause-anew = params.params::attributed_param-returns-clause-anew
+pub params::attributed_param-returns-clause-from_start : goal.params::attributed_param-returns-clause-from_start
+params::attributed_param-returns-clause-from_start = params.params::attributed_param-returns-clause-from_start
 
 pub params::pattern_param-returns-clause-reads : goal.params::pattern_param-returns-clause-reads
 params::pattern_param-returns-clause-reads = params.params::pattern_param-returns-clause-reads
@@ -2966,17 +2966,17 @@ expressions::control::block_with_words-returns-clause-reads = control.expression
 pub expressions::control::block_with_words-complete-requires : goal.expressions::control::block_with_words-complete-requires
 expressions::control::block_with_words-complete-requires = control.expressions::control::block_with_words-complete-requires
 
-pub expressions::control::new_block-returns-then-at-clause-anew : goal.expressions::control::new_block-returns-then-at-clause-anew
-expressions::control::new_block-returns-then-at-clause-anew = control.expressions::control::new_block-returns-then-at-clause-anew
+pub expressions::control::new_block-returns-then-at-clause-from_start : goal.expressions::control::new_block-returns-then-at-clause-from_start
+expressions::control::new_block-returns-then-at-clause-from_start = control.expressions::control::new_block-returns-then-at-clause-from_start
 
-pub expressions::control::new_block-returns-clause-anew : goal.expressions::control::new_block-returns-clause-anew
-expressions::control::new_block-returns-clause-anew = control.expressions::control::new_block-returns-clause-anew
+pub expressions::control::new_block-returns-clause-from_start : goal.expressions::control::new_block-returns-clause-from_start
+expressions::control::new_block-returns-clause-from_start = control.expressions::control::new_block-returns-clause-from_start
 
 pub expressions::control::labelled-after_label-requires : goal.expressions::control::labelled-after_label-requires
 expressions::control::labelled-after_label-requires = control.expressions::control::labelled-after_label-requires
 
-pub expressions::control::labelled-returns-clause-anew : goal.expressions::control::labelled-returns-clause-anew
-expressions::control::labelled-returns-clause-anew = control.expressions::control::labelled-returns-clause-anew
+pub expressions::control::labelled-returns-clause-from_start : goal.expressions::control::labelled-returns-clause-from_start
+expressions::control::labelled-returns-clause-from_start = control.expressions::control::labelled-returns-clause-from_start
 
 pub expressions::control::block_like-returns-in-L_CURLY-clause-gives : goal.expressions::control::block_like-returns-in-L_CURLY-clause-gives
 expressions::control::block_like-returns-in-L_CURLY-clause-gives = control.expressions::control::block_like-returns-in-L_CURLY-clause-gives
@@ -3065,8 +3065,8 @@ expressions::operand::raw_ref_expr-complete-requires = operand.expressions::oper
 pub fields::attributed_value-value_after_attributes-requires : goal.fields::attributed_value-value_after_attributes-requires
 fields::attributed_value-value_after_attributes-requires = fields.fields::attributed_value-value_after_attributes-requires
 
-pub fields::attributed_value-returns-clause-anew : goal.fields::attributed_value-returns-clause-anew
-fields::attributed_value-returns-clause-anew = fields.fields::attributed_value-returns-clause-anew
+pub fields::attributed_value-returns-clause-from_start : goal.fields::attributed_value-returns-clause-from_start
+fields::attributed_value-returns-clause-from_start = fields.fields::attributed_value-returns-clause-from_start
 
 pub fields::value_after_attributes-returns-then-at_attributed_named_field-clause-completes : goal.fields::value_after_attributes-returns-then-at_attributed_named_field-clause-completes
 fields::value_after_attributes-returns-then-at_attributed_named_field-clause-completes = fields.fields::value_after_attributes-returns-then-at_attributed_named_field-clause-completes
@@ -3458,14 +3458,14 @@ statements::statement-returns-else-at_profile_item-clause-gives = statements.sta
 pub statements::statement-returns-else-at_profile_item-clause-pays : goal.statements::statement-returns-else-at_profile_item-clause-pays
 statements::statement-returns-else-at_profile_item-clause-pays = statements.statements::statement-returns-else-at_profile_item-clause-pays
 
-pub statements::new_statement-returns-then-at_long_path-clause-anew : goal.statements::new_statement-returns-then-at_long_path-clause-anew
-statements::new_statement-returns-then-at_long_path-clause-anew = statements.statements::new_statement-returns-then-at_long_path-clause-anew
+pub statements::new_statement-returns-then-at_long_path-clause-from_start : goal.statements::new_statement-returns-then-at_long_path-clause-from_start
+statements::new_statement-returns-then-at_long_path-clause-from_start = statements.statements::new_statement-returns-then-at_long_path-clause-from_start
 
-pub statements::new_statement-returns-then-at_super_let-clause-anew : goal.statements::new_statement-returns-then-at_super_let-clause-anew
-statements::new_statement-returns-then-at_super_let-clause-anew = statements.statements::new_statement-returns-then-at_super_let-clause-anew
+pub statements::new_statement-returns-then-at_super_let-clause-from_start : goal.statements::new_statement-returns-then-at_super_let-clause-from_start
+statements::new_statement-returns-then-at_super_let-clause-from_start = statements.statements::new_statement-returns-then-at_super_let-clause-from_start
 
-pub statements::new_statement-returns-clause-anew : goal.statements::new_statement-returns-clause-anew
-statements::new_statement-returns-clause-anew = statements.statements::new_statement-returns-clause-anew
+pub statements::new_statement-returns-clause-from_start : goal.statements::new_statement-returns-clause-from_start
+statements::new_statement-returns-clause-from_start = statements.statements::new_statement-returns-clause-from_start
 
 pub statements::new_statement-long_path_statement-requires : goal.statements::new_statement-long_path_statement-requires
 statements::new_statement-long_path_statement-requires = statements.statements::new_statement-long_path_statement-requires
@@ -3482,8 +3482,8 @@ statements::long_path_statement-path_with_args-requires = statements.statements:
 pub statements::long_path_statement-path_tail-frame-requires : goal.statements::long_path_statement-path_tail-frame-requires
 statements::long_path_statement-path_tail-frame-requires = statements.statements::long_path_statement-path_tail-frame-requires
 
-pub statements::long_path_statement-returns-clause-anew : goal.statements::long_path_statement-returns-clause-anew
-statements::long_path_statement-returns-clause-anew = statements.statements::long_path_statement-returns-clause-anew
+pub statements::long_path_statement-returns-clause-from_start : goal.statements::long_path_statement-returns-clause-from_start
+statements::long_path_statement-returns-clause-from_start = statements.statements::long_path_statement-returns-clause-from_start
 
 pub statements::path_tail-returns-then-at_braced_macro-clause-reads : goal.statements::path_tail-returns-then-at_braced_macro-clause-reads
 statements::path_tail-returns-then-at_braced_macro-clause-reads = statements.statements::path_tail-returns-then-at_braced_macro-clause-reads
@@ -3533,14 +3533,14 @@ statements::after_block-returns-then-at_end_of-clause-reads = statements.stateme
 pub statements::after_block-returns-clause-reads : goal.statements::after_block-returns-clause-reads
 statements::after_block-returns-clause-reads = statements.statements::after_block-returns-clause-reads
 
-pub statements::block_statement-returns-clause-anew : goal.statements::block_statement-returns-clause-anew
-statements::block_statement-returns-clause-anew = statements.statements::block_statement-returns-clause-anew
+pub statements::block_statement-returns-clause-from_start : goal.statements::block_statement-returns-clause-from_start
+statements::block_statement-returns-clause-from_start = statements.statements::block_statement-returns-clause-from_start
 
 pub statements::after_block-opt_operators-frame-requires : goal.statements::after_block-opt_operators-frame-requires
 statements::after_block-opt_operators-frame-requires = statements.statements::after_block-opt_operators-frame-requires
 
-pub statements::expression_statement-returns-then-at_block_like-clause-anew : goal.statements::expression_statement-returns-then-at_block_like-clause-anew
-statements::expression_statement-returns-then-at_block_like-clause-anew = statements.statements::expression_statement-returns-then-at_block_like-clause-anew
+pub statements::expression_statement-returns-then-at_block_like-clause-from_start : goal.statements::expression_statement-returns-then-at_block_like-clause-from_start
+statements::expression_statement-returns-then-at_block_like-clause-from_start = statements.statements::expression_statement-returns-then-at_block_like-clause-from_start
 
 pub statements::opt_operators-after_operand-requires : goal.statements::opt_operators-after_operand-requires
 statements::opt_operators-after_operand-requires = statements.statements::opt_operators-after_operand-requires
@@ -3554,23 +3554,23 @@ statements::opt_operators-returns-clause-reads = statements.statements::opt_oper
 pub statements::opt_operators-returns-clause-asks : goal.statements::opt_operators-returns-clause-asks
 statements::opt_operators-returns-clause-asks = statements.statements::opt_operators-returns-clause-asks
 
-pub expressions::operand::new_operand-returns-then-at_raw-clause-anew : goal.expressions::operand::new_operand-returns-then-at_raw-clause-anew
-expressions::operand::new_operand-returns-then-at_raw-clause-anew = operand.expressions::operand::new_operand-returns-then-at_raw-clause-anew
+pub expressions::operand::new_operand-returns-then-at_raw-clause-from_start : goal.expressions::operand::new_operand-returns-then-at_raw-clause-from_start
+expressions::operand::new_operand-returns-then-at_raw-clause-from_start = operand.expressions::operand::new_operand-returns-then-at_raw-clause-from_start
 
 pub expressions::operand::new_operand-attributed_operand-requires : goal.expressions::operand::new_operand-attributed_operand-requires
 expressions::operand::new_operand-attributed_operand-requires = operand.expressions::operand::new_operand-attributed_operand-requires
 
-pub expressions::operand::new_operand-returns-then-at-clause-anew : goal.expressions::operand::new_operand-returns-then-at-clause-anew
-expressions::operand::new_operand-returns-then-at-clause-anew = operand.expressions::operand::new_operand-returns-then-at-clause-anew
+pub expressions::operand::new_operand-returns-then-at-clause-from_start : goal.expressions::operand::new_operand-returns-then-at-clause-from_start
+expressions::operand::new_operand-returns-then-at-clause-from_start = operand.expressions::operand::new_operand-returns-then-at-clause-from_start
 
-pub expressions::operand::new_operand-returns-clause-anew : goal.expressions::operand::new_operand-returns-clause-anew
-expressions::operand::new_operand-returns-clause-anew = operand.expressions::operand::new_operand-returns-clause-anew
+pub expressions::operand::new_operand-returns-clause-from_start : goal.expressions::operand::new_operand-returns-clause-from_start
+expressions::operand::new_operand-returns-clause-from_start = operand.expressions::operand::new_operand-returns-clause-from_start
 
 pub expressions::operand::attributed_operand-operand_after_attributes-requires : goal.expressions::operand::attributed_operand-operand_after_attributes-requires
 expressions::operand::attributed_operand-operand_after_attributes-requires = operand.expressions::operand::attributed_operand-operand_after_attributes-requires
 
-pub expressions::operand::attributed_operand-returns-clause-anew : goal.expressions::operand::attributed_operand-returns-clause-anew
-expressions::operand::attributed_operand-returns-clause-anew = operand.expressions::operand::attributed_operand-returns-clause-anew
+pub expressions::operand::attributed_operand-returns-clause-from_start : goal.expressions::operand::attributed_operand-returns-clause-from_start
+expressions::operand::attributed_operand-returns-clause-from_start = operand.expressions::operand::attributed_operand-returns-clause-from_start
 
 pub expressions::operand::operand_after_attributes-extended_operand-requires : goal.expressions::operand::operand_after_attributes-extended_operand-requires
 expressions::operand::operand_after_attributes-extended_operand-requires = operand.expressions::operand::operand_after_attributes-extended_operand-requires
@@ -3599,8 +3599,8 @@ expressions::operand::extended_operand-returns-clause-reads = operand.expression
 pub statements::new_statement-attributed_statement-requires : goal.statements::new_statement-attributed_statement-requires
 statements::new_statement-attributed_statement-requires = statements.statements::new_statement-attributed_statement-requires
 
-pub statements::new_statement-returns-then-at-clause-anew : goal.statements::new_statement-returns-then-at-clause-anew
-statements::new_statement-returns-then-at-clause-anew = statements.statements::new_statement-returns-then-at-clause-anew
+pub statements::new_statement-returns-then-at-clause-from_start : goal.statements::new_statement-returns-then-at-clause-from_start
+statements::new_statement-returns-then-at-clause-from_start = statements.statements::new_statement-returns-then-at-clause-from_start
 
 pub statements::path_tail-operators_and_end-requires : goal.statements::path_tail-operators_and_end-requires
 statements::path_tail-operators_and_end-requires = statements.statements::path_tail-operators_and_end-requires
@@ -3617,8 +3617,8 @@ statements::operators_and_end-returns-clause-reads = statements.statements::oper
 pub statements::attributed_statement-after_attributes-requires : goal.statements::attributed_statement-after_attributes-requires
 statements::attributed_statement-after_attributes-requires = statements.statements::attributed_statement-after_attributes-requires
 
-pub statements::attributed_statement-returns-clause-anew : goal.statements::attributed_statement-returns-clause-anew
-statements::attributed_statement-returns-clause-anew = statements.statements::attributed_statement-returns-clause-anew
+pub statements::attributed_statement-returns-clause-from_start : goal.statements::attributed_statement-returns-clause-from_start
+statements::attributed_statement-returns-clause-from_start = statements.statements::attributed_statement-returns-clause-from_start
 
 pub statements::after_attributes-complete-requires : goal.statements::after_attributes-complete-requires
 statements::after_attributes-complete-requires = statements.statements::after_attributes-complete-requires

@@ -1,10 +1,12 @@
 -- What is left shrinks from call to call: the tokens, or else how many calls there can be before one is taken.
-use Rattle.std.specs.Prelude.{ℕ, ◌+◌, ◌-◌, ◌*◌, ◌≤◌, Bool, false}
+use Rattle.std.specs.Prelude.{ℕ, ◌+◌, ◌-◌, ◌*◌, ◌≤◌}
 use Rattle.parser_events.specs.Stack.{IsInnermost}
 use Rattle.rust_productions.specs.Looks.{tokens, spent}
 use Rattle.rust_productions.specs.Layers.{turns_from}
 use Rattle.rust_productions.specs.Operators.{IsMark, IsNext}
 use Rattle.rust_productions.specs.Turns.{GoesFrom, TurnsFrom}
+use Rattle.rust_productions.specs.declared.condition.Condition.{Condition}
+use Rattle.rust_productions.specs.declared.condition.Condition.TheVariants.{Off}
 use Rattle.rust_productions.proofs.Powers.{LayersFrom}
 use Rattle.grammar_reader.specs.Told.{args_of, element_of, ends_of, item_or_attribute, list_turn, listing_of}
 use Rattle.parser_input.specs.Kind.{raw_of}
@@ -55,7 +57,7 @@ decreases-lists::turn l = 512 * tokens l.p.now + 102
 abbrev pub invariant-lists::elements-turns : goal.invariant-lists::elements-turns
 invariant-lists::elements-turns l = record {
   innermost : (n : ℕ) → IsInnermost n l.initial.p.nodes → IsInnermost n l.p.nodes;
-  goes : TurnsFrom false (list_turn (raw_of l.list) (element_of l.element) (raw_of l.closing)) l.initial.p l.p;
+  goes : TurnsFrom Off (list_turn (raw_of l.list) (element_of l.element) (raw_of l.closing)) l.initial.p l.p;
   left : tokens l.p ≤ tokens l.initial.p;
   looks : spent l.p ≤ spent l.initial.p;
 }
@@ -66,7 +68,7 @@ decreases-lists::elements-turns l = tokens l.p
 abbrev pub invariant-paths::next_segments-turns : goal.invariant-paths::next_segments-turns
 invariant-paths::next_segments-turns l = record {
   marker : IsInnermost l.path l.p.nodes;
-  goes : (c : Bool) → TurnsFrom c (Unless colons_before_more (PATH <⟨ One '::' ▸ (PATH_SEGMENT ⟨ Ref ▸ args_of l.mode ⟩) ! ⟩)) l.initial.p l.p;
+  goes : (c : Condition) → TurnsFrom c (Unless colons_before_more (PATH <⟨ One '::' ▸ (PATH_SEGMENT ⟨ Ref ▸ args_of l.mode ⟩) ! ⟩)) l.initial.p l.p;
   left : tokens l.p ≤ tokens l.initial.p;
   looks : spent l.p ≤ spent l.initial.p;
 }
@@ -101,7 +103,7 @@ decreases-expressions::blocks::statement_turn l = 512 * tokens l.p.now + 106
 abbrev pub invariant-expressions::blocks::statements-turns : goal.invariant-expressions::blocks::statements-turns
 invariant-expressions::blocks::statements-turns l = record {
   innermost : (n : ℕ) → IsInnermost n l.initial.p.nodes → IsInnermost n l.p.nodes;
-  goes : TurnsFrom false (Unless (ends_of l.end) (Call (listing_of l.end).one)) l.initial.p l.p;
+  goes : TurnsFrom Off (Unless (ends_of l.end) (Call (listing_of l.end).one)) l.initial.p l.p;
   left : tokens l.p ≤ tokens l.initial.p;
   looks : spent l.p ≤ spent l.initial.p;
 }
@@ -258,7 +260,7 @@ decreases-or_patterns::opt_further l = 512 * tokens l.p.now + 2
 
 abbrev pub invariant-or_patterns::further-turns : goal.invariant-or_patterns::further-turns
 invariant-or_patterns::further-turns l = record {
-  goes : (c : Bool) → TurnsFrom c (One '|' ▸ SinglePattern !) l.initial.p l.p;
+  goes : (c : Condition) → TurnsFrom c (One '|' ▸ SinglePattern !) l.initial.p l.p;
   left : tokens l.p ≤ tokens l.initial.p;
   looks : spent l.p ≤ spent l.initial.p;
 }
@@ -423,7 +425,7 @@ decreases-statements::statement l = 512 * tokens l.p.now + 103
 abbrev pub invariant-expressions::control::arms-turns : goal.invariant-expressions::control::arms-turns
 invariant-expressions::control::arms-turns l = record {
   innermost : (n : ℕ) → IsInnermost n l.initial.p.nodes → IsInnermost n l.p.nodes;
-  goes : TurnsFrom false arm_turn l.initial.p l.p;
+  goes : TurnsFrom Off arm_turn l.initial.p l.p;
   left : tokens l.p ≤ tokens l.initial.p;
   looks : spent l.p ≤ spent l.initial.p;
 }
@@ -434,7 +436,7 @@ decreases-expressions::control::arms-turns l = tokens l.p
 abbrev pub invariant-expressions::operand::postfixes-turns : goal.invariant-expressions::operand::postfixes-turns
 invariant-expressions::operand::postfixes-turns l = record {
   marker : IsInnermost l.frame l.p.nodes;
-  goes : (c : Bool) → TurnsFrom c (more rules.postfix) l.initial.p l.p;
+  goes : (c : Condition) → TurnsFrom c (more rules.postfix) l.initial.p l.p;
   left : tokens l.p ≤ tokens l.initial.p;
   looks : spent l.p ≤ spent l.initial.p;
 }
@@ -524,7 +526,7 @@ decreases-types::opt_type_after l = 512 * tokens l.p.now
 abbrev pub invariant-items::attributes-turns : goal.invariant-items::attributes-turns
 invariant-items::attributes-turns l = record {
   innermost : (n : ℕ) → IsInnermost n l.initial.p.nodes → IsInnermost n l.p.nodes;
-  goes : (c : Bool) → TurnsFrom c (Call rules.attribute) l.initial.p l.p;
+  goes : (c : Condition) → TurnsFrom c (Call rules.attribute) l.initial.p l.p;
   left : tokens l.p ≤ tokens l.initial.p;
   looks : spent l.p ≤ spent l.initial.p;
 }
@@ -535,7 +537,7 @@ decreases-items::attributes-turns l = tokens l.p
 abbrev pub invariant-items::items-turns : goal.invariant-items::items-turns
 invariant-items::items-turns l = record {
   innermost : (n : ℕ) → IsInnermost n l.initial.p.nodes → IsInnermost n l.p.nodes;
-  goes : TurnsFrom false (Unless (ends_of l.end) item_or_attribute) l.initial.p l.p;
+  goes : TurnsFrom Off (Unless (ends_of l.end) item_or_attribute) l.initial.p l.p;
   left : tokens l.p ≤ tokens l.initial.p;
   looks : spent l.p ≤ spent l.initial.p;
 }
@@ -735,7 +737,7 @@ decreases-params::self_alone l = 512 * tokens l.p.now
 
 abbrev pub invariant-generic_params::further_bounds-turns : goal.invariant-generic_params::further_bounds-turns
 invariant-generic_params::further_bounds-turns l = record {
-  goes : (c : Bool) → TurnsFrom c (One '+' ▸ ⁅ Bound ⁆) l.initial.p l.p;
+  goes : (c : Condition) → TurnsFrom c (One '+' ▸ ⁅ Bound ⁆) l.initial.p l.p;
   left : tokens l.p ≤ tokens l.initial.p;
   looks : spent l.p ≤ spent l.initial.p;
 }
@@ -745,7 +747,7 @@ decreases-generic_params::further_bounds-turns l = tokens l.p
 
 abbrev pub invariant-generic_params::further_preds-turns : goal.invariant-generic_params::further_preds-turns
 invariant-generic_params::further_preds-turns l = record {
-  goes : (c : Bool) → TurnsFrom c (One 'comma' ▸ ⁅ WherePred ⁆) l.initial.p l.p;
+  goes : (c : Condition) → TurnsFrom c (One 'comma' ▸ ⁅ WherePred ⁆) l.initial.p l.p;
   left : tokens l.p ≤ tokens l.initial.p;
   looks : spent l.p ≤ spent l.initial.p;
 }
@@ -1015,7 +1017,7 @@ decreases-items::traits::trait_items l = 512 * tokens l.p.now + 35
 abbrev pub invariant-attributes::outer_attributes-turns : goal.invariant-attributes::outer_attributes-turns
 invariant-attributes::outer_attributes-turns l = record {
   innermost : (n : ℕ) → IsInnermost n l.initial.p.nodes → IsInnermost n l.p.nodes;
-  goes : (c : Bool) → TurnsFrom c (When (wide (next '#')) Attribute) l.initial.p l.p;
+  goes : (c : Condition) → TurnsFrom c (When (wide (next '#')) Attribute) l.initial.p l.p;
   left : tokens l.p ≤ tokens l.initial.p;
   looks : spent l.p ≤ spent l.initial.p;
 }

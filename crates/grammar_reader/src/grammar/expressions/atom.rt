@@ -1,6 +1,6 @@
 //! Expressions without an operator.
 
-ghost use Rattle.std.specs.Prelude.{◌≤◌, Bool, false};
+ghost use Rattle.std.specs.Prelude.{◌≤◌, false};
 ghost use Rattle.parser_input.specs.Kinds.{LET_KW, RETURN_EXPR};
 ghost use Rattle.parser_events.specs.Stack.{IsInnermost};
 ghost use Rattle.rust_grammar.specs.Notation.{◌▸◌, ◌⟨◌⟩, wide};
@@ -12,6 +12,7 @@ ghost use Rattle.rust_grammar.specs.Expressions as rows;
 ghost use Rattle.rust_productions.specs.Looks.{tokens, Takes, Asks, TakesIn, AsksIn};
 ghost use Rattle.rust_productions.specs.Reads.{looks, Reads, Saw};
 ghost use Rattle.rust_productions.specs.Starts.{Starts, StartsIn};
+ghost use Rattle.rust_productions.specs.declared.condition.Condition.{Condition};
 
 use crate::grammar::expressions::closures::{closure_expr, closure_with_words, move_closure};
 use crate::grammar::expressions::control::block_like;
@@ -22,6 +23,7 @@ use crate::grammar::paths::{Mode, path_with_args, qualified_path};
 use crate::grammar::types::word_type;
 use parser_events::parser::{Marker, Parser};
 use parser_input::syntax_kind::SyntaxKind;
+use rust_productions::condition::Condition;
 use rust_productions::grammar::expression_words::{at_new_atom, opt_jump_label};
 use rust_productions::grammar::expressions::{at_block_like, at_body, at_expression, at_operation};
 use rust_productions::grammar::names::{at_literal, literal};
@@ -32,7 +34,7 @@ use rust_productions::grammar::{at, at_pair, complete, current, expect, start, t
 // (a)
 #[inline(never)]
 #[cycle(grammar)]
-pub(crate) fn inside(p: &mut Parser<'_>, frame: Marker, condition: bool) -> Marker
+pub(crate) fn inside(p: &mut Parser<'_>, frame: Marker, condition: Condition) -> Marker
     requires begins { StartsIn condition (looks rules.atom) p.old }
     requires innermost { IsInnermost frame p.old.nodes }
     ensures reads { Reads condition (rule rules.atom) p.old p.new }
@@ -89,7 +91,7 @@ pub(crate) fn inside(p: &mut Parser<'_>, frame: Marker, condition: bool) -> Mark
 // S { a: 1 }
 #[inline(never)]
 #[cycle(grammar)]
-fn path_expr(p: &mut Parser<'_>, frame: Marker, condition: bool) -> Marker
+fn path_expr(p: &mut Parser<'_>, frame: Marker, condition: Condition) -> Marker
     requires begins { Starts (looks rules.path) p.old }
     requires innermost { IsInnermost frame p.old.nodes }
     ensures reads { Reads condition rows.path_expr p.old p.new }
@@ -102,7 +104,7 @@ fn path_expr(p: &mut Parser<'_>, frame: Marker, condition: bool) -> Marker
 /// Parses what may follow the path of an expression: the rest of a macro call, or record fields.
 // { a: 1 }
 #[cycle(grammar)]
-pub(crate) fn after_path(p: &mut Parser<'_>, frame: Marker, condition: bool) -> Marker
+pub(crate) fn after_path(p: &mut Parser<'_>, frame: Marker, condition: Condition) -> Marker
     requires innermost { IsInnermost frame p.old.nodes }
     ensures reads { Reads condition rows.after_path p.old p.new }
     ensures asks { AsksIn result 4 p.old p.new }
@@ -115,21 +117,23 @@ pub(crate) fn after_path(p: &mut Parser<'_>, frame: Marker, condition: bool) -> 
         let frame = wrap(p, frame, SyntaxKind::MACRO_CALL);
         return wrap(p, frame, SyntaxKind::MACRO_EXPR);
     }
-    if condition {
-        return wrap(p, frame, SyntaxKind::PATH_EXPR);
+    match condition {
+        Condition::On => wrap(p, frame, SyntaxKind::PATH_EXPR),
+        Condition::Off => {
+            if at(p, SyntaxKind::L_CURLY) {
+                list(p, ListKind::FieldValues);
+                return wrap(p, frame, SyntaxKind::RECORD_EXPR);
+            }
+            wrap(p, frame, SyntaxKind::PATH_EXPR)
+        }
     }
-    if at(p, SyntaxKind::L_CURLY) {
-        list(p, ListKind::FieldValues);
-        return wrap(p, frame, SyntaxKind::RECORD_EXPR);
-    }
-    wrap(p, frame, SyntaxKind::PATH_EXPR)
 }
 
 /// Parses the `!` and the token tree of a macro call.
 // !(a, b)
 fn macro_call(p: &mut Parser<'_>)
     requires { 1 ≤ tokens p.old }
-    ensures reads { (c : Bool) → Reads c rows.macro_tail p.old p.new }
+    ensures reads { (c : Condition) → Reads c rows.macro_tail p.old p.new }
     ensures takes { Takes 4090 p.old p.new }
 {
     take(p, SyntaxKind::BANG);
@@ -142,7 +146,7 @@ fn macro_call(p: &mut Parser<'_>)
 fn paren_expr(p: &mut Parser<'_>, frame: Marker) -> Marker
     requires some { 1 ≤ tokens p.old }
     requires innermost { IsInnermost frame p.old.nodes }
-    ensures reads { (c : Bool) → Reads c rows.tuple_or_paren p.old p.new }
+    ensures reads { (c : Condition) → Reads c rows.tuple_or_paren p.old p.new }
     ensures takes { TakesIn result 3300 p.old p.new }
 {
     take(p, SyntaxKind::L_PAREN);
@@ -154,14 +158,14 @@ fn paren_expr(p: &mut Parser<'_>, frame: Marker) -> Marker
 #[cycle(grammar)]
 fn after_paren(p: &mut Parser<'_>, frame: Marker) -> Marker
     requires innermost { IsInnermost frame p.old.nodes }
-    ensures reads { (c : Bool) → Reads c rows.after_l_paren p.old p.new }
+    ensures reads { (c : Condition) → Reads c rows.after_l_paren p.old p.new }
     ensures asks { AsksIn result 780 p.old p.new }
 {
     if at(p, SyntaxKind::R_PAREN) {
         take(p, SyntaxKind::R_PAREN);
         return wrap(p, frame, SyntaxKind::TUPLE_EXPR);
     }
-    expect_expression(p, Level::Expression, false);
+    expect_expression(p, Level::Expression, Condition::Off);
     tuple_tail(
         p,
         frame,
@@ -176,7 +180,7 @@ fn after_paren(p: &mut Parser<'_>, frame: Marker) -> Marker
 #[cycle(grammar)]
 fn array_expr(p: &mut Parser<'_>)
     requires some { 1 ≤ tokens p.old }
-    ensures reads { (c : Bool) → Reads c rows.array_expr p.old p.new }
+    ensures reads { (c : Condition) → Reads c rows.array_expr p.old p.new }
     ensures takes { Takes 3200 p.old p.new }
 {
     let node = start(p);
@@ -189,11 +193,11 @@ fn array_expr(p: &mut Parser<'_>)
 // a, b]
 #[cycle(grammar)]
 fn array_elements(p: &mut Parser<'_>)
-    ensures reads { (c : Bool) → Reads c rows.array_elements p.old p.new }
+    ensures reads { (c : Condition) → Reads c rows.array_elements p.old p.new }
     ensures asks { Asks 780 p.old p.new }
 {
-    if at_expression(p, false) {
-        expression(p, false);
+    if at_expression(p, Condition::Off) {
+        expression(p, Condition::Off);
         after_element(p);
         return;
     }
@@ -204,12 +208,12 @@ fn array_elements(p: &mut Parser<'_>)
 // ; 4]
 #[cycle(grammar)]
 fn after_element(p: &mut Parser<'_>)
-    ensures reads { (c : Bool) → Reads c rows.after_element p.old p.new }
+    ensures reads { (c : Condition) → Reads c rows.after_element p.old p.new }
     ensures asks { Asks 3 p.old p.new }
 {
     if at(p, SyntaxKind::SEMICOLON) {
         take(p, SyntaxKind::SEMICOLON);
-        expect_expression(p, Level::Expression, false);
+        expect_expression(p, Level::Expression, Condition::Off);
         expect(p, SyntaxKind::R_BRACK);
         return;
     }
@@ -229,7 +233,7 @@ fn after_element(p: &mut Parser<'_>)
 /// Parses a `return` expression.
 // return a
 #[cycle(grammar)]
-fn return_expr(p: &mut Parser<'_>, condition: bool)
+fn return_expr(p: &mut Parser<'_>, condition: Condition)
     requires some { 1 ≤ tokens p.old }
     ensures reads { Reads condition (RETURN_EXPR ⟨ One 'return' ▸ rows.value ⟩) p.old p.new }
     ensures takes { Takes 3300 p.old p.new }
@@ -243,7 +247,7 @@ fn return_expr(p: &mut Parser<'_>, condition: bool)
 /// Parses a `break` expression.
 // break 'a b
 #[cycle(grammar)]
-fn break_expr(p: &mut Parser<'_>, condition: bool)
+fn break_expr(p: &mut Parser<'_>, condition: Condition)
     requires some { 1 ≤ tokens p.old }
     ensures reads { Reads condition rows.break_expr p.old p.new }
     ensures takes { Takes 3300 p.old p.new }
@@ -259,7 +263,7 @@ fn break_expr(p: &mut Parser<'_>, condition: bool)
 // continue 'a
 fn continue_expr(p: &mut Parser<'_>)
     requires some { 1 ≤ tokens p.old }
-    ensures reads { (c : Bool) → Reads c rows.continue_expr p.old p.new }
+    ensures reads { (c : Condition) → Reads c rows.continue_expr p.old p.new }
     ensures takes { Takes 4090 p.old p.new }
 {
     let node = start(p);
@@ -271,7 +275,7 @@ fn continue_expr(p: &mut Parser<'_>)
 /// Parses the optional value of a `return` or `break` expression.
 // a
 #[cycle(grammar)]
-fn opt_value(p: &mut Parser<'_>, condition: bool)
+fn opt_value(p: &mut Parser<'_>, condition: Condition)
     ensures reads { Reads condition rows.value p.old p.new }
     ensures asks { Asks 780 p.old p.new }
 {
@@ -288,14 +292,14 @@ fn opt_value(p: &mut Parser<'_>, condition: bool)
 #[cycle(grammar)]
 fn let_expr(p: &mut Parser<'_>)
     requires some { 1 ≤ tokens p.old }
-    ensures reads { (c : Bool) → Reads c rows.let_anywhere p.old p.new }
+    ensures reads { (c : Condition) → Reads c rows.let_anywhere p.old p.new }
     ensures takes { Takes 3300 p.old p.new }
 {
     let node = start(p);
     take(p, SyntaxKind::LET_KW);
     expect_part(p, Part::Pattern);
     expect(p, SyntaxKind::EQ);
-    expect_expression(p, Level::Comparison, true);
+    expect_expression(p, Level::Comparison, Condition::On);
     complete(p, node, SyntaxKind::LET_EXPR);
 }
 
@@ -304,9 +308,9 @@ fn let_expr(p: &mut Parser<'_>)
 // <T as A>::b
 #[inline(never)]
 #[cycle(grammar)]
-fn new_atom(p: &mut Parser<'_>, frame: Marker, condition: bool) -> Marker
+fn new_atom(p: &mut Parser<'_>, frame: Marker, condition: Condition) -> Marker
     requires begins { Starts (wide rows.new_atom_begins) p.old }
-    requires other { (c : Bool) → Saw c (Kind 0 LET_KW) p.old false }
+    requires other { (c : Condition) → Saw c (Kind 0 LET_KW) p.old false }
     requires innermost { IsInnermost frame p.old.nodes }
     ensures reads { Reads condition rows.new_atom p.old p.new }
     ensures takes { TakesIn result 2900 p.old p.new }

@@ -1,6 +1,6 @@
 //! Blocks.
 
-ghost use Rattle.std.specs.Prelude.{◌≡◌, ◌≤◌, Bool, IsTrue, false};
+ghost use Rattle.std.specs.Prelude.{◌≡◌, ◌≤◌, IsTrue, false};
 ghost use Rattle.rust_grammar.specs.Rule as rules;
 ghost use Rattle.rust_grammar.specs.Rule.{Call, Unless};
 ghost use Rattle.rust_grammar.specs.Statements.{all_of};
@@ -9,6 +9,8 @@ ghost use Rattle.rust_productions.specs.Looks.{tokens, Takes, Asks};
 ghost use Rattle.rust_productions.specs.Reads.{Gives, Reads};
 ghost use Rattle.rust_productions.specs.Turns.{TakesTurn};
 ghost use Rattle.rust_productions.specs.Moves.{Keeps};
+ghost use Rattle.rust_productions.specs.declared.condition.Condition.{Condition};
+ghost use Rattle.rust_productions.specs.declared.condition.Condition.TheVariants.{Off};
 
 use crate::grammar::list_end::{ListEnd, at_end_of};
 use crate::grammar::statements::statement;
@@ -21,7 +23,7 @@ use rust_productions::grammar::{complete, expect, start, take, tokens_left};
 #[cycle(grammar)]
 pub(crate) fn block(p: &mut Parser<'_>)
     requires some { 1 ≤ tokens p.old }
-    ensures gives { (c : Bool) → Gives rules.block c p.old p.new }
+    ensures gives { (c : Condition) → Gives rules.block c p.old p.new }
     ensures takes { Takes 2990 p.old p.new }
 {
     let block = start(p);
@@ -34,7 +36,7 @@ pub(crate) fn block(p: &mut Parser<'_>)
 #[cycle(grammar)]
 pub(crate) fn statement_list(p: &mut Parser<'_>)
     requires some { 1 ≤ tokens p.old }
-    ensures gives { (c : Bool) → Gives rules.statement_list c p.old p.new }
+    ensures gives { (c : Condition) → Gives rules.statement_list c p.old p.new }
     ensures takes { Takes 3000 p.old p.new }
 {
     let list = start(p);
@@ -49,8 +51,8 @@ pub(crate) fn statement_list(p: &mut Parser<'_>)
 #[cycle(grammar)]
 fn statement_turn(p: &mut Parser<'_>, end: ListEnd) -> bool
     ensures goes { IsTrue result
-        → TakesTurn false (Unless (ends_of end) (Call (listing_of end).one)) p.old p.new }
-    ensures ends { result ≡ false → Reads false (all_of (listing_of end)) p.old p.new }
+        → TakesTurn Off (Unless (ends_of end) (Call (listing_of end).one)) p.old p.new }
+    ensures ends { result ≡ false → Reads Off (all_of (listing_of end)) p.old p.new }
     ensures keeps { Keeps p.old p.new }
     ensures asks { Asks 901 p.old p.new }
 {
@@ -66,7 +68,7 @@ fn statement_turn(p: &mut Parser<'_>, end: ListEnd) -> bool
 // f(); a
 #[cycle(grammar)]
 pub(crate) fn statements(p: &mut Parser<'_>, end: ListEnd)
-    ensures reads { Reads false (all_of (listing_of end)) p.old p.new }
+    ensures reads { Reads Off (all_of (listing_of end)) p.old p.new }
     ensures asks { Asks 901 p.old p.new }
 {
     'turns: while statement_turn(p, end) {}

@@ -1,6 +1,6 @@
 //! Closures.
 
-ghost use Rattle.std.specs.Prelude.{◌≤◌, Bool, true, false};
+ghost use Rattle.std.specs.Prelude.{◌≤◌, true};
 ghost use Rattle.parser_input.specs.Kinds.{CLOSURE_EXPR};
 ghost use Rattle.rust_grammar.specs.Expressions as rows;
 ghost use Rattle.rust_grammar.specs.Notation.{◌▸◌, ⁅◌⁆, ◌!, ◌⟨◌⟩};
@@ -13,6 +13,8 @@ ghost use Rattle.rust_grammar.specs.Words.{'move'};
 ghost use Rattle.rust_grammar.specs.Shared.{type_annotation};
 ghost use Rattle.rust_productions.specs.Looks.{tokens, Takes, Asks};
 ghost use Rattle.rust_productions.specs.Reads.{looks, Reads, Saw};
+ghost use Rattle.rust_productions.specs.declared.condition.Condition.{Condition};
+ghost use Rattle.rust_productions.specs.declared.condition.Condition.TheVariants.{Off};
 
 use crate::grammar::attributes::{attribute, outer_attributes};
 use crate::grammar::expressions::{Level, expect_expression};
@@ -23,6 +25,7 @@ use crate::grammar::patterns::{single_or_missing, single_pattern};
 use crate::grammar::types::ret_type;
 use parser_events::parser::Parser;
 use parser_input::syntax_kind::SyntaxKind;
+use rust_productions::condition::Condition;
 use rust_productions::grammar::expression_words::{
     opt_const_to_move, words_from_async, words_from_const, words_from_static,
 };
@@ -31,7 +34,7 @@ use rust_productions::grammar::{at, at_new, at_pair, complete, current, start, t
 /// Parses a closure expression without `move`.
 // |a| a + 1
 #[cycle(grammar)]
-pub(crate) fn closure_expr(p: &mut Parser<'_>, condition: bool)
+pub(crate) fn closure_expr(p: &mut Parser<'_>, condition: Condition)
     requires some { 1 ≤ tokens p.old }
     ensures reads { Reads condition
         (CLOSURE_EXPR ⟨ rows.closure_params ▸ rows.closure_body ⟩) p.old p.new }
@@ -46,7 +49,7 @@ pub(crate) fn closure_expr(p: &mut Parser<'_>, condition: bool)
 /// Parses a closure expression with `move`.
 // move |a| a + 1
 #[cycle(grammar)]
-pub(crate) fn move_closure(p: &mut Parser<'_>, condition: bool)
+pub(crate) fn move_closure(p: &mut Parser<'_>, condition: Condition)
     requires some { 1 ≤ tokens p.old }
     ensures reads { Reads condition (CLOSURE_EXPR
         ⟨ One 'move' ▸ rows.closure_params ! ▸ rows.closure_body ⟩) p.old p.new }
@@ -64,14 +67,14 @@ pub(crate) fn move_closure(p: &mut Parser<'_>, condition: bool)
 #[inline(never)]
 #[cycle(grammar)]
 pub(crate) fn closure_param(p: &mut Parser<'_>)
-    requires begins { (c : Bool) → Saw c (begins looks rows.closure_param) p.old true }
+    requires begins { (c : Condition) → Saw c (begins looks rows.closure_param) p.old true }
     requires some { 1 ≤ tokens p.old }
-    ensures reads { Reads false rows.closure_param p.old p.new }
+    ensures reads { Reads Off rows.closure_param p.old p.new }
     ensures takes { Takes 2900 p.old p.new }
 {
     let node = start(p);
     attributed_single(p);
-    opt_type(p, false);
+    opt_type(p, Condition::Off);
     complete(p, node, SyntaxKind::PARAM);
 }
 
@@ -80,7 +83,7 @@ pub(crate) fn closure_param(p: &mut Parser<'_>)
 #[cycle(grammar)]
 fn attributed_single(p: &mut Parser<'_>)
     requires begins { Starts (begins looks rows.closure_param) p.old }
-    ensures reads { (c : Bool) → Reads c (shared.outer_attributes ▸ SinglePattern) p.old p.new }
+    ensures reads { (c : Condition) → Reads c (shared.outer_attributes ▸ SinglePattern) p.old p.new }
     ensures takes { Takes 2905 p.old p.new }
 {
     if at_new(p, SyntaxKind::POUND) {
@@ -95,7 +98,7 @@ fn attributed_single(p: &mut Parser<'_>)
 /// Parses an optional type with its colon.
 // : u8
 #[cycle(grammar)]
-pub(crate) fn opt_type(p: &mut Parser<'_>, condition: bool)
+pub(crate) fn opt_type(p: &mut Parser<'_>, condition: Condition)
     ensures reads { Reads condition ⁅ type_annotation ⁆ p.old p.new }
     ensures asks { Asks 1 p.old p.new }
 {
@@ -108,7 +111,7 @@ pub(crate) fn opt_type(p: &mut Parser<'_>, condition: bool)
 /// Parses the body of a closure: a block after a return type, otherwise an expression.
 // -> u8 { 1 }
 #[cycle(grammar)]
-fn closure_body(p: &mut Parser<'_>, condition: bool)
+fn closure_body(p: &mut Parser<'_>, condition: Condition)
     ensures reads { Reads condition rows.closure_body p.old p.new }
     ensures asks { Asks 780 p.old p.new }
 {
@@ -123,7 +126,7 @@ fn closure_body(p: &mut Parser<'_>, condition: bool)
 /// Parses a closure with words before its parameters.
 // async move |a| a + 1
 #[cycle(grammar)]
-pub(crate) fn closure_with_words(p: &mut Parser<'_>, condition: bool)
+pub(crate) fn closure_with_words(p: &mut Parser<'_>, condition: Condition)
     requires some { 1 ≤ tokens p.old }
     ensures reads { Reads condition rows.closure_with_words p.old p.new }
     ensures takes { Takes 3200 p.old p.new }
@@ -140,7 +143,7 @@ pub(crate) fn closure_with_words(p: &mut Parser<'_>, condition: bool)
 #[cycle(grammar)]
 fn closure_words(p: &mut Parser<'_>)
     requires some { 1 ≤ tokens p.old }
-    ensures reads { (c : Bool) → Reads c rows.closure_words p.old p.new }
+    ensures reads { (c : Condition) → Reads c rows.closure_words p.old p.new }
     ensures takes { Takes 4080 p.old p.new }
 {
     match current(p) {

@@ -1,11 +1,13 @@
 //! Expressions that end in a block.
 
-ghost use Rattle.std.specs.Prelude.{◌≡◌, ◌≤◌, ◌+◌, Bool, IsTrue, true, false};
+ghost use Rattle.std.specs.Prelude.{◌≡◌, ◌≤◌, ◌+◌, IsTrue, true, false};
 ghost use Rattle.rust_grammar.specs.Notation.{⁅◌⁆, ◌*, ◌! };
 ghost use Rattle.rust_grammar.specs.Rule as rules;
 ghost use Rattle.rust_grammar.specs.Expressions as rows;
 ghost use Rattle.rust_productions.specs.Looks.{tokens, spent, Takes, Asks};
-ghost use Rattle.rust_productions.specs.Reads.{looks, Anew, Completes, Gives, Reads, Saw};
+ghost use Rattle.rust_productions.specs.Reads.{looks, FromStart, Completes, Gives, Reads, Saw};
+ghost use Rattle.rust_productions.specs.declared.condition.Condition.{Condition};
+ghost use Rattle.rust_productions.specs.declared.condition.Condition.TheVariants.{Off};
 ghost use Rattle.rust_grammar.specs.Notation.{wide};
 ghost use Rattle.parser_events.specs.Stack.{IsInnermost};
 ghost use Rattle.rust_productions.specs.Turns.{TakesTurn};
@@ -20,6 +22,7 @@ use crate::grammar::parts::{Part, expect_part};
 use parser_events::message::Message;
 use parser_events::parser::{Marker, Parser};
 use parser_input::syntax_kind::SyntaxKind;
+use rust_productions::condition::Condition;
 use rust_productions::grammar::expression_words::{at_new_block, block_words, label};
 use rust_productions::grammar::lists::at_list_end;
 use rust_productions::grammar::match_arms::{at_match_arm, at_match_attribute};
@@ -30,9 +33,9 @@ use rust_productions::grammar::{abandon, at, complete, current, error, expect, s
 // if a { b }
 #[cycle(grammar)]
 pub(crate) fn block_like(p: &mut Parser<'_>)
-    requires begins { (c : Bool) → Saw c (looks rules.block_like) p.old true }
+    requires begins { (c : Condition) → Saw c (looks rules.block_like) p.old true }
     requires some { 1 ≤ tokens p.old }
-    ensures gives { (c : Bool) → Gives rules.block_like c p.old p.new }
+    ensures gives { (c : Condition) → Gives rules.block_like c p.old p.new }
     ensures takes { Takes 2910 p.old p.new }
 {
     match current(p) {
@@ -58,7 +61,7 @@ pub(crate) fn block_like(p: &mut Parser<'_>)
 #[cycle(grammar)]
 fn unsafe_block(p: &mut Parser<'_>)
     requires some { 1 ≤ tokens p.old }
-    ensures reads { (c : Bool) → Reads c rows.unsafe_block p.old p.new }
+    ensures reads { (c : Condition) → Reads c rows.unsafe_block p.old p.new }
     ensures takes { Takes 4090 p.old p.new }
 {
     let node = start(p);
@@ -72,7 +75,7 @@ fn unsafe_block(p: &mut Parser<'_>)
 #[cycle(grammar)]
 pub(crate) fn if_expr(p: &mut Parser<'_>)
     requires some { 1 ≤ tokens p.old }
-    ensures gives { (c : Bool) → Gives rules.if_expr c p.old p.new }
+    ensures gives { (c : Condition) → Gives rules.if_expr c p.old p.new }
     ensures takes { Takes 3300 p.old p.new }
 {
     let node = start(p);
@@ -87,7 +90,7 @@ pub(crate) fn if_expr(p: &mut Parser<'_>)
 // else { c }
 #[cycle(grammar)]
 fn opt_else(p: &mut Parser<'_>)
-    ensures reads { (c : Bool) → Reads c ⁅ rows.else_branch ⁆ p.old p.new }
+    ensures reads { (c : Condition) → Reads c ⁅ rows.else_branch ⁆ p.old p.new }
     ensures asks { Asks 1 p.old p.new }
 {
     if at(p, SyntaxKind::ELSE_KW) {
@@ -100,7 +103,7 @@ fn opt_else(p: &mut Parser<'_>)
 // if b { c }
 #[cycle(grammar)]
 fn after_else(p: &mut Parser<'_>)
-    ensures reads { (c : Bool) → Reads c rows.if_or_block p.old p.new }
+    ensures reads { (c : Condition) → Reads c rows.if_or_block p.old p.new }
     ensures asks { Asks 2 p.old p.new }
 {
     if at(p, SyntaxKind::IF_KW) {
@@ -115,7 +118,7 @@ fn after_else(p: &mut Parser<'_>)
 #[cycle(grammar)]
 fn while_expr(p: &mut Parser<'_>)
     requires some { 1 ≤ tokens p.old }
-    ensures reads { (c : Bool) → Reads c rows.while_expr p.old p.new }
+    ensures reads { (c : Condition) → Reads c rows.while_expr p.old p.new }
     ensures takes { Takes 3300 p.old p.new }
 {
     let node = start(p);
@@ -128,7 +131,7 @@ fn while_expr(p: &mut Parser<'_>)
 #[cycle(grammar)]
 fn while_rest(p: &mut Parser<'_>)
     requires some { 1 ≤ tokens p.old }
-    ensures reads { (c : Bool) → Reads c rows.while_rest p.old p.new }
+    ensures reads { (c : Condition) → Reads c rows.while_rest p.old p.new }
     ensures takes { Takes 3300 p.old p.new }
 {
     take(p, SyntaxKind::WHILE_KW);
@@ -141,7 +144,7 @@ fn while_rest(p: &mut Parser<'_>)
 #[cycle(grammar)]
 fn loop_expr(p: &mut Parser<'_>)
     requires some { 1 ≤ tokens p.old }
-    ensures reads { (c : Bool) → Reads c rows.loop_expr p.old p.new }
+    ensures reads { (c : Condition) → Reads c rows.loop_expr p.old p.new }
     ensures takes { Takes 4090 p.old p.new }
 {
     let node = start(p);
@@ -154,7 +157,7 @@ fn loop_expr(p: &mut Parser<'_>)
 #[cycle(grammar)]
 fn loop_rest(p: &mut Parser<'_>)
     requires some { 1 ≤ tokens p.old }
-    ensures reads { (c : Bool) → Reads c rows.loop_rest p.old p.new }
+    ensures reads { (c : Condition) → Reads c rows.loop_rest p.old p.new }
     ensures takes { Takes 4090 p.old p.new }
 {
     take(p, SyntaxKind::LOOP_KW);
@@ -166,7 +169,7 @@ fn loop_rest(p: &mut Parser<'_>)
 #[cycle(grammar)]
 fn for_expr(p: &mut Parser<'_>)
     requires some { 1 ≤ tokens p.old }
-    ensures reads { (c : Bool) → Reads c rows.for_expr p.old p.new }
+    ensures reads { (c : Condition) → Reads c rows.for_expr p.old p.new }
     ensures takes { Takes 3300 p.old p.new }
 {
     let node = start(p);
@@ -179,7 +182,7 @@ fn for_expr(p: &mut Parser<'_>)
 #[cycle(grammar)]
 fn for_rest(p: &mut Parser<'_>)
     requires some { 1 ≤ tokens p.old }
-    ensures reads { (c : Bool) → Reads c rows.for_rest p.old p.new }
+    ensures reads { (c : Condition) → Reads c rows.for_rest p.old p.new }
     ensures takes { Takes 3300 p.old p.new }
 {
     take(p, SyntaxKind::FOR_KW);
@@ -195,7 +198,7 @@ fn for_rest(p: &mut Parser<'_>)
 #[cycle(grammar)]
 fn new_block(p: &mut Parser<'_>)
     requires begins { Starts (wide rows.new_block_begins) p.old }
-    ensures anew { (c : Bool) → Anew c rows.new_block p.old p.new }
+    ensures from_start { (c : Condition) → FromStart c rows.new_block p.old p.new }
     ensures takes { Takes 3200 p.old p.new }
 {
     if at(p, SyntaxKind::LIFETIME_IDENT) {
@@ -210,7 +213,7 @@ fn new_block(p: &mut Parser<'_>)
 #[cycle(grammar)]
 fn labelled(p: &mut Parser<'_>)
     requires some { 1 ≤ tokens p.old }
-    ensures anew { (c : Bool) → Anew c rows.labelled p.old p.new }
+    ensures from_start { (c : Condition) → FromStart c rows.labelled p.old p.new }
     ensures takes { Takes 4080 p.old p.new }
 {
     let node = start(p);
@@ -223,7 +226,7 @@ fn labelled(p: &mut Parser<'_>)
 #[cycle(grammar)]
 fn after_label(p: &mut Parser<'_>, node: Marker)
     requires innermost { IsInnermost node p.old.nodes }
-    ensures completes { (c : Bool) → Completes c rows.after_label p.old p.new }
+    ensures completes { (c : Condition) → Completes c rows.after_label p.old p.new }
     ensures asks { Asks 2 p.old p.new }
 {
     match current(p) {
@@ -251,7 +254,7 @@ fn after_label(p: &mut Parser<'_>, node: Marker)
 #[cycle(grammar)]
 fn block_with_words(p: &mut Parser<'_>)
     requires some { 1 ≤ tokens p.old }
-    ensures reads { (c : Bool) → Reads c rows.block_with_words p.old p.new }
+    ensures reads { (c : Condition) → Reads c rows.block_with_words p.old p.new }
     ensures takes { Takes 4070 p.old p.new }
 {
     let node = start(p);
@@ -265,7 +268,7 @@ fn block_with_words(p: &mut Parser<'_>)
 #[cycle(grammar)]
 fn match_expr(p: &mut Parser<'_>)
     requires some { 1 ≤ tokens p.old }
-    ensures reads { (c : Bool) → Reads c rows.match_expr p.old p.new }
+    ensures reads { (c : Condition) → Reads c rows.match_expr p.old p.new }
     ensures takes { Takes 3300 p.old p.new }
 {
     let node = start(p);
@@ -277,10 +280,11 @@ fn match_expr(p: &mut Parser<'_>)
 
 /// Parses match arms in braces.
 // { a => b, _ => c }
+#[inline(never)]
 #[cycle(grammar)]
 pub(crate) fn match_arms(p: &mut Parser<'_>)
     requires some { 1 ≤ tokens p.old }
-    ensures gives { (c : Bool) → Gives rules.match_arms c p.old p.new }
+    ensures gives { (c : Condition) → Gives rules.match_arms c p.old p.new }
     ensures takes { Takes 3000 p.old p.new }
 {
     let list = start(p);
@@ -294,7 +298,7 @@ pub(crate) fn match_arms(p: &mut Parser<'_>)
 // a => b, _ => c
 #[cycle(grammar)]
 fn arms(p: &mut Parser<'_>)
-    ensures reads { Reads false (rows.arm_turn *) p.old p.new }
+    ensures reads { Reads Off (rows.arm_turn *) p.old p.new }
     ensures asks { Asks 1080 p.old p.new }
 {
     'turns: while arm_turn(p) {}
@@ -305,8 +309,8 @@ fn arms(p: &mut Parser<'_>)
 // a => b,
 #[cycle(grammar)]
 fn arm_turn(p: &mut Parser<'_>) -> bool
-    ensures goes { IsTrue result → TakesTurn false rows.arm_turn p.old p.new }
-    ensures ends { result ≡ false → Reads false (rows.arm_turn *) p.old p.new }
+    ensures goes { IsTrue result → TakesTurn Off rows.arm_turn p.old p.new }
+    ensures ends { result ≡ false → Reads Off (rows.arm_turn *) p.old p.new }
     ensures keeps { Keeps p.old p.new }
     ensures asks { Asks 1080 p.old p.new }
 {
@@ -318,7 +322,7 @@ fn arm_turn(p: &mut Parser<'_>) -> bool
         return true;
     }
     if at_match_arm(p) {
-        match_arm(p, false);
+        match_arm(p, Condition::Off);
         return true;
     }
     skip(p, Message::ExpectedMatchArm);
@@ -329,7 +333,7 @@ fn arm_turn(p: &mut Parser<'_>) -> bool
 // m
 fn word_path(p: &mut Parser<'_>)
     requires begins { Starts rows.macro_block_begins p.old }
-    ensures gives { (c : Bool) → Gives rules.expr_path c p.old p.new }
+    ensures gives { (c : Condition) → Gives rules.expr_path c p.old p.new }
     ensures left { tokens p.new + 1 ≡ tokens p.old }
     ensures looks { spent p.new + 4096 ≡ spent p.old }
 {
@@ -347,9 +351,9 @@ fn word_path(p: &mut Parser<'_>)
 /// Parses a macro call with braces.
 // m! { a }
 fn macro_block(p: &mut Parser<'_>)
-    requires begins { (c : Bool) → Saw c rows.macro_block_begins p.old true }
+    requires begins { (c : Condition) → Saw c rows.macro_block_begins p.old true }
     requires some { 3 ≤ tokens p.old }
-    ensures reads { (c : Bool) → Reads c rows.macro_block p.old p.new }
+    ensures reads { (c : Condition) → Reads c rows.macro_block p.old p.new }
     ensures takes { Takes 4080 p.old p.new }
 {
     let node = start(p);

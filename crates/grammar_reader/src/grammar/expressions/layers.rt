@@ -16,6 +16,7 @@ use crate::grammar::parts::{Part, expect_part};
 use parser_events::message::Message;
 use parser_events::parser::{Marker, Parser};
 use parser_input::syntax_kind::SyntaxKind;
+use rust_productions::condition::Condition;
 use rust_productions::grammar::expressions::at_operand;
 use rust_productions::grammar::operators::{Operator, current_op, take_operator};
 use rust_productions::grammar::{abandon, error, start, wrap};
@@ -23,7 +24,7 @@ use rust_productions::grammar::{abandon, error, start, wrap};
 /// Parses an operand with the operators of the layers up to `height`.
 // a * b + c
 #[cycle(grammar)]
-pub(crate) fn layers(p: &mut Parser<'_>, height: u8, condition: bool)
+pub(crate) fn layers(p: &mut Parser<'_>, height: u8, condition: Condition)
     requires begins { StartsIn condition (looks rules.prefixed) p.old }
     requires high { height ≤ 10 }
     ensures gives { Gives (layer_at height) condition p.old p.new }
@@ -40,7 +41,7 @@ pub(crate) fn layers(p: &mut Parser<'_>, height: u8, condition: bool)
 // * b + c
 #[inline(never)]
 #[cycle(grammar)]
-pub(crate) fn climb(p: &mut Parser<'_>, frame: Marker, top: u8, condition: bool) -> Marker
+pub(crate) fn climb(p: &mut Parser<'_>, frame: Marker, top: u8, condition: Condition) -> Marker
     requires high { top ≤ 10 }
     requires innermost { IsInnermost frame p.old.nodes }
     ensures reads { Reads condition (repeated (turns_from top 1)) p.old p.new }
@@ -60,7 +61,7 @@ pub(crate) fn climb(p: &mut Parser<'_>, frame: Marker, top: u8, condition: bool)
 /// Parses an operator and its right operand, or `as` and its type.
 // + b
 #[cycle(grammar)]
-fn turn(p: &mut Parser<'_>, frame: Marker, operator: Operator, condition: bool) -> Marker
+fn turn(p: &mut Parser<'_>, frame: Marker, operator: Operator, condition: Condition) -> Marker
     requires layer { IsLayerNext operator p.old }
     requires innermost { IsInnermost frame p.old.nodes }
     ensures reads { Reads condition (turn_at operator.height) p.old p.new }
@@ -79,7 +80,7 @@ fn turn(p: &mut Parser<'_>, frame: Marker, operator: Operator, condition: bool) 
 /// none.
 // a * b
 #[cycle(grammar)]
-pub(crate) fn expect_layer(p: &mut Parser<'_>, height: u8, condition: bool)
+pub(crate) fn expect_layer(p: &mut Parser<'_>, height: u8, condition: Condition)
     requires high { height ≤ 10 }
     ensures reads { Reads condition (Want (Call (layer_at height)) ExpectedExpression) p.old p.new }
     ensures asks { Asks 16 p.old p.new }

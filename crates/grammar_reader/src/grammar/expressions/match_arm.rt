@@ -1,6 +1,6 @@
 //! Arms of a `match`.
 
-ghost use Rattle.std.specs.Prelude.{◌≤◌, Bool, true};
+ghost use Rattle.std.specs.Prelude.{◌≤◌, true};
 ghost use Rattle.parser_events.specs.Stack.{IsInnermost};
 ghost use Rattle.rust_grammar.specs.Calls.{Pattern};
 ghost use Rattle.rust_grammar.specs.Notation.{⁅◌⁆, ◌▸◌, ◌*, ◌!, more};
@@ -13,6 +13,7 @@ ghost use Rattle.rust_grammar.specs.Words.{'=>'};
 ghost use Rattle.rust_grammar.specs.Expressions as rows;
 ghost use Rattle.rust_productions.specs.Looks.{tokens, Takes, Asks, AsksIn};
 ghost use Rattle.rust_productions.specs.Reads.{looks, Gives, Reads, Saw};
+ghost use Rattle.rust_productions.specs.declared.condition.Condition.{Condition};
 
 use crate::grammar::attributes::{attribute, outer_attributes};
 use crate::grammar::expressions::atom::after_path;
@@ -25,6 +26,7 @@ use crate::grammar::statements::at_more;
 use parser_events::message::Message;
 use parser_events::parser::{Marker, Parser};
 use parser_input::syntax_kind::SyntaxKind;
+use rust_productions::condition::Condition;
 use rust_productions::grammar::expressions::at_block_like;
 use rust_productions::grammar::lists::comma;
 use rust_productions::grammar::match_arms::{at_braced_macro, at_long_path};
@@ -36,8 +38,8 @@ use rust_productions::grammar::{
 /// Parses a match arm.
 // Some(a) if a > 1 => b,
 #[cycle(grammar)]
-pub(crate) fn match_arm(p: &mut Parser<'_>, condition: bool)
-    requires begins { (c : Bool) → Saw c (looks rules.match_arm) p.old true }
+pub(crate) fn match_arm(p: &mut Parser<'_>, condition: Condition)
+    requires begins { (c : Condition) → Saw c (looks rules.match_arm) p.old true }
     requires some { 1 ≤ tokens p.old }
     ensures gives { Gives rules.match_arm condition p.old p.new }
     ensures takes { Takes 2100 p.old p.new }
@@ -55,7 +57,7 @@ pub(crate) fn match_arm(p: &mut Parser<'_>, condition: bool)
 #[cycle(grammar)]
 fn attributed_pattern(p: &mut Parser<'_>)
     requires begins { Starts (looks rules.match_arm) p.old }
-    ensures reads { (c : Bool) → Reads c (shared.outer_attributes ▸ Pattern) p.old p.new }
+    ensures reads { (c : Condition) → Reads c (shared.outer_attributes ▸ Pattern) p.old p.new }
     ensures takes { Takes 2895 p.old p.new }
 {
     if at_new(p, SyntaxKind::POUND) {
@@ -71,7 +73,7 @@ fn attributed_pattern(p: &mut Parser<'_>)
 // if a > 1
 #[cycle(grammar)]
 fn opt_guard(p: &mut Parser<'_>)
-    ensures reads { (c : Bool) → Reads c ⁅ rows.match_guard ⁆ p.old p.new }
+    ensures reads { (c : Condition) → Reads c ⁅ rows.match_guard ⁆ p.old p.new }
     ensures asks { Asks 1 p.old p.new }
 {
     if at(p, SyntaxKind::IF_KW) {
@@ -86,11 +88,11 @@ fn opt_guard(p: &mut Parser<'_>)
 // a > 1
 #[cycle(grammar)]
 fn guard_value(p: &mut Parser<'_>)
-    ensures reads { (c : Bool) → Reads c rows.guard_value p.old p.new }
+    ensures reads { (c : Condition) → Reads c rows.guard_value p.old p.new }
     ensures asks { Asks 30 p.old p.new }
 {
     if at_whole(p) {
-        expect_expression(p, Level::Operation, false);
+        expect_expression(p, Level::Operation, Condition::Off);
         return;
     }
     expect_condition(p);
@@ -99,7 +101,7 @@ fn guard_value(p: &mut Parser<'_>)
 /// Parses the `=>` of a match arm; emits an error if there is none.
 // =>
 fn expect_arrow(p: &mut Parser<'_>)
-    ensures reads { (c : Bool) → Reads c (One '=>' !) p.old p.new }
+    ensures reads { (c : Condition) → Reads c (One '=>' !) p.old p.new }
     ensures asks { Asks 2 p.old p.new }
 {
     if at_pair(p, SyntaxKind::EQ, SyntaxKind::R_ANGLE) {
@@ -112,7 +114,7 @@ fn expect_arrow(p: &mut Parser<'_>)
 /// Parses the value of a match arm and its comma.
 // b,
 #[cycle(grammar)]
-fn arm_value(p: &mut Parser<'_>, condition: bool)
+fn arm_value(p: &mut Parser<'_>, condition: Condition)
     ensures reads { Reads condition rows.arm_value p.old p.new }
     ensures asks { Asks 780 p.old p.new }
 {
@@ -126,7 +128,7 @@ fn arm_value(p: &mut Parser<'_>, condition: bool)
 /// Parses the value of a match arm in the profile, and its comma, which is optional after a block.
 // b,
 #[cycle(grammar)]
-fn profile_value(p: &mut Parser<'_>, condition: bool)
+fn profile_value(p: &mut Parser<'_>, condition: Condition)
     ensures reads { Reads condition rows.profile_value p.old p.new }
     ensures asks { Asks 780 p.old p.new }
 {
@@ -142,7 +144,7 @@ fn profile_value(p: &mut Parser<'_>, condition: bool)
 /// Parses the value of a match arm in the whole language, and its comma.
 // b,
 #[cycle(grammar)]
-fn arm_body(p: &mut Parser<'_>, condition: bool)
+fn arm_body(p: &mut Parser<'_>, condition: Condition)
     ensures gives { Gives rules.arm_body condition p.old p.new }
     ensures asks { Asks 770 p.old p.new }
 {
@@ -154,7 +156,7 @@ fn arm_body(p: &mut Parser<'_>, condition: bool)
 /// Parses the value of a match arm in the whole language, and its comma, within `frame`.
 // b,
 #[cycle(grammar)]
-fn inside_arm(p: &mut Parser<'_>, frame: Marker, condition: bool) -> Marker
+fn inside_arm(p: &mut Parser<'_>, frame: Marker, condition: Condition) -> Marker
     requires innermost { IsInnermost frame p.old.nodes }
     ensures reads { Reads condition (rule rules.arm_body) p.old p.new }
     ensures asks { AsksIn result 770 p.old p.new }
@@ -176,7 +178,7 @@ fn inside_arm(p: &mut Parser<'_>, frame: Marker, condition: bool) -> Marker
 /// comma.
 // ! { a }
 #[cycle(grammar)]
-fn after_long_path(p: &mut Parser<'_>, frame: Marker, condition: bool) -> Marker
+fn after_long_path(p: &mut Parser<'_>, frame: Marker, condition: Condition) -> Marker
     requires innermost { IsInnermost frame p.old.nodes }
     ensures reads { Reads condition rows.after_long_path p.old p.new }
     ensures asks { AsksIn result 40 p.old p.new }
@@ -195,7 +197,7 @@ fn after_long_path(p: &mut Parser<'_>, frame: Marker, condition: bool) -> Marker
 /// Parses what follows a value that ends in a block: operators and a comma, or an optional comma.
 // .c(),
 #[cycle(grammar)]
-fn arm_tail(p: &mut Parser<'_>, frame: Marker, condition: bool) -> Marker
+fn arm_tail(p: &mut Parser<'_>, frame: Marker, condition: Condition) -> Marker
     requires innermost { IsInnermost frame p.old.nodes }
     ensures reads { Reads condition rows.arm_tail p.old p.new }
     ensures asks { AsksIn result 30 p.old p.new }
@@ -211,7 +213,7 @@ fn arm_tail(p: &mut Parser<'_>, frame: Marker, condition: bool) -> Marker
 /// Parses postfix operators, further operators with their operands, and a comma.
 // .c() + d,
 #[cycle(grammar)]
-fn further_operators(p: &mut Parser<'_>, frame: Marker, condition: bool) -> Marker
+fn further_operators(p: &mut Parser<'_>, frame: Marker, condition: Condition) -> Marker
     requires innermost { IsInnermost frame p.old.nodes }
     ensures reads { Reads condition (more rules.postfix * ▸ rows.after_operand ▸ rows.arm_comma) p.old p.new }
     ensures asks { AsksIn result 20 p.old p.new }

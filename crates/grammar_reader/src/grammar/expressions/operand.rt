@@ -1,6 +1,6 @@
 //! Operands with their prefix and postfix operators.
 
-ghost use Rattle.std.specs.Prelude.{◌≤◌, Bool, IsTrue, true};
+ghost use Rattle.std.specs.Prelude.{◌≤◌, IsTrue, true};
 ghost use Rattle.parser_input.specs.Kind.{raw_of};
 ghost use Rattle.parser_input.specs.Kinds.{FLOAT_NUMBER, PREFIX_EXPR};
 ghost use Rattle.parser_events.specs.Stack.{IsInnermost};
@@ -13,8 +13,9 @@ ghost use Rattle.rust_grammar.specs.Whole.{rule};
 ghost use Rattle.rust_grammar.specs.Expressions as rows;
 ghost use Rattle.rust_grammar.specs.Shared.{attributed};
 ghost use Rattle.rust_productions.specs.Looks.{tokens, Asks, Takes, Peeks, TakesIn, TakesOneIn, AsksIn};
-ghost use Rattle.rust_productions.specs.Reads.{looks, Anew, Completes, Gives, Reads, Saw};
+ghost use Rattle.rust_productions.specs.Reads.{looks, FromStart, Completes, Gives, Reads, Saw};
 ghost use Rattle.rust_productions.specs.Starts.{Starts, StartsIn};
+ghost use Rattle.rust_productions.specs.declared.condition.Condition.{Condition};
 ghost use Rattle.grammar_reader.specs.Next.{IsFloat};
 
 use crate::grammar::attributes::attribute;
@@ -27,6 +28,7 @@ use crate::grammar::types::word_type;
 use parser_events::message::Message;
 use parser_events::parser::{Marker, Parser};
 use parser_input::syntax_kind::SyntaxKind;
+use rust_productions::condition::Condition;
 use rust_productions::grammar::expressions::at_operand;
 use rust_productions::grammar::operands::{at_new_operand, at_raw, opt_mut_or_const};
 use rust_productions::grammar::operators::at_joint;
@@ -38,7 +40,7 @@ use rust_productions::grammar::{
 /// Parses an operand with its prefix operators.
 // -!a
 #[cycle(grammar)]
-pub(crate) fn prefixed(p: &mut Parser<'_>, condition: bool)
+pub(crate) fn prefixed(p: &mut Parser<'_>, condition: Condition)
     requires begins { Saw condition (looks rules.prefixed) p.old true }
     requires some { 1 ≤ tokens p.old }
     ensures gives { Gives rules.prefixed condition p.old p.new }
@@ -65,7 +67,7 @@ pub(crate) fn prefixed(p: &mut Parser<'_>, condition: bool)
 /// Parses a prefix operator and its operand.
 // -a
 #[cycle(grammar)]
-fn prefix_expr(p: &mut Parser<'_>, operator: SyntaxKind, condition: bool)
+fn prefix_expr(p: &mut Parser<'_>, operator: SyntaxKind, condition: Condition)
     requires some { 1 ≤ tokens p.old }
     ensures reads { Reads condition
         (PREFIX_EXPR ⟨ One (one (raw_of operator)) ▸ Prefixed ! ⟩) p.old p.new }
@@ -80,7 +82,7 @@ fn prefix_expr(p: &mut Parser<'_>, operator: SyntaxKind, condition: bool)
 /// Parses a borrow expression.
 // &mut a
 #[cycle(grammar)]
-fn ref_expr(p: &mut Parser<'_>, condition: bool)
+fn ref_expr(p: &mut Parser<'_>, condition: Condition)
     requires some { 1 ≤ tokens p.old }
     ensures reads { Reads condition rows.ref_expr p.old p.new }
     ensures takes { Takes 3300 p.old p.new }
@@ -96,9 +98,9 @@ fn ref_expr(p: &mut Parser<'_>, condition: bool)
 /// range without a start.
 // &raw mut a
 #[cycle(grammar)]
-fn new_operand(p: &mut Parser<'_>, condition: bool)
+fn new_operand(p: &mut Parser<'_>, condition: Condition)
     requires begins { Starts (wide rows.new_operand_begins) p.old }
-    ensures anew { Anew condition rows.new_operand p.old p.new }
+    ensures from_start { FromStart condition rows.new_operand p.old p.new }
     ensures takes { Takes 3200 p.old p.new }
 {
     if at_raw(p) {
@@ -115,9 +117,9 @@ fn new_operand(p: &mut Parser<'_>, condition: bool)
 /// Parses an operand with the attributes before it.
 // #[a] b.c
 #[cycle(grammar)]
-fn attributed_operand(p: &mut Parser<'_>, condition: bool)
+fn attributed_operand(p: &mut Parser<'_>, condition: Condition)
     requires some { 1 ≤ tokens p.old }
-    ensures anew { Anew condition (attributed rows.operand_after_attributes) p.old p.new }
+    ensures from_start { FromStart condition (attributed rows.operand_after_attributes) p.old p.new }
     ensures takes { Takes 4000 p.old p.new }
 {
     let frame = start(p);
@@ -130,7 +132,7 @@ fn attributed_operand(p: &mut Parser<'_>, condition: bool)
 /// is none.
 // b.c
 #[cycle(grammar)]
-fn operand_after_attributes(p: &mut Parser<'_>, frame: Marker, condition: bool)
+fn operand_after_attributes(p: &mut Parser<'_>, frame: Marker, condition: Condition)
     requires innermost { IsInnermost frame p.old.nodes }
     ensures completes { Completes condition rows.operand_after_attributes p.old p.new }
     ensures asks { Asks 16 p.old p.new }
@@ -147,7 +149,7 @@ fn operand_after_attributes(p: &mut Parser<'_>, frame: Marker, condition: bool)
 /// Parses an operand. What the innermost node has so far becomes its first children.
 // a.b
 #[cycle(grammar)]
-pub(crate) fn extended_operand(p: &mut Parser<'_>, condition: bool)
+pub(crate) fn extended_operand(p: &mut Parser<'_>, condition: Condition)
     requires begins { StartsIn condition (looks rules.prefixed) p.old }
     ensures reads { Reads condition (lead Prefixed) p.old p.new }
     ensures takes { Takes 2870 p.old p.new }
@@ -160,7 +162,7 @@ pub(crate) fn extended_operand(p: &mut Parser<'_>, condition: bool)
 /// Parses a raw reference.
 // &raw mut a
 #[cycle(grammar)]
-fn raw_ref_expr(p: &mut Parser<'_>, condition: bool)
+fn raw_ref_expr(p: &mut Parser<'_>, condition: Condition)
     requires some { 2 ≤ tokens p.old }
     ensures reads { Reads condition rows.raw_ref_expr p.old p.new }
     ensures takes { Takes 4000 p.old p.new }
@@ -176,10 +178,10 @@ fn raw_ref_expr(p: &mut Parser<'_>, condition: bool)
 /// Parses an expression without operators, with its postfix operators.
 // a.b(c)?
 #[cycle(grammar)]
-fn operand(p: &mut Parser<'_>, condition: bool)
+fn operand(p: &mut Parser<'_>, condition: Condition)
     requires begins { Saw condition (looks rules.atom) p.old true }
     requires some { 1 ≤ tokens p.old }
-    ensures anew { Anew condition rows.postfixed p.old p.new }
+    ensures from_start { FromStart condition rows.postfixed p.old p.new }
     ensures takes { Takes 2880 p.old p.new }
 {
     let frame = start(p);
@@ -191,7 +193,7 @@ fn operand(p: &mut Parser<'_>, condition: bool)
 // a.b(c)?
 #[inline(never)]
 #[cycle(grammar)]
-fn framed_operand(p: &mut Parser<'_>, frame: Marker, condition: bool)
+fn framed_operand(p: &mut Parser<'_>, frame: Marker, condition: Condition)
     requires begins { StartsIn condition (looks rules.atom) p.old }
     requires innermost { IsInnermost frame p.old.nodes }
     ensures completes { Completes condition (rule rules.atom ▸ (more rules.postfix) *) p.old p.new }
@@ -204,7 +206,7 @@ fn framed_operand(p: &mut Parser<'_>, frame: Marker, condition: bool)
 
 /// Returns `true` if a postfix operator is next: a call, an index, a `?` or a dot.
 fn at_postfix(p: &mut Parser<'_>) -> bool
-    ensures sees { (c : Bool) → Saw c (looks rules.postfix) p.old result }
+    ensures sees { (c : Condition) → Saw c (looks rules.postfix) p.old result }
     ensures some { IsTrue result → 1 ≤ tokens p.old }
     ensures peeks { Peeks 3 p.old p.new }
 {
@@ -224,11 +226,10 @@ fn at_postfix(p: &mut Parser<'_>) -> bool
 
 /// Parses postfix operators.
 // .b(c)?[d]
-#[inline(never)]
 #[cycle(grammar)]
 pub(crate) fn postfixes(p: &mut Parser<'_>, frame: Marker) -> Marker
     requires innermost { IsInnermost frame p.old.nodes }
-    ensures reads { (c : Bool) → Reads c ((more rules.postfix) *) p.old p.new }
+    ensures reads { (c : Condition) → Reads c ((more rules.postfix) *) p.old p.new }
     ensures asks { AsksIn result 3 p.old p.new }
 {
     let mut frame = frame;
@@ -245,7 +246,7 @@ pub(crate) fn postfixes(p: &mut Parser<'_>, frame: Marker) -> Marker
 pub(crate) fn postfix(p: &mut Parser<'_>, frame: Marker) -> Marker
     requires some { 1 ≤ tokens p.old }
     requires innermost { IsInnermost frame p.old.nodes }
-    ensures reads { (c : Bool) → Reads c (more rules.postfix) p.old p.new }
+    ensures reads { (c : Condition) → Reads c (more rules.postfix) p.old p.new }
     ensures takes { TakesIn result 3290 p.old p.new }
 {
     match current(p) {
@@ -273,17 +274,17 @@ pub(crate) fn postfix(p: &mut Parser<'_>, frame: Marker) -> Marker
 #[cycle(grammar)]
 fn index(p: &mut Parser<'_>)
     requires some { 1 ≤ tokens p.old }
-    ensures reads { (c : Bool) → Reads c rows.index p.old p.new }
+    ensures reads { (c : Condition) → Reads c rows.index p.old p.new }
     ensures takes { Takes 3300 p.old p.new }
 {
     take(p, SyntaxKind::L_BRACK);
-    expect_expression(p, Level::Expression, false);
+    expect_expression(p, Level::Expression, Condition::Off);
     expect(p, SyntaxKind::R_BRACK);
 }
 
 /// Returns `true` if the name of a method is next: an identifier before `(` or `::`.
 fn at_method(p: &mut Parser<'_>) -> bool
-    ensures sees { (c : Bool) → Saw c rows.method_begins p.old result }
+    ensures sees { (c : Condition) → Saw c rows.method_begins p.old result }
     ensures some { IsTrue result → 1 ≤ tokens p.old }
     ensures peeks { Peeks 4 p.old p.new }
 {
@@ -304,7 +305,7 @@ fn at_method(p: &mut Parser<'_>) -> bool
 #[cycle(grammar)]
 fn after_dot(p: &mut Parser<'_>, frame: Marker) -> Marker
     requires innermost { IsInnermost frame p.old.nodes }
-    ensures reads { (c : Bool) → Reads c (more rules.after_dot) p.old p.new }
+    ensures reads { (c : Condition) → Reads c (more rules.after_dot) p.old p.new }
     ensures asks { AsksIn result 6 p.old p.new }
 {
     if at_method(p) {
@@ -337,7 +338,7 @@ fn after_dot(p: &mut Parser<'_>, frame: Marker) -> Marker
 #[cycle(grammar)]
 fn method_call(p: &mut Parser<'_>)
     requires some { 1 ≤ tokens p.old }
-    ensures reads { (c : Bool) → Reads c rows.method_call p.old p.new }
+    ensures reads { (c : Condition) → Reads c rows.method_call p.old p.new }
     ensures takes { Takes 4080 p.old p.new }
 {
     word_type(p, SyntaxKind::IDENT, SyntaxKind::NAME_REF);
@@ -352,7 +353,7 @@ fn method_call(p: &mut Parser<'_>)
 fn float(p: &mut Parser<'_>, frame: Marker) -> Marker
     requires begins { Starts (Kind 0 FLOAT_NUMBER) p.old }
     requires innermost { IsInnermost frame p.old.nodes }
-    ensures reads { (c : Bool) → Reads c rows.float_field p.old p.new }
+    ensures reads { (c : Condition) → Reads c rows.float_field p.old p.new }
     ensures takes { TakesIn result 4090 p.old p.new }
 {
     let joint = at_joint(p);
@@ -368,7 +369,7 @@ fn float(p: &mut Parser<'_>, frame: Marker) -> Marker
 fn split(p: &mut Parser<'_>, frame: Marker, joint: bool) -> Marker
     requires float { IsFloat joint p.old }
     requires innermost { IsInnermost frame p.old.nodes }
-    ensures reads { (c : Bool) → Reads c Split p.old p.new }
+    ensures reads { (c : Condition) → Reads c Split p.old p.new }
     ensures takes { TakesOneIn result p.old p.new }
 {
     let frame = p.split_float(frame, !joint);

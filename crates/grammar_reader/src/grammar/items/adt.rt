@@ -1,23 +1,25 @@
 //! Structs and enums.
 
-ghost use Rattle.std.specs.Prelude.{◌≤◌, Bool};
+ghost use Rattle.std.specs.Prelude.{◌≤◌};
 ghost use Rattle.parser_events.specs.Stack.{IsInnermost};
 ghost use Rattle.rust_grammar.specs.Notation.{◌! };
 ghost use Rattle.rust_grammar.specs.Items as rows;
 ghost use Rattle.rust_productions.specs.Looks.{tokens, Takes, Asks};
 ghost use Rattle.rust_productions.specs.Reads.{Completes, Reads};
+ghost use Rattle.rust_productions.specs.declared.condition.Condition.{Condition};
 
 use crate::grammar::lists::{ListKind, list};
 use crate::grammar::parts::{Part, expect_part, opt_part};
 use parser_events::parser::{Marker, Parser};
 use parser_input::syntax_kind::SyntaxKind;
+use rust_productions::condition::Condition;
 use rust_productions::grammar::names::expect_name;
 use rust_productions::grammar::{at, complete, expect, take};
 
 /// Parses a struct, and completes its node.
 // struct S<T> { a: T }
 #[cycle(grammar)]
-pub(crate) fn struct_item(p: &mut Parser<'_>, item: Marker, condition: bool)
+pub(crate) fn struct_item(p: &mut Parser<'_>, item: Marker, condition: Condition)
     requires some { 1 ≤ tokens p.old }
     requires innermost { IsInnermost item p.old.nodes }
     ensures completes { Completes condition rows.struct_item p.old p.new }
@@ -33,7 +35,7 @@ pub(crate) fn struct_item(p: &mut Parser<'_>, item: Marker, condition: bool)
 /// Parses the fields of a struct, or its `;`.
 // (u8, u8);
 #[cycle(grammar)]
-fn fields(p: &mut Parser<'_>, condition: bool)
+fn fields(p: &mut Parser<'_>, condition: Condition)
     ensures reads { Reads condition rows.struct_fields p.old p.new }
     ensures asks { Asks 4 p.old p.new }
 {
@@ -51,7 +53,7 @@ fn fields(p: &mut Parser<'_>, condition: bool)
 // { a: u8 }
 #[cycle(grammar)]
 fn named_fields(p: &mut Parser<'_>)
-    ensures reads { (c : Bool) → Reads c rows.named_fields p.old p.new }
+    ensures reads { (c : Condition) → Reads c rows.named_fields p.old p.new }
     ensures asks { Asks 2 p.old p.new }
 {
     if at(p, SyntaxKind::L_CURLY) {
@@ -64,7 +66,7 @@ fn named_fields(p: &mut Parser<'_>)
 /// Parses an enum, and completes its node.
 // enum E { A, B(u8) }
 #[cycle(grammar)]
-pub(crate) fn enum_item(p: &mut Parser<'_>, item: Marker, condition: bool)
+pub(crate) fn enum_item(p: &mut Parser<'_>, item: Marker, condition: Condition)
     requires some { 1 ≤ tokens p.old }
     requires innermost { IsInnermost item p.old.nodes }
     ensures completes { Completes condition rows.enum_item p.old p.new }

@@ -1,12 +1,13 @@
 //! Constants, statics and names of types.
 
-ghost use Rattle.std.specs.Prelude.{◌≤◌, Bool};
+ghost use Rattle.std.specs.Prelude.{◌≤◌};
 ghost use Rattle.parser_events.specs.Stack.{IsInnermost};
 ghost use Rattle.rust_grammar.specs.Notation.{⁅◌⁆};
 ghost use Rattle.rust_grammar.specs.Items as rows;
 ghost use Rattle.rust_grammar.specs.Shared.{initializer};
 ghost use Rattle.rust_productions.specs.Looks.{tokens, Takes, Asks};
 ghost use Rattle.rust_productions.specs.Reads.{Completes, Reads};
+ghost use Rattle.rust_productions.specs.declared.condition.Condition.{Condition};
 
 use crate::grammar::expressions::{Level, expect_expression};
 use crate::grammar::generic_params::bounds_after_colon;
@@ -14,6 +15,7 @@ use crate::grammar::parts::{Part, expect_part, opt_part};
 use crate::grammar::types::opt_type_after;
 use parser_events::parser::{Marker, Parser};
 use parser_input::syntax_kind::SyntaxKind;
+use rust_productions::condition::Condition;
 use rust_productions::grammar::names::expect_name;
 use rust_productions::grammar::use_trees::underscore_or_name;
 use rust_productions::grammar::{at, complete, eat, expect, take};
@@ -21,7 +23,7 @@ use rust_productions::grammar::{at, complete, eat, expect, take};
 /// Parses a constant, and completes its node.
 // const A: u8 = 1;
 #[cycle(grammar)]
-pub(crate) fn const_item(p: &mut Parser<'_>, item: Marker, condition: bool)
+pub(crate) fn const_item(p: &mut Parser<'_>, item: Marker, condition: Condition)
     requires some { 1 ≤ tokens p.old }
     requires innermost { IsInnermost item p.old.nodes }
     ensures completes { Completes condition rows.const_item p.old p.new }
@@ -37,7 +39,7 @@ pub(crate) fn const_item(p: &mut Parser<'_>, item: Marker, condition: bool)
 /// Parses the type and the optional value of a constant, its where clause and its `;`.
 // : u8 = 1;
 #[cycle(grammar)]
-fn const_typed(p: &mut Parser<'_>, in_condition: bool)
+fn const_typed(p: &mut Parser<'_>, in_condition: Condition)
     ensures reads { Reads in_condition rows.const_typed p.old p.new }
     ensures asks { Asks 20 p.old p.new }
 {
@@ -51,7 +53,7 @@ fn const_typed(p: &mut Parser<'_>, in_condition: bool)
 /// Parses a static, and completes its node.
 // static mut A: u8 = 1;
 #[cycle(grammar)]
-pub(crate) fn static_item(p: &mut Parser<'_>, item: Marker, condition: bool)
+pub(crate) fn static_item(p: &mut Parser<'_>, item: Marker, condition: Condition)
     requires some { 1 ≤ tokens p.old }
     requires innermost { IsInnermost item p.old.nodes }
     ensures completes { Completes condition rows.static_item p.old p.new }
@@ -67,7 +69,7 @@ pub(crate) fn static_item(p: &mut Parser<'_>, item: Marker, condition: bool)
 /// Parses the type and the optional value of a static, and its `;`.
 // : u8 = 1;
 #[cycle(grammar)]
-fn typed_value(p: &mut Parser<'_>, condition: bool)
+fn typed_value(p: &mut Parser<'_>, condition: Condition)
     ensures reads { Reads condition rows.typed_value p.old p.new }
     ensures asks { Asks 20 p.old p.new }
 {
@@ -80,7 +82,7 @@ fn typed_value(p: &mut Parser<'_>, condition: bool)
 /// Parses an optional value with its `=`.
 // = 1
 #[cycle(grammar)]
-pub(crate) fn opt_value(p: &mut Parser<'_>, condition: bool)
+pub(crate) fn opt_value(p: &mut Parser<'_>, condition: Condition)
     ensures reads { Reads condition ⁅ initializer ⁆ p.old p.new }
     ensures asks { Asks 1 p.old p.new }
 {
@@ -93,7 +95,7 @@ pub(crate) fn opt_value(p: &mut Parser<'_>, condition: bool)
 /// Parses a type alias, and completes its node.
 // type A<T> = B<T>;
 #[cycle(grammar)]
-pub(crate) fn type_alias(p: &mut Parser<'_>, item: Marker, condition: bool)
+pub(crate) fn type_alias(p: &mut Parser<'_>, item: Marker, condition: Condition)
     requires some { 1 ≤ tokens p.old }
     requires innermost { IsInnermost item p.old.nodes }
     ensures completes { Completes condition rows.type_alias p.old p.new }
@@ -112,7 +114,7 @@ pub(crate) fn type_alias(p: &mut Parser<'_>, item: Marker, condition: bool)
 // = B<T>;
 #[cycle(grammar)]
 fn alias_value(p: &mut Parser<'_>)
-    ensures reads { (c : Bool) → Reads c rows.alias_value p.old p.new }
+    ensures reads { (c : Condition) → Reads c rows.alias_value p.old p.new }
     ensures asks { Asks 3 p.old p.new }
 {
     opt_type_after(p, SyntaxKind::EQ);

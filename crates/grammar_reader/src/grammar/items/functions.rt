@@ -1,6 +1,6 @@
 //! Functions.
 
-ghost use Rattle.std.specs.Prelude.{◌≤◌, Bool};
+ghost use Rattle.std.specs.Prelude.{◌≤◌};
 ghost use Rattle.parser_input.specs.Kinds.{FN};
 ghost use Rattle.parser_events.specs.Stack.{IsInnermost};
 ghost use Rattle.rust_grammar.specs.Items.{fn_begins};
@@ -11,12 +11,14 @@ ghost use Rattle.rust_grammar.specs.Words.{'fn'};
 ghost use Rattle.rust_productions.specs.Looks.{tokens, Takes, Asks};
 ghost use Rattle.rust_productions.specs.Reads.{Completes, Reads};
 ghost use Rattle.rust_productions.specs.Starts.{Starts};
+ghost use Rattle.rust_productions.specs.declared.condition.Condition.{Condition};
 
 use crate::grammar::expressions::blocks::block;
 use crate::grammar::parts::{Part, expect_part, opt_part};
 use crate::grammar::types::opt_ret_type;
 use parser_events::parser::{Marker, Parser};
 use parser_input::syntax_kind::SyntaxKind;
+use rust_productions::condition::Condition;
 use rust_productions::grammar::items::fn_words;
 use rust_productions::grammar::names::expect_name;
 use rust_productions::grammar::{at, complete, expect, take};
@@ -24,7 +26,7 @@ use rust_productions::grammar::{at, complete, expect, take};
 /// Parses a function, and completes its node.
 // const unsafe fn f<T>(a: T) -> T { a }
 #[cycle(grammar)]
-pub(crate) fn fn_item(p: &mut Parser<'_>, item: Marker, condition: bool)
+pub(crate) fn fn_item(p: &mut Parser<'_>, item: Marker, condition: Condition)
     requires begins { Starts fn_begins p.old }
     requires innermost { IsInnermost item p.old.nodes }
     ensures completes { Completes condition rows.fn_item p.old p.new }
@@ -41,7 +43,7 @@ pub(crate) fn fn_item(p: &mut Parser<'_>, item: Marker, condition: bool)
 pub(crate) fn plain_fn(p: &mut Parser<'_>, node: Marker)
     requires some { 1 ≤ tokens p.old }
     requires innermost { IsInnermost node p.old.nodes }
-    ensures completes { (c : Bool) → Completes c (FN <⟨ One 'fn' ▸ rows.after_fn ⟩) p.old p.new }
+    ensures completes { (c : Condition) → Completes c (FN <⟨ One 'fn' ▸ rows.after_fn ⟩) p.old p.new }
     ensures takes { Takes 4080 p.old p.new }
 {
     take(p, SyntaxKind::FN_KW);
@@ -53,7 +55,7 @@ pub(crate) fn plain_fn(p: &mut Parser<'_>, node: Marker)
 // f<T>(a: T) -> T { a }
 #[cycle(grammar)]
 fn after_fn(p: &mut Parser<'_>)
-    ensures reads { (c : Bool) → Reads c rows.after_fn p.old p.new }
+    ensures reads { (c : Condition) → Reads c rows.after_fn p.old p.new }
     ensures asks { Asks 8 p.old p.new }
 {
     expect_name(p);
@@ -68,7 +70,7 @@ fn after_fn(p: &mut Parser<'_>)
 // { a }
 #[cycle(grammar)]
 fn fn_body(p: &mut Parser<'_>)
-    ensures reads { (c : Bool) → Reads c rows.fn_body p.old p.new }
+    ensures reads { (c : Condition) → Reads c rows.fn_body p.old p.new }
     ensures asks { Asks 2 p.old p.new }
 {
     if at(p, SyntaxKind::L_CURLY) {

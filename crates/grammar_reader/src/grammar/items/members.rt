@@ -1,6 +1,6 @@
 //! The members of structs and enums: variants, and fields with and without names.
 
-ghost use Rattle.std.specs.Prelude.{◌≤◌, Bool, false, true};
+ghost use Rattle.std.specs.Prelude.{◌≤◌, true};
 ghost use Rattle.parser_input.specs.Kinds.{CONST_ARG};
 ghost use Rattle.rust_grammar.specs.Calls.{Attribute, Expression, Name, Visibility};
 ghost use Rattle.rust_grammar.specs.Items as rows;
@@ -8,6 +8,8 @@ ghost use Rattle.rust_grammar.specs.Notation.{◌▸◌, ⁅◌⁆, ◌*, ◌!, 
 ghost use Rattle.rust_grammar.specs.Rule.{begins};
 ghost use Rattle.rust_productions.specs.Looks.{tokens, Takes, Asks, Peeks};
 ghost use Rattle.rust_productions.specs.Reads.{looks, Reads, Saw};
+ghost use Rattle.rust_productions.specs.declared.condition.Condition.{Condition};
+ghost use Rattle.rust_productions.specs.declared.condition.Condition.TheVariants.{Off};
 
 use crate::grammar::expressions::{Level, expect_expression};
 use crate::grammar::items::attributes_and_visibility;
@@ -16,6 +18,7 @@ use crate::grammar::parts::{Part, expect_part};
 use crate::grammar::types::any_type;
 use parser_events::parser::Parser;
 use parser_input::syntax_kind::SyntaxKind;
+use rust_productions::condition::Condition;
 use rust_productions::grammar::items::opt_unsafe_field;
 use rust_productions::grammar::names::{expect_name, name};
 use rust_productions::grammar::types::at_type;
@@ -24,7 +27,7 @@ use rust_productions::grammar::{at_new, at_whole, complete, current, expect, sta
 
 /// Returns `true` if a variant starts here: at an attribute, a visibility or a name.
 pub(crate) fn at_named_member(p: &mut Parser<'_>) -> bool
-    ensures sees { (c : Bool) → Saw c
+    ensures sees { (c : Condition) → Saw c
         (begins looks (Attribute * ▸ ⁅ Visibility ⁆ ▸ Name !)) p.old result }
     ensures peeks { Peeks 1 p.old p.new }
 {
@@ -37,7 +40,7 @@ pub(crate) fn at_named_member(p: &mut Parser<'_>) -> bool
 /// Returns `true` if a named field starts here: at an attribute, a visibility, a name, or in the
 /// whole language at `unsafe`.
 pub(crate) fn at_record_field(p: &mut Parser<'_>) -> bool
-    ensures sees { (c : Bool) → Saw c (begins looks rows.field_front) p.old result }
+    ensures sees { (c : Condition) → Saw c (begins looks rows.field_front) p.old result }
     ensures peeks { Peeks 1 p.old p.new }
 {
     match current(p) {
@@ -54,7 +57,7 @@ pub(crate) fn at_record_field(p: &mut Parser<'_>) -> bool
 
 /// Returns `true` if a tuple field starts here: at an attribute, a visibility or a type.
 pub(crate) fn at_tuple_field(p: &mut Parser<'_>) -> bool
-    ensures sees { (c : Bool) → Saw c (begins looks rows.typed) p.old result }
+    ensures sees { (c : Condition) → Saw c (begins looks rows.typed) p.old result }
     ensures peeks { Peeks 17 p.old p.new }
 {
     match current(p) {
@@ -68,9 +71,9 @@ pub(crate) fn at_tuple_field(p: &mut Parser<'_>) -> bool
 #[inline(never)]
 #[cycle(grammar)]
 pub(crate) fn variant(p: &mut Parser<'_>)
-    requires begins { Saw false (begins looks rows.variant) p.old true }
+    requires begins { Saw Off (begins looks rows.variant) p.old true }
     requires some { 1 ≤ tokens p.old }
-    ensures reads { Reads false rows.variant p.old p.new }
+    ensures reads { Reads Off rows.variant p.old p.new }
     ensures takes { Takes 4000 p.old p.new }
 {
     let variant = start(p);
@@ -85,9 +88,9 @@ pub(crate) fn variant(p: &mut Parser<'_>)
 #[inline(never)]
 #[cycle(grammar)]
 pub(crate) fn record_field(p: &mut Parser<'_>)
-    requires begins { Saw false (begins looks rows.record_field) p.old true }
+    requires begins { Saw Off (begins looks rows.record_field) p.old true }
     requires some { 1 ≤ tokens p.old }
-    ensures reads { Reads false rows.record_field p.old p.new }
+    ensures reads { Reads Off rows.record_field p.old p.new }
     ensures takes { Takes 4000 p.old p.new }
 {
     let field = start(p);
@@ -103,9 +106,9 @@ pub(crate) fn record_field(p: &mut Parser<'_>)
 #[inline(never)]
 #[cycle(grammar)]
 pub(crate) fn tuple_field(p: &mut Parser<'_>)
-    requires begins { Saw false (begins looks rows.tuple_field) p.old true }
+    requires begins { Saw Off (begins looks rows.tuple_field) p.old true }
     requires some { 1 ≤ tokens p.old }
-    ensures reads { Reads false rows.tuple_field p.old p.new }
+    ensures reads { Reads Off rows.tuple_field p.old p.new }
     ensures takes { Takes 2900 p.old p.new }
 {
     let field = start(p);
@@ -117,9 +120,9 @@ pub(crate) fn tuple_field(p: &mut Parser<'_>)
 // #[a] pub unsafe b
 #[cycle(grammar)]
 fn field_front(p: &mut Parser<'_>)
-    requires begins { Saw false (begins looks rows.field_front) p.old true }
+    requires begins { Saw Off (begins looks rows.field_front) p.old true }
     requires some { 1 ≤ tokens p.old }
-    ensures reads { Reads false rows.field_front p.old p.new }
+    ensures reads { Reads Off rows.field_front p.old p.new }
     ensures takes { Takes 4060 p.old p.new }
 {
     match current(p) {
@@ -144,7 +147,7 @@ fn field_front(p: &mut Parser<'_>)
 /// Parses the optional `unsafe` of a named field and its name.
 // unsafe b
 fn unsafe_and_name(p: &mut Parser<'_>)
-    ensures reads { (c : Bool) → Reads c rows.unsafe_and_name p.old p.new }
+    ensures reads { (c : Condition) → Reads c rows.unsafe_and_name p.old p.new }
     ensures asks { Asks 2 p.old p.new }
 {
     opt_unsafe_field(p);
@@ -155,7 +158,7 @@ fn unsafe_and_name(p: &mut Parser<'_>)
 // = 1
 #[cycle(grammar)]
 fn opt_discriminant(p: &mut Parser<'_>)
-    ensures reads { Reads false rows.discriminant p.old p.new }
+    ensures reads { Reads Off rows.discriminant p.old p.new }
     ensures asks { Asks 1 p.old p.new }
 {
     if at_new(p, SyntaxKind::EQ) {
@@ -168,11 +171,11 @@ fn opt_discriminant(p: &mut Parser<'_>)
 // 1
 #[cycle(grammar)]
 fn const_value(p: &mut Parser<'_>)
-    ensures reads { Reads false (CONST_ARG ⟨ Expression ! ⟩) p.old p.new }
+    ensures reads { Reads Off (CONST_ARG ⟨ Expression ! ⟩) p.old p.new }
     ensures asks { Asks 770 p.old p.new }
 {
     let node = start(p);
-    expect_expression(p, Level::Expression, false);
+    expect_expression(p, Level::Expression, Condition::Off);
     complete(p, node, SyntaxKind::CONST_ARG);
 }
 
@@ -180,9 +183,9 @@ fn const_value(p: &mut Parser<'_>)
 // #[a] pub b
 #[cycle(grammar)]
 fn named(p: &mut Parser<'_>)
-    requires begins { Saw false (begins looks (Attribute * ▸ ⁅ Visibility ⁆ ▸ Name !)) p.old true }
+    requires begins { Saw Off (begins looks (Attribute * ▸ ⁅ Visibility ⁆ ▸ Name !)) p.old true }
     requires some { 1 ≤ tokens p.old }
-    ensures reads { Reads false (Attribute * ▸ ⁅ Visibility ⁆ ▸ Name !) p.old p.new }
+    ensures reads { Reads Off (Attribute * ▸ ⁅ Visibility ⁆ ▸ Name !) p.old p.new }
     ensures takes { Takes 4060 p.old p.new }
 {
     match current(p) {
@@ -202,9 +205,9 @@ fn named(p: &mut Parser<'_>)
 // #[a] pub u8
 #[cycle(grammar)]
 fn typed(p: &mut Parser<'_>)
-    requires begins { Saw false (begins looks rows.typed) p.old true }
+    requires begins { Saw Off (begins looks rows.typed) p.old true }
     requires some { 1 ≤ tokens p.old }
-    ensures reads { Reads false rows.typed p.old p.new }
+    ensures reads { Reads Off rows.typed p.old p.new }
     ensures takes { Takes 2900 p.old p.new }
 {
     match current(p) {
@@ -224,7 +227,7 @@ fn typed(p: &mut Parser<'_>)
 // (u8)
 #[cycle(grammar)]
 fn opt_fields(p: &mut Parser<'_>)
-    ensures reads { (c : Bool) → Reads c ⁅ rows.variant_fields ⁆ p.old p.new }
+    ensures reads { (c : Condition) → Reads c ⁅ rows.variant_fields ⁆ p.old p.new }
     ensures asks { Asks 1 p.old p.new }
 {
     match current(p) {

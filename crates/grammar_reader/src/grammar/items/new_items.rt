@@ -1,12 +1,13 @@
 //! Items that only the whole language has, and the words before items.
 
-ghost use Rattle.std.specs.Prelude.{◌≤◌, Bool};
+ghost use Rattle.std.specs.Prelude.{◌≤◌};
 ghost use Rattle.parser_events.specs.Stack.{IsInnermost};
 ghost use Rattle.rust_grammar.specs.Items as rows;
 ghost use Rattle.rust_grammar.specs.Notation.{◌!, wide};
 ghost use Rattle.rust_productions.specs.Looks.{tokens, Takes, Asks};
 ghost use Rattle.rust_productions.specs.Reads.{Completes};
 ghost use Rattle.rust_productions.specs.Starts.{Starts};
+ghost use Rattle.rust_productions.specs.declared.condition.Condition.{Condition};
 
 use crate::grammar::items::consts::{const_item, static_item, type_alias};
 use crate::grammar::items::functions::plain_fn;
@@ -16,6 +17,7 @@ use crate::grammar::parts::{Part, expect_part, opt_part};
 use parser_events::message::Message;
 use parser_events::parser::{Marker, Parser};
 use parser_input::syntax_kind::SyntaxKind;
+use rust_productions::condition::Condition;
 use rust_productions::grammar::item_words::{
     at_async_word, at_auto_word, at_const_word, at_extern_crate, at_gen_word, at_macro_rules,
     at_safe_word, at_union, at_unsafe_word, opt_async_word, opt_auto_word, opt_default_words,
@@ -29,7 +31,7 @@ use rust_productions::grammar::{at, complete, current, eat, error, take, take_co
 /// completes its node.
 // union U { a: u8 }
 #[cycle(grammar)]
-pub(crate) fn new_item(p: &mut Parser<'_>, item: Marker, condition: bool)
+pub(crate) fn new_item(p: &mut Parser<'_>, item: Marker, condition: Condition)
     requires begins { Starts (wide rows.new_item_begins) p.old }
     requires innermost { IsInnermost item p.old.nodes }
     ensures completes { Completes condition rows.new_item p.old p.new }
@@ -60,7 +62,7 @@ pub(crate) fn new_item(p: &mut Parser<'_>, item: Marker, condition: bool)
 fn union_item(p: &mut Parser<'_>, item: Marker)
     requires some { 2 ≤ tokens p.old }
     requires innermost { IsInnermost item p.old.nodes }
-    ensures completes { (c : Bool) → Completes c rows.union_item p.old p.new }
+    ensures completes { (c : Condition) → Completes c rows.union_item p.old p.new }
     ensures takes { Takes 4080 p.old p.new }
 {
     take_contextual(p, SyntaxKind::UNION_KW);
@@ -74,7 +76,7 @@ fn union_item(p: &mut Parser<'_>, item: Marker)
 /// Parses an item with words before its own, and completes its node.
 // const async unsafe extern "C" fn f() {}
 #[cycle(grammar)]
-fn item_words(p: &mut Parser<'_>, item: Marker, condition: bool)
+fn item_words(p: &mut Parser<'_>, item: Marker, condition: Condition)
     requires begins { Starts rows.words_begin p.old }
     requires innermost { IsInnermost item p.old.nodes }
     ensures completes { Completes condition rows.item_words p.old p.new }
@@ -106,7 +108,7 @@ fn item_words(p: &mut Parser<'_>, item: Marker, condition: bool)
 /// Parses an item that starts with `safe`, an ABI, `auto` or `default`, and completes its node.
 // safe extern "C" fn f();
 #[cycle(grammar)]
-fn contextual_words(p: &mut Parser<'_>, item: Marker, condition: bool)
+fn contextual_words(p: &mut Parser<'_>, item: Marker, condition: Condition)
     requires begins { Starts rows.contextual_words_begin p.old }
     requires innermost { IsInnermost item p.old.nodes }
     ensures completes { Completes condition rows.safe_or_abi p.old p.new }
@@ -137,7 +139,7 @@ fn contextual_words(p: &mut Parser<'_>, item: Marker, condition: bool)
 /// Parses an item from its optional `async` on, and completes its node.
 // async unsafe fn f() {}
 #[cycle(grammar)]
-fn words_from_async(p: &mut Parser<'_>, item: Marker, condition: bool)
+fn words_from_async(p: &mut Parser<'_>, item: Marker, condition: Condition)
     requires innermost { IsInnermost item p.old.nodes }
     ensures completes { Completes condition rows.words_from_async p.old p.new }
     ensures asks { Asks 40 p.old p.new }
@@ -149,7 +151,7 @@ fn words_from_async(p: &mut Parser<'_>, item: Marker, condition: bool)
 /// Parses an item from its optional `gen` on, and completes its node.
 // gen fn f() {}
 #[cycle(grammar)]
-fn words_from_gen(p: &mut Parser<'_>, item: Marker, condition: bool)
+fn words_from_gen(p: &mut Parser<'_>, item: Marker, condition: Condition)
     requires innermost { IsInnermost item p.old.nodes }
     ensures completes { Completes condition rows.words_from_gen p.old p.new }
     ensures asks { Asks 36 p.old p.new }
@@ -161,7 +163,7 @@ fn words_from_gen(p: &mut Parser<'_>, item: Marker, condition: bool)
 /// Parses an item from its optional `unsafe` on, and completes its node.
 // unsafe fn f() {}
 #[cycle(grammar)]
-fn words_from_unsafe(p: &mut Parser<'_>, item: Marker, condition: bool)
+fn words_from_unsafe(p: &mut Parser<'_>, item: Marker, condition: Condition)
     requires innermost { IsInnermost item p.old.nodes }
     ensures completes { Completes condition rows.words_from_unsafe p.old p.new }
     ensures asks { Asks 33 p.old p.new }
@@ -173,7 +175,7 @@ fn words_from_unsafe(p: &mut Parser<'_>, item: Marker, condition: bool)
 /// Parses an item from its optional `safe` on, and completes its node.
 // safe fn f();
 #[cycle(grammar)]
-fn safe_or_abi(p: &mut Parser<'_>, item: Marker, condition: bool)
+fn safe_or_abi(p: &mut Parser<'_>, item: Marker, condition: Condition)
     requires innermost { IsInnermost item p.old.nodes }
     ensures completes { Completes condition rows.safe_or_abi p.old p.new }
     ensures asks { Asks 30 p.old p.new }
@@ -185,7 +187,7 @@ fn safe_or_abi(p: &mut Parser<'_>, item: Marker, condition: bool)
 /// Parses an item from its ABI or the words in its place on, and completes its node.
 // extern "C" fn f() {}
 #[cycle(grammar)]
-fn abi_or_words(p: &mut Parser<'_>, item: Marker, condition: bool)
+fn abi_or_words(p: &mut Parser<'_>, item: Marker, condition: Condition)
     requires innermost { IsInnermost item p.old.nodes }
     ensures completes { Completes condition rows.abi_or_words p.old p.new }
     ensures asks { Asks 28 p.old p.new }
@@ -203,7 +205,7 @@ fn abi_or_words(p: &mut Parser<'_>, item: Marker, condition: bool)
 /// Parses the items of an extern block, or an item after its ABI, and completes its node.
 // { fn f(); }
 #[cycle(grammar)]
-fn after_abi(p: &mut Parser<'_>, item: Marker, condition: bool)
+fn after_abi(p: &mut Parser<'_>, item: Marker, condition: Condition)
     requires innermost { IsInnermost item p.old.nodes }
     ensures completes { Completes condition rows.after_abi p.old p.new }
     ensures asks { Asks 12 p.old p.new }
@@ -219,7 +221,7 @@ fn after_abi(p: &mut Parser<'_>, item: Marker, condition: bool)
 /// Parses an item from its own word on, and completes its node; emits an error if there is none.
 // fn f() {}
 #[cycle(grammar)]
-fn item_word(p: &mut Parser<'_>, item: Marker, condition: bool)
+fn item_word(p: &mut Parser<'_>, item: Marker, condition: Condition)
     requires innermost { IsInnermost item p.old.nodes }
     ensures completes { Completes condition rows.item_word p.old p.new }
     ensures asks { Asks 10 p.old p.new }

@@ -1,12 +1,13 @@
 //! Traits and implementations.
 
-ghost use Rattle.std.specs.Prelude.{◌≤◌, Bool};
+ghost use Rattle.std.specs.Prelude.{◌≤◌};
 ghost use Rattle.parser_events.specs.Stack.{IsInnermost};
 ghost use Rattle.rust_grammar.specs.Notation.{◌! };
 ghost use Rattle.rust_grammar.specs.Items as rows;
 ghost use Rattle.rust_productions.specs.Looks.{tokens, Takes, Asks};
 ghost use Rattle.rust_productions.specs.Reads.{Completes, Reads};
 ghost use Rattle.rust_productions.specs.Starts.{Starts};
+ghost use Rattle.rust_productions.specs.declared.condition.Condition.{Condition};
 
 use crate::grammar::generic_params::{bounds, bounds_after_colon};
 use crate::grammar::lists::{ListKind, list};
@@ -14,6 +15,7 @@ use crate::grammar::parts::{Part, expect_part, opt_part};
 use crate::grammar::types::opt_type_after;
 use parser_events::parser::{Marker, Parser};
 use parser_input::syntax_kind::SyntaxKind;
+use rust_productions::condition::Condition;
 use rust_productions::grammar::items::{
     at_impl_params, opt_const_before_trait, opt_negation, unsafe_word,
 };
@@ -23,7 +25,7 @@ use rust_productions::grammar::{at_new, complete, expect, take};
 /// Parses an implementation, and completes its node.
 // impl<T> A for B<T> { fn f() {} }
 #[cycle(grammar)]
-pub(crate) fn impl_item(p: &mut Parser<'_>, item: Marker, condition: bool)
+pub(crate) fn impl_item(p: &mut Parser<'_>, item: Marker, condition: Condition)
     requires begins { Starts rows.impl_begins p.old }
     requires innermost { IsInnermost item p.old.nodes }
     ensures completes { Completes condition rows.impl_item p.old p.new }
@@ -40,7 +42,7 @@ pub(crate) fn impl_item(p: &mut Parser<'_>, item: Marker, condition: bool)
 pub(crate) fn plain_impl(p: &mut Parser<'_>, item: Marker)
     requires some { 1 ≤ tokens p.old }
     requires innermost { IsInnermost item p.old.nodes }
-    ensures completes { (c : Bool) → Completes c rows.plain_impl p.old p.new }
+    ensures completes { (c : Condition) → Completes c rows.plain_impl p.old p.new }
     ensures takes { Takes 4060 p.old p.new }
 {
     take(p, SyntaxKind::IMPL_KW);
@@ -52,7 +54,7 @@ pub(crate) fn plain_impl(p: &mut Parser<'_>, item: Marker)
 // <T> A for B<T> { fn f() {} }
 #[cycle(grammar)]
 fn after_impl(p: &mut Parser<'_>)
-    ensures reads { (c : Bool) → Reads c rows.after_impl p.old p.new }
+    ensures reads { (c : Condition) → Reads c rows.after_impl p.old p.new }
     ensures asks { Asks 26 p.old p.new }
 {
     opt_impl_params(p);
@@ -68,7 +70,7 @@ fn after_impl(p: &mut Parser<'_>)
 // <T>
 #[cycle(grammar)]
 fn opt_impl_params(p: &mut Parser<'_>)
-    ensures reads { (c : Bool) → Reads c rows.impl_params p.old p.new }
+    ensures reads { (c : Condition) → Reads c rows.impl_params p.old p.new }
     ensures asks { Asks 4 p.old p.new }
 {
     if at_impl_params(p) {
@@ -79,7 +81,7 @@ fn opt_impl_params(p: &mut Parser<'_>)
 /// Parses a trait, and completes its node.
 // trait A<T>: B { fn f(); }
 #[cycle(grammar)]
-pub(crate) fn trait_item(p: &mut Parser<'_>, item: Marker, condition: bool)
+pub(crate) fn trait_item(p: &mut Parser<'_>, item: Marker, condition: Condition)
     requires begins { Starts rows.trait_begins p.old }
     requires innermost { IsInnermost item p.old.nodes }
     ensures completes { Completes condition rows.trait_item p.old p.new }
@@ -96,7 +98,7 @@ pub(crate) fn trait_item(p: &mut Parser<'_>, item: Marker, condition: bool)
 pub(crate) fn plain_trait(p: &mut Parser<'_>, item: Marker)
     requires some { 1 ≤ tokens p.old }
     requires innermost { IsInnermost item p.old.nodes }
-    ensures completes { (c : Bool) → Completes c rows.plain_trait p.old p.new }
+    ensures completes { (c : Condition) → Completes c rows.plain_trait p.old p.new }
     ensures takes { Takes 4080 p.old p.new }
 {
     take(p, SyntaxKind::TRAIT_KW);
@@ -108,7 +110,7 @@ pub(crate) fn plain_trait(p: &mut Parser<'_>, item: Marker)
 // A<T>: B { fn f(); }
 #[cycle(grammar)]
 fn after_trait(p: &mut Parser<'_>)
-    ensures reads { (c : Bool) → Reads c rows.after_trait p.old p.new }
+    ensures reads { (c : Condition) → Reads c rows.after_trait p.old p.new }
     ensures asks { Asks 6 p.old p.new }
 {
     expect_name(p);
@@ -120,7 +122,7 @@ fn after_trait(p: &mut Parser<'_>)
 // : B { fn f(); }
 #[cycle(grammar)]
 fn trait_body(p: &mut Parser<'_>)
-    ensures reads { (c : Bool) → Reads c rows.trait_body p.old p.new }
+    ensures reads { (c : Condition) → Reads c rows.trait_body p.old p.new }
     ensures asks { Asks 4 p.old p.new }
 {
     if at_new(p, SyntaxKind::EQ) {
@@ -135,7 +137,7 @@ fn trait_body(p: &mut Parser<'_>)
 #[cycle(grammar)]
 fn alias_bounds(p: &mut Parser<'_>)
     requires some { 1 ≤ tokens p.old }
-    ensures reads { (c : Bool) → Reads c rows.alias_bounds p.old p.new }
+    ensures reads { (c : Condition) → Reads c rows.alias_bounds p.old p.new }
     ensures takes { Takes 4000 p.old p.new }
 {
     take(p, SyntaxKind::EQ);
@@ -148,7 +150,7 @@ fn alias_bounds(p: &mut Parser<'_>)
 // : B { fn f(); }
 #[cycle(grammar)]
 fn trait_items(p: &mut Parser<'_>)
-    ensures reads { (c : Bool) → Reads c rows.trait_items p.old p.new }
+    ensures reads { (c : Condition) → Reads c rows.trait_items p.old p.new }
     ensures asks { Asks 3 p.old p.new }
 {
     bounds_after_colon(p);

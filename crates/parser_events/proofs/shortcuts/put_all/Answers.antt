@@ -1,9 +1,9 @@
 -- Each step goes on from what those before it made of the sink.
 use Rattle.std.proofs.Common.{◌<◌, List, length, map, sym, subst, inl, arith}
 use Rattle.std.proofs.lemmas.List.{take_all}
-use Rattle.parser_events.specs.Sinks.{TakesAll, RefusesOne}
+use Rattle.parser_events.specs.Sinks.{TakesAll, FailsAtOne}
 use Rattle.parser_events.specs.TextSteps.{TextStep, text_step_of}
-use Rattle.parser_events.proofs.Sinks.{map-from, map-more, takes-then, takes-one, refuses-after}
+use Rattle.parser_events.proofs.Sinks.{map-from, map-more, takes-then, takes-one, fails_at-after}
 use Rattle.parser_events.specs.declared.str_step.StrStep.{StrStep}
 use Rattle.parser_events.proofs.shortcuts.put_all.Goals as goal
 
@@ -23,8 +23,8 @@ returns-clause-taken g c =
 pub returns-in-Err-clause-refused : goal.returns-in-Err-clause-refused
 returns-in-Err-clause-refused g c =
     let takes = g.S.StrSink.takes in
-    let refuses = g.S.StrSink.refuses in
+    let fails_at = g.S.StrSink.fails_at in
     let steps = c.args.steps.now in
     let within : c.loop-i.i < length steps = omega arith in
-    subst (λ (ss : List TextStep). RefusesOne takes refuses c.args.sink.now ss c.in-Err.error c.step.new.self) (sym (map-from steps c.loop-i.i _ within))
-    (refuses-after takes refuses c.args.sink.now c.loop-i.sink c.step.new.self c.in-Err.error _ _ c.loop-i.invariant (inl c.in-Err.ensures.refused))
+    subst (λ (ss : List TextStep). FailsAtOne takes fails_at c.args.sink.now ss c.in-Err.error c.step.new.self) (sym (map-from steps c.loop-i.i _ within))
+    (fails_at-after takes fails_at c.args.sink.now c.loop-i.sink c.step.new.self c.in-Err.error _ _ c.loop-i.invariant (inl c.in-Err.ensures.refused))

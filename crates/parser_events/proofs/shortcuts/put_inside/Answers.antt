@@ -14,7 +14,7 @@ steps-preserved g c =
 
 pub returns-in-Err-clause-refused : goal.returns-in-Err-clause-refused
 returns-in-Err-clause-refused g c =
-    inside-refused g.S.StrSink.takes g.S.StrSink.refuses c.args.lexed.now.leaves c.args.steps c.steps.steps c.take_first.new.self c.args.sink.now c.steps.sink c.put_step.new.sink
+    inside-refused g.S.StrSink.takes g.S.StrSink.fails_at c.args.lexed.now.leaves c.args.steps c.steps.steps c.take_first.new.self c.args.sink.now c.steps.sink c.put_step.new.sink
     c.in-Err.error c.in-Some.step c.steps.next c.steps.invariant c.in-Some.ensures (omega (arith, c.len.ensures, c.if-len-eq0.false)) c.in-Err.ensures.refused
 
 pub returns-then-len-eq0-clause-taken : goal.returns-then-len-eq0-clause-taken
@@ -27,6 +27,6 @@ returns-then-len-eq0-clause-taken g c =
 pub returns-then-len-eq0-clause-refused : goal.returns-then-len-eq0-clause-refused
 returns-then-len-eq0-clause-refused g c =
     IfErr-weaker c.put_end.result _ _
-    (λ e r. inside-end-refused g.S.StrSink.takes g.S.StrSink.refuses c.args.lexed.now.leaves c.args.steps c.steps.steps c.take_first.new.self c.args.sink.now c.steps.sink c.put_end.new.sink e
+    (λ e r. inside-end-refused g.S.StrSink.takes g.S.StrSink.fails_at c.args.lexed.now.leaves c.args.steps c.steps.steps c.take_first.new.self c.args.sink.now c.steps.sink c.put_end.new.sink e
     c.in-Some.step c.steps.next c.steps.invariant c.in-Some.ensures (omega (arith, c.len.ensures, c.if-len-eq0.true)) r)
     c.put_end.ensures.refused

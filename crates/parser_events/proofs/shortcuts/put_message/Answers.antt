@@ -1,6 +1,6 @@
 use Rattle.std.proofs.Common.{ℕ, [], ◌∷◌, refl, subst}
 use Rattle.parser_events.specs.Seen.{message_of}
-use Rattle.parser_events.specs.Sinks.{TakesAll, RefusesOne}
+use Rattle.parser_events.specs.Sinks.{TakesAll, FailsAtOne}
 use Rattle.parser_events.specs.TextSteps.{Error}
 use Rattle.parser_events.proofs.shortcuts.put_message.Goals as goal
 
@@ -14,4 +14,4 @@ returns-in-Ok-clause-taken g c =
 
 pub returns-in-Err-clause-refused : goal.returns-in-Err-clause-refused
 returns-in-Err-clause-refused g c =
-    subst (λ (n : ℕ). RefusesOne g.S.StrSink.takes g.S.StrSink.refuses c.args.sink.now (Error (message_of c.args.msg) n ∷ []) c.in-Err.error c.put_one.new.sink) c.start_of-pos.ensures c.in-Err.ensures.refused
+    subst (λ (n : ℕ). FailsAtOne g.S.StrSink.takes g.S.StrSink.fails_at c.args.sink.now (Error (message_of c.args.msg) n ∷ []) c.in-Err.error c.put_one.new.sink) c.start_of-pos.ensures c.in-Err.ensures.refused

@@ -1,7 +1,7 @@
 use Rattle.std.proofs.Common.{◌≡◌, ◌+◌, ◌*◌, ◌≤◌, ◌&&◌, max, take, drop, length}
 use Rattle.std.specs.Str.{bytes_eq}
 use Rattle.rowan_green.specs.Forest.{tree_count, tree_text, forest_count}
-use Rattle.rowan_green.specs.Term.{texts_of, forest_of, term_count}
+use Rattle.rowan_green.specs.Term.{texts_of, children_of, term_count}
 use Rattle.rowan.specs.Matching.{outcome, pending_count}
 use Rattle.rowan.proofs.text_bytes.+has_bytes.Given as goal
 
@@ -28,9 +28,8 @@ abbrev pub decreases-has_bytes-down : goal.decreases-has_bytes-down
 decreases-has_bytes-down l = tree_count l.inside
 
 -- the outcome so far and that of the rest are the outcome of all
-abbrev pub invariant-children_have-loop-child : goal.invariant-children_have-loop-child
-invariant-children_have-loop-child l = record {
-  below : forest_count (forest_of l.child-iterator) + 1 ≤ tree_count l.node;
+abbrev pub invariant-children_have-loop-index : goal.invariant-children_have-loop-index
+invariant-children_have-loop-index l = record {
   pending : pending_count l.matching + 1 ≤ tree_count l.node;
-  rest : (outcome l.matching && bytes_eq (take (length l.left) (drop l.offset (texts_of l.child-iterator))) l.left) ≡ bytes_eq (take (length l.bytes) (drop l.fn.skip (tree_text l.node))) l.bytes;
+  rest : (outcome l.matching && bytes_eq (take (length l.left) (drop l.offset (texts_of (drop l.index (children_of l.node))))) l.left) ≡ bytes_eq (take (length l.bytes) (drop l.fn.skip (tree_text l.node))) l.bytes;
 }

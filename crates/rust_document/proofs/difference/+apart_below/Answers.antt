@@ -1,5 +1,5 @@
 -- Comparing begins with all children.
-use Rattle.std.proofs.Common.{◌≡◌, ap, sym, ◌∙◌, length, arith, ◌+◌, ◌≤◌, ◌<◌, ◌^◌}
+use Rattle.std.proofs.Common.{ap, sym, length, arith}
 use Rattle.rowan_green.specs.Forest.{forest_count, forest_text}
 use Rattle.rust_document.specs.Difference.{first_apart, placed}
 use Rattle.rust_document.proofs.Differences.{children-are}

@@ -1,5 +1,5 @@
 -- The law is two lemmas on the table, and two on looks.
-use Rattle.rust_grammar.proofs.PartsOfWhole.{parts-look-ahead, calls-have-given-nothing, nodes-have-given-nothing, calls-begin-anew}
+use Rattle.rust_grammar.proofs.PartsOfWhole.{parts-look-ahead, calls-have-given-nothing, nodes-have-given-nothing, calls-begin-from-start}
 use Rattle.rust_grammar.proofs.laws.looks_are_of_their_place.Goals as goal
 
 pub returns-clause-ahead : goal.returns-clause-ahead
@@ -11,5 +11,5 @@ returns-clause-called c = calls-have-given-nothing
 pub returns-clause-nodes : goal.returns-clause-nodes
 returns-clause-nodes c = nodes-have-given-nothing
 
-pub returns-clause-anew : goal.returns-clause-anew
-returns-clause-anew c = calls-begin-anew
+pub returns-clause-from_start : goal.returns-clause-from_start
+returns-clause-from_start c = calls-begin-from-start

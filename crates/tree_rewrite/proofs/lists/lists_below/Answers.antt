@@ -10,9 +10,9 @@ pub loop-number-init : goal.loop-number-init
 loop-number-init c = (
   c.in_ok-lists.ensures.count,
   λ gs n w h l.
-      let none = none_given c.args.jobs.now c.args.made.now [] gs refl h in
+      let none = none_given c.args.overlay.now.jobs.now c.args.overlay.now.made.now [] gs refl h in
       let vs = c.in_ok-lists.lists.items in
-      subst (λ k. AreLists c.args.jobs.now c.args.made.now (lists_of vs) n w k) (sym none) (lists_none c.args.jobs.now c.args.made.now vs n w c.in_ok-lists.ensures.empty),
+      subst (λ k. AreLists c.args.overlay.now.jobs.now c.args.overlay.now.made.now (lists_of vs) n w k) (sym none) (lists_none c.args.overlay.now.jobs.now c.args.overlay.now.made.now vs n w c.in_ok-lists.ensures.empty),
 )
 
 pub loop-number-preserved : goal.loop-number-preserved
@@ -21,8 +21,8 @@ loop-number-preserved c =
     let ns = c.args.numbers.now in (
       c.in_ok-push_number.ensures.count ∙ c.loop-number.invariant.0,
       λ gs n w h l.
-          let s = split_given c.args.jobs.now c.args.made.now (take (i + 1) ns) (take i ns) (get_or ns i 0) gs (take_more ns i 0 c.loop-number-test.true) h in
-          subst (λ k. AreLists c.args.jobs.now c.args.made.now (lists_of c.push_number.new.lists.items) n w k) (sym s.is)
+          let s = split_given c.args.overlay.now.jobs.now c.args.overlay.now.made.now (take (i + 1) ns) (take i ns) (get_or ns i 0) gs (take_more ns i 0 c.loop-number-test.true) h in
+          subst (λ k. AreLists c.args.overlay.now.jobs.now c.args.overlay.now.made.now (lists_of c.push_number.new.lists.items) n w k) (sym s.is)
           (c.in_ok-push_number.ensures.lists s.rest s.given n w s.numbered l (c.loop-number.invariant.1 s.rest n w s.have l)),
     )
 
@@ -30,4 +30,4 @@ pub returns-clause-lists : goal.returns-clause-lists
 returns-clause-lists c = λ gs n w h l.
     let ns = c.args.numbers.now in
     let all = take_all c.loop-number.number-index ns c.loop-number-test.false in
-    c.loop-number.invariant.1 gs n w (subst (λ k. HaveGiven c.args.jobs.now c.args.made.now k gs) (sym all) h) l
+    c.loop-number.invariant.1 gs n w (subst (λ k. HaveGiven c.args.overlay.now.jobs.now c.args.overlay.now.made.now k gs) (sym all) h) l

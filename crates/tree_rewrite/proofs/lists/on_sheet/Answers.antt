@@ -7,14 +7,14 @@ use Rattle.tree_rewrite.proofs.BelowLemmas.{sheet_none, next_put}
 use Rattle.tree_rewrite.proofs.lists.on_sheet.Goals as goal
 
 pub loop-number-init : goal.loop-number-init
-loop-number-init c = λ js h. sheet_none c.args.jobs.now c.args.made.now _ (way_of c.args.sheet.now) js c.new-numbers.ensures.items h
+loop-number-init c = λ js h. sheet_none c.args.overlay.now.jobs.now c.args.overlay.now.made.now _ (way_of c.args.overlay.now.sheet.now) js c.new-numbers.ensures.items h
 
 pub loop-number-preserved : goal.loop-number-preserved
 loop-number-preserved c = λ js h.
-    let s = next_put c.args.jobs.now c.args.made.now c.loop-number.number js c.loop-number-test.true h in
-    subst (λ k. OnSheet c.args.jobs.now c.args.made.now c.push_on.new.numbers.items (way_of c.args.sheet.now) k) (sym s.is)
+    let s = next_put c.args.overlay.now.jobs.now c.args.overlay.now.made.now c.loop-number.number js c.loop-number-test.true h in
+    subst (λ k. OnSheet c.args.overlay.now.jobs.now c.args.overlay.now.made.now c.push_on.new.numbers.items (way_of c.args.overlay.now.sheet.now) k) (sym s.is)
     (c.in_ok-push_on.ensures s.job s.rest s.given (c.loop-number.invariant s.rest s.have))
 
 pub returns : goal.returns
 returns c = λ js h.
-    c.loop-number.invariant js (subst (λ l. HavePut c.args.jobs.now l js) (sym (take_all c.loop-number.number c.args.made.now c.loop-number-test.false)) h)
+    c.loop-number.invariant js (subst (λ l. HavePut c.args.overlay.now.jobs.now l js) (sym (take_all c.loop-number.number c.args.overlay.now.made.now c.loop-number-test.false)) h)

@@ -6,4 +6,4 @@ use Rattle.tree_rewrite.specs.Below.{OnSheet}
 use Rattle.tree_rewrite.proofs.lists.on_sheet.Given as goal
 
 abbrev pub invariant-loop-number : goal.invariant-loop-number
-invariant-loop-number l = (js : List Job) → HavePut l.jobs (take l.number l.made) js → OnSheet l.jobs l.made l.numbers.items (way_of l.sheet) js
+invariant-loop-number l = (js : List Job) → HavePut l.overlay.jobs.now (take l.number l.overlay.made.now) js → OnSheet l.overlay.jobs.now l.overlay.made.now l.numbers.items (way_of l.overlay.sheet.now) js

@@ -7,11 +7,11 @@ use Rattle.tree_rewrite.proofs.lists.push_on.Goals as goal
 
 pub returns-in_ok-push : goal.returns-in_ok-push
 returns-in_ok-push c = λ j js d h.
-    let all = c.args.jobs.now in
-    let made = c.args.made.now in
-    let n = way_of c.args.sheet.now in
+    let all = c.args.overlay.now.jobs.now in
+    let made = c.args.overlay.now.made.now in
+    let n = way_of c.args.overlay.now.sheet.now in
     subst (λ l. OnSheet all made l n (j ∷ js)) (sym c.in_ok-push.ensures.items) (sheet_told all made c.args.numbers.now.items c.args.number n j js d h)
 
 pub returns-else-is_on : goal.returns-else-is_on
 returns-else-is_on c = λ j js d h.
-    sheet_left c.args.jobs.now c.args.made.now c.args.numbers.now.items (way_of c.args.sheet.now) j js (sym (c.is_on.ensures (j, terms_of (puts js) j) d) ∙ c.if-is_on.false) h
+    sheet_left c.args.overlay.now.jobs.now c.args.overlay.now.made.now c.args.numbers.now.items (way_of c.args.overlay.now.sheet.now) j js (sym (c.is_on.ensures (j, terms_of (puts js) j) d) ∙ c.if-is_on.false) h

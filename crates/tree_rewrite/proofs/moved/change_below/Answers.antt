@@ -12,8 +12,8 @@ use Rattle.tree_rewrite.proofs.moved.change_below.Goals as goal
 pub returns-then-not-has_gap : goal.returns-then-not-has_gap
 returns-then-not-has_gap c =
     let t = c.args.root.now in
-    let u = c.args.replaced.now in
-    let b = c.args.payload.now in
+    let u = c.args.replacement.way.now in
+    let b = c.args.replacement.payload.now in
     let g = c.green-green.result.now in
     let w = c.args.to.now in
     let p = c.in-Gap.parent.items in
@@ -30,8 +30,8 @@ returns-then-not-has_gap c =
 pub returns-in_ok-moved_to-in-Gap : goal.returns-in_ok-moved_to-in-Gap
 returns-in_ok-moved_to-in-Gap c =
     let t = c.args.root.now in
-    let u = c.args.replaced.now in
-    let b = c.args.payload.now in
+    let u = c.args.replacement.way.now in
+    let b = c.args.replacement.payload.now in
     let g = c.green-green.result.now in
     let w = c.args.to.now in
     let p = c.in-Gap.parent.items in
@@ -50,8 +50,8 @@ returns-in_ok-moved_to-in-Gap c =
 pub returns-then-not-same_children : goal.returns-then-not-same_children
 returns-then-not-same_children c =
     let t = c.args.root.now in
-    let u = c.args.replaced.now in
-    let b = c.args.payload.now in
+    let u = c.args.replacement.way.now in
+    let b = c.args.replacement.payload.now in
     let g = c.green-green.result.now in
     let w = c.args.to.now in
     let f = c.in-Slots.first.items in
@@ -73,8 +73,8 @@ returns-then-not-same_children c =
 pub returns-in_ok-moved_to-in-Slots : goal.returns-in_ok-moved_to-in-Slots
 returns-in_ok-moved_to-in-Slots c =
     let t = c.args.root.now in
-    let u = c.args.replaced.now in
-    let b = c.args.payload.now in
+    let u = c.args.replacement.way.now in
+    let b = c.args.replacement.payload.now in
     let g = c.green-green.result.now in
     let w = c.args.to.now in
     let f = c.in-Slots.first.items in

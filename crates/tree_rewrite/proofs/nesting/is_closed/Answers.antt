@@ -8,13 +8,13 @@ use Rattle.tree_rewrite.proofs.nesting.is_closed.Goals as goal
 pub returns-then-index-eq0 : goal.returns-then-index-eq0
 returns-then-index-eq0 c =
     let k : Change → Bool = λ r. not (is_node_by_node c.args.root.now r) in
-    sym (none-split c.args.parent.now c.args.index k c.args.changes.now c.if-index-eq0.true)
+    sym (none-split c.args.gap.parent.now c.args.gap.index k c.args.changes.now c.if-index-eq0.true)
 
 pub returns-in-Some : goal.returns-in-Some
 returns-in-Some c =
     let k : Change → Bool = λ r. not (is_node_by_node c.args.root.now r) in
-    let p = c.args.parent.now in
-    let i = c.args.index in
+    let p = c.args.gap.parent.now in
+    let i = c.args.gap.index in
     let cs = c.args.changes.now in
     let both : Change → Bool = λ r. splits p i r && k r in
     let before : i ≡ (i - 1) + 1 = omega arith in
@@ -24,8 +24,8 @@ returns-in-Some c =
 pub returns : goal.returns
 returns c =
     let k : Change → Bool = λ r. not (is_node_by_node c.args.root.now r) in
-    let p = c.args.parent.now in
-    let i = c.args.index in
+    let p = c.args.gap.parent.now in
+    let i = c.args.gap.index in
     let cs = c.args.changes.now in
     let both : Change → Bool = λ r. splits p i r && k r in
     let before : i ≡ (i - 1) + 1 = omega arith in

@@ -14,8 +14,8 @@ loop-number-init c = λ gs h. (gs, h, λ w l p b i. (refl, refl), refl)
 pub loop-number-preserved : goal.loop-number-preserved
 loop-number-preserved c = λ gs h.
     let old = c.loop-number.invariant gs h in
-    let s = split_given c.args.jobs.now c.args.made.now c.loop-number.rest.now c.in-Some.before.now c.in-Some.number.now old.0 c.in-Some.ensures.cases.0 old.1 in
-    let n = way_of c.args.sheet.now in
+    let s = split_given c.args.overlay.now.jobs.now c.args.overlay.now.made.now c.loop-number.rest.now c.in-Some.before.now c.in-Some.number.now old.0 c.in-Some.ensures.cases.0 old.1 in
+    let n = way_of c.args.overlay.now.sheet.now in
     let d = c.args.depth in
     let x = s.given.0.change in
     let m = same_sheet s.given.0.sheet n in
@@ -30,17 +30,17 @@ loop-number-preserved c = λ gs h.
 pub returns-then-is_deep-clause-touched : goal.returns-then-is_deep-clause-touched
 returns-then-is_deep-clause-touched c = λ gs w h l a.
     let old = c.loop-number.invariant gs h in
-    let s = split_given c.args.jobs.now c.args.made.now c.loop-number.rest.now c.in-Some.before.now c.in-Some.number.now old.0 c.in-Some.ensures.cases.0 old.1 in
-    let any = list_any (is_deep_on (way_of c.args.sheet.now) c.args.depth) in
-    sym (old.3 ∙ ap any s.is ∙ ap (λ b. b || any s.rest) (sym (c.is_deep.ensures s.given s.numbered) ∙ c.if-is_deep.true)) ∙ any_along gs (way_of c.args.sheet.now) w c.args.depth l a
+    let s = split_given c.args.overlay.now.jobs.now c.args.overlay.now.made.now c.loop-number.rest.now c.in-Some.before.now c.in-Some.number.now old.0 c.in-Some.ensures.cases.0 old.1 in
+    let any = list_any (is_deep_on (way_of c.args.overlay.now.sheet.now) c.args.depth) in
+    sym (old.3 ∙ ap any s.is ∙ ap (λ b. b || any s.rest) (sym (c.is_deep.ensures s.given s.numbered) ∙ c.if-is_deep.true)) ∙ any_along gs (way_of c.args.overlay.now.sheet.now) w c.args.depth l a
 
 pub returns-clause-touched : goal.returns-clause-touched
 returns-clause-touched c = λ gs w h l a.
     let old = c.loop-number.invariant gs h in
-    let none = none_given c.args.jobs.now c.args.made.now c.loop-number.rest.now old.0 c.in_default.ensures.cases old.1 in
-    sym (old.3 ∙ ap (list_any (is_deep_on (way_of c.args.sheet.now) c.args.depth)) none) ∙ any_along gs (way_of c.args.sheet.now) w c.args.depth l a
+    let none = none_given c.args.overlay.now.jobs.now c.args.overlay.now.made.now c.loop-number.rest.now old.0 c.in_default.ensures.cases old.1 in
+    sym (old.3 ∙ ap (list_any (is_deep_on (way_of c.args.overlay.now.sheet.now) c.args.depth)) none) ∙ any_along gs (way_of c.args.overlay.now.sheet.now) w c.args.depth l a
 
 pub returns-clause-blank : goal.returns-clause-blank
 returns-clause-blank c = λ gs w h l.
     let old = c.loop-number.invariant gs h in
-    below_end gs old.0 (way_of c.args.sheet.now) w (none_given c.args.jobs.now c.args.made.now c.loop-number.rest.now old.0 c.in_default.ensures.cases old.1) (old.2 w l)
+    below_end gs old.0 (way_of c.args.overlay.now.sheet.now) w (none_given c.args.overlay.now.jobs.now c.args.overlay.now.made.now c.loop-number.rest.now old.0 c.in_default.ensures.cases old.1) (old.2 w l)

@@ -7,9 +7,9 @@ use Rattle.tree_rewrite.proofs.SheetLemmas.{SameBelow}
 use Rattle.tree_rewrite.proofs.sheet.is_touched.Given as goal
 
 abbrev pub invariant-loop-number : goal.invariant-loop-number
-invariant-loop-number l = (gs : List Given) → HaveGiven l.jobs l.made l.numbers gs → (is : List Given) × HaveGiven l.jobs l.made l.rest is
-    × ((w : Way) → length w ≡ l.depth → SameBelow gs is (way_of l.sheet) w)
-    × (list_any (is_deep_on (way_of l.sheet) l.depth) gs ≡ list_any (is_deep_on (way_of l.sheet) l.depth) is)
+invariant-loop-number l = (gs : List Given) → HaveGiven l.overlay.jobs.now l.overlay.made.now l.numbers gs → (is : List Given) × HaveGiven l.overlay.jobs.now l.overlay.made.now l.rest is
+    × ((w : Way) → length w ≡ l.depth → SameBelow gs is (way_of l.overlay.sheet.now) w)
+    × (list_any (is_deep_on (way_of l.overlay.sheet.now) l.depth) gs ≡ list_any (is_deep_on (way_of l.overlay.sheet.now) l.depth) is)
 
 abbrev pub decreases-loop-number : goal.decreases-loop-number
 decreases-loop-number l = length l.rest

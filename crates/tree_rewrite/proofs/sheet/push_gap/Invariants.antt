@@ -6,10 +6,10 @@ use Rattle.tree_rewrite.specs.Pieces.{Adds}
 use Rattle.tree_rewrite.proofs.sheet.push_gap.Given as goal
 
 abbrev pub invariant-loop-number : goal.invariant-loop-number
-invariant-loop-number l = (gs : List Given) → HaveGiven l.jobs l.made l.numbers gs →
-    (is : List Given) × (m : Marked) × HaveGiven l.jobs l.made l.rest is
+invariant-loop-number l = (gs : List Given) → HaveGiven l.overlay.jobs.now l.overlay.made.now l.numbers gs →
+    (is : List Given) × (m : Marked) × HaveGiven l.overlay.jobs.now l.overlay.made.now l.rest is
     × Adds l.initial.pieces.items l.pieces.items m
-    × (at_gap gs (way_of l.sheet) (reverse l.path) l.index ≡ join m (at_gap is (way_of l.sheet) (reverse l.path) l.index))
+    × (at_gap gs (way_of l.overlay.sheet.now) (reverse l.path) l.index ≡ join m (at_gap is (way_of l.overlay.sheet.now) (reverse l.path) l.index))
 
 abbrev pub decreases-loop-number : goal.decreases-loop-number
 decreases-loop-number l = length l.rest

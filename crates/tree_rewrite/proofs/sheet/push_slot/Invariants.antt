@@ -5,8 +5,8 @@ use Rattle.tree_rewrite.specs.Fill.{Given, laid, HaveGiven}
 use Rattle.tree_rewrite.proofs.sheet.push_slot.Given as goal
 
 abbrev pub invariant-loop-number : goal.invariant-loop-number
-invariant-loop-number l = (gs : List Given) → HaveGiven l.jobs l.made l.numbers gs →
-    (is : List Given) × HaveGiven l.jobs l.made l.rest is × (laid gs (way_of l.sheet) (slot (reverse l.path)) ≡ laid is (way_of l.sheet) (slot (reverse l.path)))
+invariant-loop-number l = (gs : List Given) → HaveGiven l.overlay.jobs.now l.overlay.made.now l.numbers gs →
+    (is : List Given) × HaveGiven l.overlay.jobs.now l.overlay.made.now l.rest is × (laid gs (way_of l.overlay.sheet.now) (slot (reverse l.path)) ≡ laid is (way_of l.overlay.sheet.now) (slot (reverse l.path)))
     × (l.pieces.items ≡ l.initial.pieces.items)
 
 abbrev pub decreases-loop-number : goal.decreases-loop-number

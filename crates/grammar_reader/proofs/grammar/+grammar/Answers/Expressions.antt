@@ -11,9 +11,10 @@ use Rattle.grammar_reader.proofs.Seeing.{reads-expected, reads-open-end}
 use Rattle.rust_productions.specs.Layers.{layer_at, layers, operators_at}
 use Rattle.rust_productions.specs.Operators.{IsMark}
 use Rattle.rust_productions.specs.Reads.{Reads}
+use Rattle.rust_productions.specs.declared.condition.Condition.TheVariants.{On}
 use Rattle.rust_productions.specs.declared.grammar.operators.RangeMark.{RangeMark}
 use Rattle.rust_productions.proofs.ByHand.{after-look, does-nothing, goes, reads-call, reads-missing, reads-more, reads-node, reads-then, reads-unless, reads-want, reads-wrap}
-use Rattle.rust_productions.proofs.Choices.{anew-inside, gives-anew, anew-after}
+use Rattle.rust_productions.proofs.Choices.{from_start-inside, gives-from_start, from_start-after}
 use Rattle.rust_productions.proofs.Facts.{saw-so}
 use Rattle.rust_productions.proofs.Operators.{next-after}
 use Rattle.rust_productions.proofs.Ranges.{begins-call, gives-expression, gives-look, gives-operands, mark-after, mark-inside, operand-begun, range-near, reads-assignment, reads-no-assignment, reads-no-pipe, reads-pipe, reads-range, reads-range-alone, reads-range-end, reads-range-on, reads-before-look, saw-operation, saw-outside, unranged}
@@ -105,10 +106,10 @@ pub expressions::range-operation_tail-frame-requires : goal.expressions::range-o
 expressions::range-operation_tail-frame-requires t c = (omega arith, c.complete.ensures.closes.innermost _ (c.range_end-more.ensures.keeps.innermost _ (c.start-range.ensures.opens.innermost _ c.start-frame.ensures.marker)))
 
 pub expressions::range-returns-then-not-more-clause-gives : goal.expressions::range-returns-then-not-more-clause-gives
-expressions::range-returns-then-not-more-clause-gives t c = gives-anew (anew-inside c.start-frame.ensures.opens (reads-range-alone c.args.mark (mark-inside c.start-frame.ensures.opens c.requires.marked) (saw-outside c.start-range.ensures.opens (saw-so c.range_end-more.ensures.ends.near c.if-not-more.true)) (reads-node _ c.start-range.ensures.opens (c.range_end-more.ensures.ends.alone c.if-not-more.true) c.complete.ensures.closes)) c.abandon.ensures.leaves)
+expressions::range-returns-then-not-more-clause-gives t c = gives-from_start (from_start-inside c.start-frame.ensures.opens (reads-range-alone c.args.mark (mark-inside c.start-frame.ensures.opens c.requires.marked) (saw-outside c.start-range.ensures.opens (saw-so c.range_end-more.ensures.ends.near c.if-not-more.true)) (reads-node _ c.start-range.ensures.opens (c.range_end-more.ensures.ends.alone c.if-not-more.true) c.complete.ensures.closes)) c.abandon.ensures.leaves)
 
 pub expressions::range-returns-clause-gives : goal.expressions::range-returns-clause-gives
-expressions::range-returns-clause-gives t c = gives-anew (anew-inside c.start-frame.ensures.opens (reads-range c.args.mark (mark-inside c.start-frame.ensures.opens c.requires.marked) (saw-outside c.start-range.ensures.opens (saw-so c.range_end-more.ensures.ends.near c.if-not-more.false)) (reads-then _ (reads-node _ c.start-range.ensures.opens (c.range_end-more.ensures.ends.to c.if-not-more.false) c.complete.ensures.closes) c.operation_tail-frame.ensures.reads)) c.abandon-2.ensures.leaves)
+expressions::range-returns-clause-gives t c = gives-from_start (from_start-inside c.start-frame.ensures.opens (reads-range c.args.mark (mark-inside c.start-frame.ensures.opens c.requires.marked) (saw-outside c.start-range.ensures.opens (saw-so c.range_end-more.ensures.ends.near c.if-not-more.false)) (reads-then _ (reads-node _ c.start-range.ensures.opens (c.range_end-more.ensures.ends.to c.if-not-more.false) c.complete.ensures.closes) c.operation_tail-frame.ensures.reads)) c.abandon-2.ensures.leaves)
 
 pub expressions::range_end-layers-requires : goal.expressions::range_end-layers-requires
 expressions::range_end-layers-requires t c = (omega arith, (record { sees = saw-after c.at_range_operand.ensures.peeks.same (c.at_range_operand.ensures.operand c.if-at_range_operand.true); some = omega (arith, c.at_range_operand.ensures.some c.if-at_range_operand.true, c.at_range_operand.ensures.peeks.left) }, omega arith))
@@ -116,32 +117,32 @@ expressions::range_end-layers-requires t c = (omega arith, (record { sees = saw-
 pub expressions::range_end-returns-then-at_range_operand-clause-ends : goal.expressions::range_end-returns-then-at_range_operand-clause-ends
 unfolding layer_at layers
 expressions::range_end-returns-then-at_range_operand-clause-ends t c = record {
-  near = range-near c.args.mark c.requires.marked (c.take_mark.ensures.reads true) (saw-so c.at_range_operand.ensures.sees c.if-at_range_operand.true);
+  near = range-near c.args.mark c.requires.marked (c.take_mark.ensures.reads On) (saw-so c.at_range_operand.ensures.sees c.if-at_range_operand.true);
   to = λ is. reads-then _ (c.take_mark.ensures.reads _) (after-look _ c.at_range_operand.ensures.peeks.same (reads-unless _ (reads-call _ c.layers.ensures.gives)));
   alone = λ e. absurd (true≢false e);
 }
 
 pub expressions::range_end-returns-clause-ends : goal.expressions::range_end-returns-clause-ends
 expressions::range_end-returns-clause-ends t c = record {
-  near = range-near c.args.mark c.requires.marked (c.take_mark.ensures.reads true) (saw-so c.at_range_operand.ensures.sees c.if-at_range_operand.false);
+  near = range-near c.args.mark c.requires.marked (c.take_mark.ensures.reads On) (saw-so c.at_range_operand.ensures.sees c.if-at_range_operand.false);
   to = λ e. absurd (true≢false (sym e));
   alone = λ is. reads-before-look (c.take_mark.ensures.reads _) c.at_range_operand.ensures.peeks.same;
 }
 
 pub expressions::range_end-returns-then-at_range_operand-clause-keeps : goal.expressions::range_end-returns-then-at_range_operand-clause-keeps
 expressions::range_end-returns-then-at_range_operand-clause-keeps t c = record {
-  input = c.layers.ensures.gives.does.input ∙ c.at_range_operand.ensures.peeks.same.input ∙ (c.take_mark.ensures.reads true).does.input;
-  innermost = λ n i. c.layers.ensures.gives.does.innermost n (c.at_range_operand.ensures.peeks.same.innermost n ((c.take_mark.ensures.reads true).does.innermost n i));
+  input = c.layers.ensures.gives.does.input ∙ c.at_range_operand.ensures.peeks.same.input ∙ (c.take_mark.ensures.reads On).does.input;
+  innermost = λ n i. c.layers.ensures.gives.does.innermost n (c.at_range_operand.ensures.peeks.same.innermost n ((c.take_mark.ensures.reads On).does.innermost n i));
 }
 
 pub expressions::range_end-returns-clause-keeps : goal.expressions::range_end-returns-clause-keeps
 expressions::range_end-returns-clause-keeps t c = record {
-  input = c.at_range_operand.ensures.peeks.same.input ∙ (c.take_mark.ensures.reads true).does.input;
-  innermost = λ n i. c.at_range_operand.ensures.peeks.same.innermost n ((c.take_mark.ensures.reads true).does.innermost n i);
+  input = c.at_range_operand.ensures.peeks.same.input ∙ (c.take_mark.ensures.reads On).does.input;
+  innermost = λ n i. c.at_range_operand.ensures.peeks.same.innermost n ((c.take_mark.ensures.reads On).does.innermost n i);
 }
 
 pub expressions::opt_assignment-wrap-requires : goal.expressions::opt_assignment-wrap-requires
-expressions::opt_assignment-wrap-requires t c = c.expect_operation.ensures.reads.does.innermost _ ((c.take_operator.ensures.reads true).does.innermost _ c.requires.innermost)
+expressions::opt_assignment-wrap-requires t c = c.expect_operation.ensures.reads.does.innermost _ ((c.take_operator.ensures.reads On).does.innermost _ c.requires.innermost)
 
 is-other : (n h : ℕ) → (h ≡ n → ⊥) → nat_eq h n ≡ false
 is-other n h differs = which (nat_eq h n) refl
@@ -164,7 +165,7 @@ pub expressions::pipe_tail-expect_expression-requires : goal.expressions::pipe_t
 expressions::pipe_tail-expect_expression-requires t c = omega (arith, c.pipes.invariant.left, c.take_operator.ensures.takes.left, c.current_op-operator.ensures.peeks.left)
 
 pub expressions::pipe_tail-wrap-frame-requires : goal.expressions::pipe_tail-wrap-frame-requires
-expressions::pipe_tail-wrap-frame-requires t c = c.expect_expression.ensures.reads.does.innermost _ ((c.take_operator.ensures.reads true).does.innermost _ c.pipes.invariant.marker)
+expressions::pipe_tail-wrap-frame-requires t c = c.expect_expression.ensures.reads.does.innermost _ ((c.take_operator.ensures.reads On).does.innermost _ c.pipes.invariant.marker)
 
 pub expressions::pipe_tail-opt_assignment-requires : goal.expressions::pipe_tail-opt_assignment-requires
 expressions::pipe_tail-opt_assignment-requires t c = (omega (arith, c.pipes.invariant.left, c.current_op-operator.ensures.peeks.left), (c.pipes.invariant.next, c.pipes.invariant.marker))

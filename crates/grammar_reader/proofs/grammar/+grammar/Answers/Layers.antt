@@ -6,6 +6,7 @@ use Rattle.rust_grammar.specs.Rule.{Rule}
 use Rattle.rust_productions.specs.Layers.{layer_at, operators_at, repeated, turn_at, turns_from}
 use Rattle.rust_productions.specs.Looks.{tokens}
 use Rattle.rust_productions.specs.Reads.{Reads}
+use Rattle.rust_productions.specs.declared.condition.Condition.TheVariants.{On}
 use Rattle.rust_productions.proofs.ByHand.{after-look, does-nothing, reads-call, reads-missing, reads-then, reads-want, reads-wrap}
 use Rattle.rust_productions.proofs.Facts.{saw-so}
 use Rattle.rust_productions.proofs.Layering.{binary-turn, gives-layer, last-turn-of, next-turn-of, saw-layer}
@@ -27,10 +28,10 @@ pub expressions::layers::turn-expect_layer-requires : goal.expressions::layers::
 expressions::layers::turn-expect_layer-requires t c = (omega arith, omega (arith, c.requires.layer.high))
 
 pub expressions::layers::turn-wrap-requires : goal.expressions::layers::turn-wrap-requires
-expressions::layers::turn-wrap-requires t c = (c.expect_part.ensures.reads true).does.innermost _ ((c.take_operator.ensures.reads true).does.innermost _ c.requires.innermost)
+expressions::layers::turn-wrap-requires t c = (c.expect_part.ensures.reads On).does.innermost _ ((c.take_operator.ensures.reads On).does.innermost _ c.requires.innermost)
 
 pub expressions::layers::turn-wrap-requires-2 : goal.expressions::layers::turn-wrap-requires-2
-expressions::layers::turn-wrap-requires-2 t c = c.expect_layer.ensures.reads.does.innermost _ ((c.take_operator.ensures.reads true).does.innermost _ c.requires.innermost)
+expressions::layers::turn-wrap-requires-2 t c = c.expect_layer.ensures.reads.does.innermost _ ((c.take_operator.ensures.reads On).does.innermost _ c.requires.innermost)
 
 pub expressions::layers::expect_layer-layers-requires : goal.expressions::layers::expect_layer-layers-requires
 expressions::layers::expect_layer-layers-requires t c = (omega arith, (record { sees = saw-after c.at_operand.ensures.peeks.same (saw-so c.at_operand.ensures.sees c.if-at_operand.true); some = omega (arith, c.at_operand.ensures.some c.if-at_operand.true, c.at_operand.ensures.peeks.left) }, c.requires.high))

@@ -8,7 +8,7 @@ use Rattle.rust_grammar.specs.Notation.{any_of, is_longer, no_longer, longest, o
 use Rattle.rust_grammar.specs.Paths.{paths}
 use Rattle.rust_grammar.specs.Patterns.{patterns}
 use Rattle.rust_grammar.specs.Rule as rules
-use Rattle.rust_grammar.specs.Rule.{begins, in_mode, anew, is_silent, passes, shift, there_at, Say}
+use Rattle.rust_grammar.specs.Rule.{begins, in_mode, from_start, is_silent, passes, shift, there_at, Say}
 use Rattle.rust_grammar.specs.Statements.{statements}
 use Rattle.rust_grammar.specs.Types.{types}
 use Rattle.rust_grammar.specs.Whole.{rule, whole}
@@ -18,7 +18,7 @@ use Rattle.grammar_reader.proofs.ListsAndParts.{part-there}
 use Rattle.rust_productions.specs.Reads.{Reads}
 use Rattle.rust_productions.specs.Starts.{Starts}
 use Rattle.rust_productions.proofs.ByHand.{after-look, reads-call, reads-missing, reads-none, reads-opt, reads-want, reads-when}
-use Rattle.rust_productions.proofs.Choices.{anew-after, gives-anew}
+use Rattle.rust_productions.proofs.Choices.{from_start-after, gives-from_start}
 use Rattle.rust_productions.proofs.Facts.{saw-so}
 use Rattle.rust_productions.proofs.Seen.{saw-after}
 use Rattle.grammar_reader.proofs.grammar.+grammar.Goals as goal
@@ -27,15 +27,15 @@ pub parts::read_part-list-requires : goal.parts::read_part-list-requires
 parts::read_part-list-requires t c = (omega arith, omega (arith, c.requires.begins.some))
 
 pub parts::read_part-returns-in-Arguments-clause-reads : goal.parts::read_part-returns-in-Arguments-clause-reads
-unfolding look_of begins_below whole rule items statements expressions patterns types paths there_at shift passes is_silent begins in_mode anew row one_of any_of no_longer longest is_longer
-parts::read_part-returns-in-Arguments-clause-reads t c = λ cond. subst (λ (e : Part). Reads cond (part_of e) c.args.p.now c.list.new.p) (sym c.in-Arguments.is) (reads-call cond (gives-anew (anew-after refl (c.list.ensures.reads cond))))
+unfolding look_of begins_below whole rule items statements expressions patterns types paths there_at shift passes is_silent begins in_mode from_start row one_of any_of no_longer longest is_longer
+parts::read_part-returns-in-Arguments-clause-reads t c = λ cond. subst (λ (e : Part). Reads cond (part_of e) c.args.p.now c.list.new.p) (sym c.in-Arguments.is) (reads-call cond (gives-from_start (from_start-after refl (c.list.ensures.reads cond))))
 
 pub parts::read_part-item_list-requires : goal.parts::read_part-item_list-requires
 parts::read_part-item_list-requires t c = (omega arith, omega (arith, c.requires.begins.some))
 
 pub parts::read_part-returns-in-AssocItems-clause-reads : goal.parts::read_part-returns-in-AssocItems-clause-reads
-unfolding look_of begins_below whole rule items statements expressions patterns types paths there_at shift passes is_silent begins in_mode anew row one_of any_of no_longer longest is_longer
-parts::read_part-returns-in-AssocItems-clause-reads t c = λ cond. subst (λ (e : Part). Reads cond (part_of e) c.args.p.now c.item_list.new.p) (sym c.in-AssocItems.is) (reads-call cond (gives-anew (anew-after refl (c.item_list.ensures.reads cond))))
+unfolding look_of begins_below whole rule items statements expressions patterns types paths there_at shift passes is_silent begins in_mode from_start row one_of any_of no_longer longest is_longer
+parts::read_part-returns-in-AssocItems-clause-reads t c = λ cond. subst (λ (e : Part). Reads cond (part_of e) c.args.p.now c.item_list.new.p) (sym c.in-AssocItems.is) (reads-call cond (gives-from_start (from_start-after refl (c.item_list.ensures.reads cond))))
 
 pub parts::read_part-block-requires : goal.parts::read_part-block-requires
 parts::read_part-block-requires t c = (omega arith, omega (arith, c.requires.begins.some))
@@ -47,14 +47,14 @@ pub parts::read_part-list-requires-in-ClosureParams : goal.parts::read_part-list
 parts::read_part-list-requires-in-ClosureParams t c = (omega arith, omega (arith, c.requires.begins.some))
 
 pub parts::read_part-returns-in-ClosureParams-clause-reads : goal.parts::read_part-returns-in-ClosureParams-clause-reads
-unfolding look_of begins_below whole rule items statements expressions patterns types paths there_at shift passes is_silent begins in_mode anew row one_of any_of no_longer longest is_longer
+unfolding look_of begins_below whole rule items statements expressions patterns types paths there_at shift passes is_silent begins in_mode from_start row one_of any_of no_longer longest is_longer
 parts::read_part-returns-in-ClosureParams-clause-reads t c = λ cond. subst (λ (e : Part). Reads cond (part_of e) c.args.p.now c.list-in-ClosureParams.new.p) (sym c.in-ClosureParams.is) (c.list-in-ClosureParams.ensures.reads cond)
 
 pub parts::read_part-list-requires-in-FnPtrParams : goal.parts::read_part-list-requires-in-FnPtrParams
 parts::read_part-list-requires-in-FnPtrParams t c = (omega arith, omega (arith, c.requires.begins.some))
 
 pub parts::read_part-returns-in-FnPtrParams-clause-reads : goal.parts::read_part-returns-in-FnPtrParams-clause-reads
-unfolding look_of begins_below whole rule items statements expressions patterns types paths there_at shift passes is_silent begins in_mode anew row one_of any_of no_longer longest is_longer
+unfolding look_of begins_below whole rule items statements expressions patterns types paths there_at shift passes is_silent begins in_mode from_start row one_of any_of no_longer longest is_longer
 parts::read_part-returns-in-FnPtrParams-clause-reads t c = λ cond. subst (λ (e : Part). Reads cond (part_of e) c.args.p.now c.list-in-FnPtrParams.new.p) (sym c.in-FnPtrParams.is) (c.list-in-FnPtrParams.ensures.reads cond)
 
 pub parts::read_part-generic_args-requires : goal.parts::read_part-generic_args-requires
@@ -67,8 +67,8 @@ pub parts::read_part-list-requires-in-GenericParams : goal.parts::read_part-list
 parts::read_part-list-requires-in-GenericParams t c = (omega arith, omega (arith, c.requires.begins.some))
 
 pub parts::read_part-returns-in-GenericParams-clause-reads : goal.parts::read_part-returns-in-GenericParams-clause-reads
-unfolding look_of begins_below whole rule items statements expressions patterns types paths there_at shift passes is_silent begins in_mode anew row one_of any_of no_longer longest is_longer
-parts::read_part-returns-in-GenericParams-clause-reads t c = λ cond. elim c.in-GenericParams.is [ inl a0 ↦ subst (λ (e : Part). Reads cond (part_of e) c.args.p.now c.list-in-GenericParams.new.p) (sym a0) (reads-call cond (gives-anew (anew-after refl (c.list-in-GenericParams.ensures.reads cond)))) | inr b0 ↦ subst (λ (e : Part). Reads cond (part_of e) c.args.p.now c.list-in-GenericParams.new.p) (sym b0) (reads-when cond (reads-call cond (gives-anew (anew-after refl (c.list-in-GenericParams.ensures.reads cond))))) ]
+unfolding look_of begins_below whole rule items statements expressions patterns types paths there_at shift passes is_silent begins in_mode from_start row one_of any_of no_longer longest is_longer
+parts::read_part-returns-in-GenericParams-clause-reads t c = λ cond. elim c.in-GenericParams.is [ inl a0 ↦ subst (λ (e : Part). Reads cond (part_of e) c.args.p.now c.list-in-GenericParams.new.p) (sym a0) (reads-call cond (gives-from_start (from_start-after refl (c.list-in-GenericParams.ensures.reads cond)))) | inr b0 ↦ subst (λ (e : Part). Reads cond (part_of e) c.args.p.now c.list-in-GenericParams.new.p) (sym b0) (reads-when cond (reads-call cond (gives-from_start (from_start-after refl (c.list-in-GenericParams.ensures.reads cond))))) ]
 
 pub parts::read_part-match_arms-requires : goal.parts::read_part-match_arms-requires
 parts::read_part-match_arms-requires t c = (omega arith, omega (arith, c.requires.begins.some))
@@ -86,8 +86,8 @@ pub parts::read_part-list-requires-in-Params : goal.parts::read_part-list-requir
 parts::read_part-list-requires-in-Params t c = (omega arith, omega (arith, c.requires.begins.some))
 
 pub parts::read_part-returns-in-Params-clause-reads : goal.parts::read_part-returns-in-Params-clause-reads
-unfolding look_of begins_below whole rule items statements expressions patterns types paths there_at shift passes is_silent begins in_mode anew row one_of any_of no_longer longest is_longer
-parts::read_part-returns-in-Params-clause-reads t c = λ cond. subst (λ (e : Part). Reads cond (part_of e) c.args.p.now c.list-in-Params.new.p) (sym c.in-Params.is) (reads-call cond (gives-anew (anew-after refl (c.list-in-Params.ensures.reads cond))))
+unfolding look_of begins_below whole rule items statements expressions patterns types paths there_at shift passes is_silent begins in_mode from_start row one_of any_of no_longer longest is_longer
+parts::read_part-returns-in-Params-clause-reads t c = λ cond. subst (λ (e : Part). Reads cond (part_of e) c.args.p.now c.list-in-Params.new.p) (sym c.in-Params.is) (reads-call cond (gives-from_start (from_start-after refl (c.list-in-Params.ensures.reads cond))))
 
 pub parts::read_part-path_type-requires : goal.parts::read_part-path_type-requires
 parts::read_part-path_type-requires t c = (omega arith, ((λ d. (subst (λ (e : Part). Starts (part_begins e) c.args.p.now) c.in-PathType.is c.requires.begins).sees d), c.requires.begins.some))
@@ -105,8 +105,8 @@ pub parts::read_part-list-requires-in-RecordFields : goal.parts::read_part-list-
 parts::read_part-list-requires-in-RecordFields t c = (omega arith, omega (arith, c.requires.begins.some))
 
 pub parts::read_part-returns-in-RecordFields-clause-reads : goal.parts::read_part-returns-in-RecordFields-clause-reads
-unfolding look_of begins_below whole rule items statements expressions patterns types paths there_at shift passes is_silent begins in_mode anew row one_of any_of no_longer longest is_longer
-parts::read_part-returns-in-RecordFields-clause-reads t c = λ cond. subst (λ (e : Part). Reads cond (part_of e) c.args.p.now c.list-in-RecordFields.new.p) (sym c.in-RecordFields.is) (reads-call cond (gives-anew (anew-after refl (c.list-in-RecordFields.ensures.reads cond))))
+unfolding look_of begins_below whole rule items statements expressions patterns types paths there_at shift passes is_silent begins in_mode from_start row one_of any_of no_longer longest is_longer
+parts::read_part-returns-in-RecordFields-clause-reads t c = λ cond. subst (λ (e : Part). Reads cond (part_of e) c.args.p.now c.list-in-RecordFields.new.p) (sym c.in-RecordFields.is) (reads-call cond (gives-from_start (from_start-after refl (c.list-in-RecordFields.ensures.reads cond))))
 
 pub parts::read_part-single_pattern-requires : goal.parts::read_part-single_pattern-requires
 parts::read_part-single_pattern-requires t c = (omega arith, ((λ d. (subst (λ (e : Part). Starts (part_begins e) c.args.p.now) c.in-SinglePattern.is c.requires.begins).sees d), c.requires.begins.some))
@@ -136,8 +136,8 @@ pub parts::read_part-list-requires-in-Variants : goal.parts::read_part-list-requ
 parts::read_part-list-requires-in-Variants t c = (omega arith, omega (arith, c.requires.begins.some))
 
 pub parts::read_part-returns-in-Variants-clause-reads : goal.parts::read_part-returns-in-Variants-clause-reads
-unfolding look_of begins_below whole rule items statements expressions patterns types paths there_at shift passes is_silent begins in_mode anew row one_of any_of no_longer longest is_longer
-parts::read_part-returns-in-Variants-clause-reads t c = λ cond. subst (λ (e : Part). Reads cond (part_of e) c.args.p.now c.list-in-Variants.new.p) (sym c.in-Variants.is) (reads-call cond (gives-anew (anew-after refl (c.list-in-Variants.ensures.reads cond))))
+unfolding look_of begins_below whole rule items statements expressions patterns types paths there_at shift passes is_silent begins in_mode from_start row one_of any_of no_longer longest is_longer
+parts::read_part-returns-in-Variants-clause-reads t c = λ cond. subst (λ (e : Part). Reads cond (part_of e) c.args.p.now c.list-in-Variants.new.p) (sym c.in-Variants.is) (reads-call cond (gives-from_start (from_start-after refl (c.list-in-Variants.ensures.reads cond))))
 
 pub parts::read_part-where_pred-requires : goal.parts::read_part-where_pred-requires
 parts::read_part-where_pred-requires t c = (omega arith, subst (λ (e : Part). Starts (part_begins e) c.args.p.now) c.in-WherePred.is c.requires.begins)

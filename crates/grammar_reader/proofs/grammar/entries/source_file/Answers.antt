@@ -1,15 +1,16 @@
 -- The node holds what the row says.
-use Rattle.std.proofs.Common.{false, refl}
+use Rattle.std.proofs.Common.{refl}
 use Rattle.rust_grammar.specs.Items.{items}
 use Rattle.rust_grammar.specs.Statements.{statements}
 use Rattle.rust_grammar.specs.Whole.{rule, whole}
+use Rattle.rust_productions.specs.declared.condition.Condition.TheVariants.{Off}
 use Rattle.rust_productions.proofs.ByHand.{reads-node, reads-then}
-use Rattle.rust_productions.proofs.Choices.{anew-after, gives-anew}
+use Rattle.rust_productions.proofs.Choices.{from_start-after, gives-from_start}
 use Rattle.grammar_reader.proofs.grammar.entries.source_file.Goals as goal
 
 pub complete-requires : goal.complete-requires
-complete-requires c = c.items.ensures.reads.does.innermost _ ((c.eat-2.ensures.reads false).does.innermost _ ((c.eat.ensures.reads false).does.innermost _ c.start-file.ensures.marker))
+complete-requires c = c.items.ensures.reads.does.innermost _ ((c.eat-2.ensures.reads Off).does.innermost _ ((c.eat.ensures.reads Off).does.innermost _ c.start-file.ensures.marker))
 
 pub returns-clause-gives : goal.returns-clause-gives
 unfolding whole rule items statements
-returns-clause-gives c = gives-anew (anew-after refl (reads-node false c.start-file.ensures.opens (reads-then false (c.eat.ensures.reads false) (reads-then false (c.eat-2.ensures.reads false) c.items.ensures.reads)) c.complete.ensures.closes))
+returns-clause-gives c = gives-from_start (from_start-after refl (reads-node Off c.start-file.ensures.opens (reads-then Off (c.eat.ensures.reads Off) (reads-then Off (c.eat-2.ensures.reads Off) c.items.ensures.reads)) c.complete.ensures.closes))

@@ -1,5 +1,5 @@
 -- Each arm asks for its element.
-use Rattle.std.proofs.Common.{◌+◌, ◌≤◌, false, sym, subst, arith, rules}
+use Rattle.std.proofs.Common.{◌+◌, ◌≤◌, sym, subst, arith, rules}
 use Rattle.rust_grammar.specs.Expressions.{expressions}
 use Rattle.rust_grammar.specs.Items.{items}
 use Rattle.rust_grammar.specs.Meaning.{begins_below, look_of}
@@ -7,7 +7,7 @@ use Rattle.rust_grammar.specs.Notation.{any_of, is_longer, no_longer, longest, o
 use Rattle.rust_grammar.specs.Paths.{paths}
 use Rattle.rust_grammar.specs.Patterns.{patterns}
 use Rattle.rust_grammar.specs.Rule as rules
-use Rattle.rust_grammar.specs.Rule.{begins, in_mode, anew, is_silent, passes, shift, there_at}
+use Rattle.rust_grammar.specs.Rule.{begins, in_mode, from_start, is_silent, passes, shift, there_at}
 use Rattle.rust_grammar.specs.Statements.{statements}
 use Rattle.rust_grammar.specs.Types.{types}
 use Rattle.rust_grammar.specs.Whole.{rule, whole}
@@ -15,12 +15,13 @@ use Rattle.grammar_reader.specs.Told.{element_of, looks_before}
 use Rattle.grammar_reader.specs.declared.grammar.lists.Element.{Element}
 use Rattle.rust_productions.specs.Looks.{spent}
 use Rattle.rust_productions.specs.Reads.{looks, Saw}
+use Rattle.rust_productions.specs.declared.condition.Condition.TheVariants.{Off}
 use Rattle.rust_productions.proofs.Ranges.{begins-call}
 use Rattle.grammar_reader.proofs.grammar.lists.at_element.Goals as goal
 
 pub returns-in-Captured-clause-sees : goal.returns-in-Captured-clause-sees
-unfolding look_of begins_below whole rule items statements expressions patterns types paths there_at shift passes is_silent begins in_mode anew row one_of any_of no_longer longest is_longer
-returns-in-Captured-clause-sees c = subst (λ (e : Element). Saw false (begins looks (element_of e)) c.args.p.now c.at_captured.result) (sym c.in-Captured.is) (c.at_captured.ensures.sees false)
+unfolding look_of begins_below whole rule items statements expressions patterns types paths there_at shift passes is_silent begins in_mode from_start row one_of any_of no_longer longest is_longer
+returns-in-Captured-clause-sees c = subst (λ (e : Element). Saw Off (begins looks (element_of e)) c.args.p.now c.at_captured.result) (sym c.in-Captured.is) (c.at_captured.ensures.sees Off)
 
 pub returns-in-Captured-clause-peeks : goal.returns-in-Captured-clause-peeks
 returns-in-Captured-clause-peeks c = record {
@@ -31,7 +32,7 @@ returns-in-Captured-clause-peeks c = record {
 
 pub returns-in-ClosureParam-clause-sees : goal.returns-in-ClosureParam-clause-sees
 unfolding begins
-returns-in-ClosureParam-clause-sees c = subst (λ (e : Element). Saw false (begins looks (element_of e)) c.args.p.now c.at_closure_param.result) (sym c.in-ClosureParam.is) (c.at_closure_param.ensures.sees false)
+returns-in-ClosureParam-clause-sees c = subst (λ (e : Element). Saw Off (begins looks (element_of e)) c.args.p.now c.at_closure_param.result) (sym c.in-ClosureParam.is) (c.at_closure_param.ensures.sees Off)
 
 pub returns-in-ClosureParam-clause-peeks : goal.returns-in-ClosureParam-clause-peeks
 returns-in-ClosureParam-clause-peeks c = record {
@@ -42,7 +43,7 @@ returns-in-ClosureParam-clause-peeks c = record {
 
 pub returns-in-Expression-clause-sees : goal.returns-in-Expression-clause-sees
 unfolding begins
-returns-in-Expression-clause-sees c = subst (λ (e : Element). Saw false (begins looks (element_of e)) c.args.p.now c.at_expression.result) (sym c.in-Expression.is) (begins-call rules.expression c.at_expression.ensures.sees)
+returns-in-Expression-clause-sees c = subst (λ (e : Element). Saw Off (begins looks (element_of e)) c.args.p.now c.at_expression.result) (sym c.in-Expression.is) (begins-call rules.expression c.at_expression.ensures.sees)
 
 pub returns-in-Expression-clause-peeks : goal.returns-in-Expression-clause-peeks
 returns-in-Expression-clause-peeks c = record {
@@ -52,8 +53,8 @@ returns-in-Expression-clause-peeks c = record {
 }
 
 pub returns-in-FieldValue-clause-sees : goal.returns-in-FieldValue-clause-sees
-unfolding look_of begins_below whole rule items statements expressions patterns types paths there_at shift passes is_silent begins in_mode anew row one_of any_of no_longer longest is_longer
-returns-in-FieldValue-clause-sees c = subst (λ (e : Element). Saw false (begins looks (element_of e)) c.args.p.now c.at_field_value.result) (sym c.in-FieldValue.is) (c.at_field_value.ensures.sees false)
+unfolding look_of begins_below whole rule items statements expressions patterns types paths there_at shift passes is_silent begins in_mode from_start row one_of any_of no_longer longest is_longer
+returns-in-FieldValue-clause-sees c = subst (λ (e : Element). Saw Off (begins looks (element_of e)) c.args.p.now c.at_field_value.result) (sym c.in-FieldValue.is) (c.at_field_value.ensures.sees Off)
 
 pub returns-in-FieldValue-clause-peeks : goal.returns-in-FieldValue-clause-peeks
 returns-in-FieldValue-clause-peeks c = record {
@@ -63,8 +64,8 @@ returns-in-FieldValue-clause-peeks c = record {
 }
 
 pub returns-in-FnPtrParam-clause-sees : goal.returns-in-FnPtrParam-clause-sees
-unfolding look_of begins_below whole rule items statements expressions patterns types paths there_at shift passes is_silent begins in_mode anew row one_of any_of no_longer longest is_longer
-returns-in-FnPtrParam-clause-sees c = subst (λ (e : Element). Saw false (begins looks (element_of e)) c.args.p.now c.at_fn_ptr_param.result) (sym c.in-FnPtrParam.is) (c.at_fn_ptr_param.ensures.sees false)
+unfolding look_of begins_below whole rule items statements expressions patterns types paths there_at shift passes is_silent begins in_mode from_start row one_of any_of no_longer longest is_longer
+returns-in-FnPtrParam-clause-sees c = subst (λ (e : Element). Saw Off (begins looks (element_of e)) c.args.p.now c.at_fn_ptr_param.result) (sym c.in-FnPtrParam.is) (c.at_fn_ptr_param.ensures.sees Off)
 
 pub returns-in-FnPtrParam-clause-peeks : goal.returns-in-FnPtrParam-clause-peeks
 returns-in-FnPtrParam-clause-peeks c = record {
@@ -74,8 +75,8 @@ returns-in-FnPtrParam-clause-peeks c = record {
 }
 
 pub returns-in-GenericArg-clause-sees : goal.returns-in-GenericArg-clause-sees
-unfolding look_of begins_below whole rule items statements expressions patterns types paths there_at shift passes is_silent begins in_mode anew row one_of any_of no_longer longest is_longer
-returns-in-GenericArg-clause-sees c = subst (λ (e : Element). Saw false (begins looks (element_of e)) c.args.p.now c.at_generic_arg.result) (sym c.in-GenericArg.is) (c.at_generic_arg.ensures.sees false)
+unfolding look_of begins_below whole rule items statements expressions patterns types paths there_at shift passes is_silent begins in_mode from_start row one_of any_of no_longer longest is_longer
+returns-in-GenericArg-clause-sees c = subst (λ (e : Element). Saw Off (begins looks (element_of e)) c.args.p.now c.at_generic_arg.result) (sym c.in-GenericArg.is) (c.at_generic_arg.ensures.sees Off)
 
 pub returns-in-GenericArg-clause-peeks : goal.returns-in-GenericArg-clause-peeks
 returns-in-GenericArg-clause-peeks c = record {
@@ -85,8 +86,8 @@ returns-in-GenericArg-clause-peeks c = record {
 }
 
 pub returns-in-GenericParam-clause-sees : goal.returns-in-GenericParam-clause-sees
-unfolding look_of begins_below whole rule items statements expressions patterns types paths there_at shift passes is_silent begins in_mode anew row one_of any_of no_longer longest is_longer
-returns-in-GenericParam-clause-sees c = subst (λ (e : Element). Saw false (begins looks (element_of e)) c.args.p.now c.at_generic_param.result) (sym c.in-GenericParam.is) (c.at_generic_param.ensures.sees false)
+unfolding look_of begins_below whole rule items statements expressions patterns types paths there_at shift passes is_silent begins in_mode from_start row one_of any_of no_longer longest is_longer
+returns-in-GenericParam-clause-sees c = subst (λ (e : Element). Saw Off (begins looks (element_of e)) c.args.p.now c.at_generic_param.result) (sym c.in-GenericParam.is) (c.at_generic_param.ensures.sees Off)
 
 pub returns-in-GenericParam-clause-peeks : goal.returns-in-GenericParam-clause-peeks
 returns-in-GenericParam-clause-peeks c = record {
@@ -96,8 +97,8 @@ returns-in-GenericParam-clause-peeks c = record {
 }
 
 pub returns-in-Param-clause-sees : goal.returns-in-Param-clause-sees
-unfolding look_of begins_below whole rule items statements expressions patterns types paths there_at shift passes is_silent begins in_mode anew row one_of any_of no_longer longest is_longer
-returns-in-Param-clause-sees c = subst (λ (e : Element). Saw false (begins looks (element_of e)) c.args.p.now c.at_param.result) (sym c.in-Param.is) (c.at_param.ensures.sees false)
+unfolding look_of begins_below whole rule items statements expressions patterns types paths there_at shift passes is_silent begins in_mode from_start row one_of any_of no_longer longest is_longer
+returns-in-Param-clause-sees c = subst (λ (e : Element). Saw Off (begins looks (element_of e)) c.args.p.now c.at_param.result) (sym c.in-Param.is) (c.at_param.ensures.sees Off)
 
 pub returns-in-Param-clause-peeks : goal.returns-in-Param-clause-peeks
 returns-in-Param-clause-peeks c = record {
@@ -107,8 +108,8 @@ returns-in-Param-clause-peeks c = record {
 }
 
 pub returns-in-Pattern-clause-sees : goal.returns-in-Pattern-clause-sees
-unfolding look_of begins_below whole rule items statements expressions patterns types paths there_at shift passes is_silent begins in_mode anew row one_of any_of no_longer longest is_longer
-returns-in-Pattern-clause-sees c = subst (λ (e : Element). Saw false (begins looks (element_of e)) c.args.p.now c.at_pattern.result) (sym c.in-Pattern.is) (c.at_pattern.ensures.sees false)
+unfolding look_of begins_below whole rule items statements expressions patterns types paths there_at shift passes is_silent begins in_mode from_start row one_of any_of no_longer longest is_longer
+returns-in-Pattern-clause-sees c = subst (λ (e : Element). Saw Off (begins looks (element_of e)) c.args.p.now c.at_pattern.result) (sym c.in-Pattern.is) (c.at_pattern.ensures.sees Off)
 
 pub returns-in-Pattern-clause-peeks : goal.returns-in-Pattern-clause-peeks
 returns-in-Pattern-clause-peeks c = record {
@@ -118,8 +119,8 @@ returns-in-Pattern-clause-peeks c = record {
 }
 
 pub returns-in-PatternField-clause-sees : goal.returns-in-PatternField-clause-sees
-unfolding look_of begins_below whole rule items statements expressions patterns types paths there_at shift passes is_silent begins in_mode anew row one_of any_of no_longer longest is_longer
-returns-in-PatternField-clause-sees c = subst (λ (e : Element). Saw false (begins looks (element_of e)) c.args.p.now c.at_pattern_field.result) (sym c.in-PatternField.is) (c.at_pattern_field.ensures.sees false)
+unfolding look_of begins_below whole rule items statements expressions patterns types paths there_at shift passes is_silent begins in_mode from_start row one_of any_of no_longer longest is_longer
+returns-in-PatternField-clause-sees c = subst (λ (e : Element). Saw Off (begins looks (element_of e)) c.args.p.now c.at_pattern_field.result) (sym c.in-PatternField.is) (c.at_pattern_field.ensures.sees Off)
 
 pub returns-in-PatternField-clause-peeks : goal.returns-in-PatternField-clause-peeks
 returns-in-PatternField-clause-peeks c = record {
@@ -129,8 +130,8 @@ returns-in-PatternField-clause-peeks c = record {
 }
 
 pub returns-in-Type-clause-sees : goal.returns-in-Type-clause-sees
-unfolding look_of begins_below whole rule items statements expressions patterns types paths there_at shift passes is_silent begins in_mode anew row one_of any_of no_longer longest is_longer
-returns-in-Type-clause-sees c = subst (λ (e : Element). Saw false (begins looks (element_of e)) c.args.p.now c.at_type.result) (sym c.in-Type.is) (c.at_type.ensures.sees false)
+unfolding look_of begins_below whole rule items statements expressions patterns types paths there_at shift passes is_silent begins in_mode from_start row one_of any_of no_longer longest is_longer
+returns-in-Type-clause-sees c = subst (λ (e : Element). Saw Off (begins looks (element_of e)) c.args.p.now c.at_type.result) (sym c.in-Type.is) (c.at_type.ensures.sees Off)
 
 pub returns-in-Type-clause-peeks : goal.returns-in-Type-clause-peeks
 returns-in-Type-clause-peeks c = record {
@@ -140,8 +141,8 @@ returns-in-Type-clause-peeks c = record {
 }
 
 pub returns-in-RecordField-clause-sees : goal.returns-in-RecordField-clause-sees
-unfolding look_of begins_below whole rule items statements expressions patterns types paths there_at shift passes is_silent begins in_mode anew row one_of any_of no_longer longest is_longer
-returns-in-RecordField-clause-sees c = subst (λ (e : Element). Saw false (begins looks (element_of e)) c.args.p.now c.at_record_field.result) (sym c.in-RecordField.is) (c.at_record_field.ensures.sees false)
+unfolding look_of begins_below whole rule items statements expressions patterns types paths there_at shift passes is_silent begins in_mode from_start row one_of any_of no_longer longest is_longer
+returns-in-RecordField-clause-sees c = subst (λ (e : Element). Saw Off (begins looks (element_of e)) c.args.p.now c.at_record_field.result) (sym c.in-RecordField.is) (c.at_record_field.ensures.sees Off)
 
 pub returns-in-RecordField-clause-peeks : goal.returns-in-RecordField-clause-peeks
 returns-in-RecordField-clause-peeks c = record {
@@ -151,8 +152,8 @@ returns-in-RecordField-clause-peeks c = record {
 }
 
 pub returns-in-TupleField-clause-sees : goal.returns-in-TupleField-clause-sees
-unfolding look_of begins_below whole rule items statements expressions patterns types paths there_at shift passes is_silent begins in_mode anew row one_of any_of no_longer longest is_longer
-returns-in-TupleField-clause-sees c = subst (λ (e : Element). Saw false (begins looks (element_of e)) c.args.p.now c.at_tuple_field.result) (sym c.in-TupleField.is) (c.at_tuple_field.ensures.sees false)
+unfolding look_of begins_below whole rule items statements expressions patterns types paths there_at shift passes is_silent begins in_mode from_start row one_of any_of no_longer longest is_longer
+returns-in-TupleField-clause-sees c = subst (λ (e : Element). Saw Off (begins looks (element_of e)) c.args.p.now c.at_tuple_field.result) (sym c.in-TupleField.is) (c.at_tuple_field.ensures.sees Off)
 
 pub returns-in-TupleField-clause-peeks : goal.returns-in-TupleField-clause-peeks
 returns-in-TupleField-clause-peeks c = record {
@@ -162,8 +163,8 @@ returns-in-TupleField-clause-peeks c = record {
 }
 
 pub returns-in-Variant-clause-sees : goal.returns-in-Variant-clause-sees
-unfolding look_of begins_below whole rule items statements expressions patterns types paths there_at shift passes is_silent begins in_mode anew row one_of any_of no_longer longest is_longer
-returns-in-Variant-clause-sees c = subst (λ (e : Element). Saw false (begins looks (element_of e)) c.args.p.now c.at_named_member.result) (sym c.in-Variant.is) (c.at_named_member.ensures.sees false)
+unfolding look_of begins_below whole rule items statements expressions patterns types paths there_at shift passes is_silent begins in_mode from_start row one_of any_of no_longer longest is_longer
+returns-in-Variant-clause-sees c = subst (λ (e : Element). Saw Off (begins looks (element_of e)) c.args.p.now c.at_named_member.result) (sym c.in-Variant.is) (c.at_named_member.ensures.sees Off)
 
 pub returns-in-Variant-clause-peeks : goal.returns-in-Variant-clause-peeks
 returns-in-Variant-clause-peeks c = record {
@@ -173,8 +174,8 @@ returns-in-Variant-clause-peeks c = record {
 }
 
 pub returns-in-TypeArg-clause-sees : goal.returns-in-TypeArg-clause-sees
-unfolding look_of begins_below whole rule items statements expressions patterns types paths there_at shift passes is_silent begins in_mode anew row one_of any_of no_longer longest is_longer
-returns-in-TypeArg-clause-sees c = subst (λ (e : Element). Saw false (begins looks (element_of e)) c.args.p.now c.at_type-in-TypeArg.result) (sym c.in-TypeArg.is) (c.at_type-in-TypeArg.ensures.sees false)
+unfolding look_of begins_below whole rule items statements expressions patterns types paths there_at shift passes is_silent begins in_mode from_start row one_of any_of no_longer longest is_longer
+returns-in-TypeArg-clause-sees c = subst (λ (e : Element). Saw Off (begins looks (element_of e)) c.args.p.now c.at_type-in-TypeArg.result) (sym c.in-TypeArg.is) (c.at_type-in-TypeArg.ensures.sees Off)
 
 pub returns-in-TypeArg-clause-peeks : goal.returns-in-TypeArg-clause-peeks
 returns-in-TypeArg-clause-peeks c = record {

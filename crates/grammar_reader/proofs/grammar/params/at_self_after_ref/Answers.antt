@@ -6,6 +6,7 @@ use Rattle.rust_grammar.specs.Notation.{any_of, row}
 use Rattle.rust_grammar.specs.Rule.{Kind, there_at}
 use Rattle.rust_grammar.specs.Items.{self_begins}
 use Rattle.rust_productions.specs.Reads.{Saw}
+use Rattle.rust_productions.specs.declared.condition.Condition.{Condition}
 use Rattle.rust_productions.proofs.Facts.{nothing, ◌and◌}
 use Rattle.rust_productions.proofs.Looking.{saw-arm, saw-not}
 use Rattle.rust_productions.proofs.Seen.{saw-before, saw-told}
@@ -13,7 +14,7 @@ use Rattle.rust_productions.proofs.Peeking.{peeks-then}
 use Rattle.grammar_reader.proofs.grammar.params.at_self_after_ref.Goals as goal
 
 -- after `&mut`, the third token tells
-by-third : {c : Bool} {v : View} (b : Bool) → Saw c (Kind 0 kinds.AMP) v true → Saw c (Kind 1 kinds.MUT_KW) v true → Saw c (Kind 2 kinds.SELF_KW) v b → Saw c self_begins v b
+by-third : {c : Condition} {v : View} (b : Bool) → Saw c (Kind 0 kinds.AMP) v true → Saw c (Kind 1 kinds.MUT_KW) v true → Saw c (Kind 2 kinds.SELF_KW) v b → Saw c self_begins v b
 unfolding any_of row there_at
 by-third true f g h = saw-told (f and g and h and nothing) refl
 by-third false f g h = saw-told (f and g and h and nothing) refl

@@ -6,7 +6,7 @@ use Rattle.rust_grammar.specs.Meaning.{begins_below, look_of}
 use Rattle.rust_grammar.specs.Notation.{any_of, is_longer, no_longer, longest, one_of, row}
 use Rattle.rust_grammar.specs.Paths.{paths}
 use Rattle.rust_grammar.specs.Patterns.{patterns}
-use Rattle.rust_grammar.specs.Rule.{begins, in_mode, anew, is_silent, passes, shift, there_at}
+use Rattle.rust_grammar.specs.Rule.{begins, in_mode, from_start, is_silent, passes, shift, there_at}
 use Rattle.rust_grammar.specs.Statements.{statements}
 use Rattle.rust_grammar.specs.Types.{types}
 use Rattle.rust_grammar.specs.Whole.{rule, whole}
@@ -17,21 +17,21 @@ use Rattle.rust_productions.proofs.Peeking.{peeks-then, peeks-within}
 use Rattle.rust_productions.proofs.grammar.expression_words.at_const_closure.Goals as goal
 
 pub returns-then-not-at-clause-sees : goal.returns-then-not-at-clause-sees
-unfolding look_of begins_below whole rule items statements expressions patterns types paths there_at shift passes is_silent begins in_mode anew row one_of any_of no_longer longest is_longer
+unfolding look_of begins_below whole rule items statements expressions patterns types paths there_at shift passes is_silent begins in_mode from_start row one_of any_of no_longer longest is_longer
 returns-then-not-at-clause-sees c cond = saw-told (saw-so (c.at.ensures.sees cond) c.if-not-at.true and nothing) refl
 
 pub returns-then-not-at-clause-peeks : goal.returns-then-not-at-clause-peeks
 returns-then-not-at-clause-peeks c = peeks-within (c.at.ensures.peeks) (omega arith)
 
 pub returns-in-PIPE-clause-sees : goal.returns-in-PIPE-clause-sees
-unfolding look_of begins_below whole rule items statements expressions patterns types paths there_at shift passes is_silent begins in_mode anew row one_of any_of no_longer longest is_longer
+unfolding look_of begins_below whole rule items statements expressions patterns types paths there_at shift passes is_silent begins in_mode from_start row one_of any_of no_longer longest is_longer
 returns-in-PIPE-clause-sees c cond = elim c.in-PIPE.is [ inl a0 ↦ saw-told (saw-so (c.at.ensures.sees cond) c.if-not-at.false and saw-before c.at.ensures.peeks.same (saw-arm a0 (c.nth.ensures.sees cond)) and nothing) refl | inr b0 ↦ elim b0 [ inl a1 ↦ saw-told (saw-so (c.at.ensures.sees cond) c.if-not-at.false and saw-before c.at.ensures.peeks.same (saw-arm a1 (c.nth.ensures.sees cond)) and nothing) refl | inr b1 ↦ elim b1 [ inl a2 ↦ saw-told (saw-so (c.at.ensures.sees cond) c.if-not-at.false and saw-before c.at.ensures.peeks.same (saw-arm a2 (c.nth.ensures.sees cond)) and nothing) refl | inr b2 ↦ saw-told (saw-so (c.at.ensures.sees cond) c.if-not-at.false and saw-before c.at.ensures.peeks.same (saw-arm b2 (c.nth.ensures.sees cond)) and nothing) refl ] ] ]
 
 pub returns-in-PIPE-clause-peeks : goal.returns-in-PIPE-clause-peeks
 returns-in-PIPE-clause-peeks c = peeks-within (peeks-then c.at.ensures.peeks (c.nth.ensures.peeks)) (omega arith)
 
 pub returns-in_default-clause-sees : goal.returns-in_default-clause-sees
-unfolding look_of begins_below whole rule items statements expressions patterns types paths there_at shift passes is_silent begins in_mode anew row one_of any_of no_longer longest is_longer
+unfolding look_of begins_below whole rule items statements expressions patterns types paths there_at shift passes is_silent begins in_mode from_start row one_of any_of no_longer longest is_longer
 returns-in_default-clause-sees c cond = saw-told (saw-so (c.at.ensures.sees cond) c.if-not-at.false and saw-before c.at.ensures.peeks.same (saw-not c.in_default.not-PIPE (c.nth.ensures.sees cond)) and saw-before c.at.ensures.peeks.same (saw-not c.in_default.not-MOVE_KW (c.nth.ensures.sees cond)) and saw-before c.at.ensures.peeks.same (saw-not c.in_default.not-ASYNC_KW (c.nth.ensures.sees cond)) and saw-before c.at.ensures.peeks.same (saw-not c.in_default.not-STATIC_KW (c.nth.ensures.sees cond)) and nothing) refl
 
 pub returns-in_default-clause-peeks : goal.returns-in_default-clause-peeks

@@ -6,7 +6,7 @@ use Rattle.rust_grammar.specs.Meaning.{begins_below, look_of}
 use Rattle.rust_grammar.specs.Notation.{any_of, is_longer, no_longer, longest, one_of, row}
 use Rattle.rust_grammar.specs.Paths.{paths}
 use Rattle.rust_grammar.specs.Patterns.{patterns}
-use Rattle.rust_grammar.specs.Rule.{begins, in_mode, anew, is_silent, passes, shift, there_at}
+use Rattle.rust_grammar.specs.Rule.{begins, in_mode, from_start, is_silent, passes, shift, there_at}
 use Rattle.rust_grammar.specs.Statements.{statements}
 use Rattle.rust_grammar.specs.Types.{types}
 use Rattle.rust_grammar.specs.Whole.{rule, whole}
@@ -17,35 +17,35 @@ use Rattle.rust_productions.proofs.Peeking.{peeks-then, peeks-within}
 use Rattle.rust_productions.proofs.grammar.expression_words.at_gen_block.Goals as goal
 
 pub returns-then-not-at-clause-sees : goal.returns-then-not-at-clause-sees
-unfolding look_of begins_below whole rule items statements expressions patterns types paths there_at shift passes is_silent begins in_mode anew row one_of any_of no_longer longest is_longer
+unfolding look_of begins_below whole rule items statements expressions patterns types paths there_at shift passes is_silent begins in_mode from_start row one_of any_of no_longer longest is_longer
 returns-then-not-at-clause-sees c cond = saw-told (saw-so (c.at.ensures.sees cond) c.if-not-at.true and nothing) refl
 
 pub returns-then-not-at-clause-peeks : goal.returns-then-not-at-clause-peeks
 returns-then-not-at-clause-peeks c = peeks-within (c.at.ensures.peeks) (omega arith)
 
 pub returns-in-L_CURLY-clause-sees : goal.returns-in-L_CURLY-clause-sees
-unfolding look_of begins_below whole rule items statements expressions patterns types paths there_at shift passes is_silent begins in_mode anew row one_of any_of no_longer longest is_longer
+unfolding look_of begins_below whole rule items statements expressions patterns types paths there_at shift passes is_silent begins in_mode from_start row one_of any_of no_longer longest is_longer
 returns-in-L_CURLY-clause-sees c cond = saw-told (saw-so (c.at.ensures.sees cond) c.if-not-at.false and saw-before c.at.ensures.peeks.same (saw-arm c.in-L_CURLY.is (c.nth.ensures.sees cond)) and nothing) refl
 
 pub returns-in-L_CURLY-clause-peeks : goal.returns-in-L_CURLY-clause-peeks
 returns-in-L_CURLY-clause-peeks c = peeks-within (peeks-then c.at.ensures.peeks (c.nth.ensures.peeks)) (omega arith)
 
 pub returns-then-at_third-clause-sees : goal.returns-then-at_third-clause-sees
-unfolding look_of begins_below whole rule items statements expressions patterns types paths there_at shift passes is_silent begins in_mode anew row one_of any_of no_longer longest is_longer
+unfolding look_of begins_below whole rule items statements expressions patterns types paths there_at shift passes is_silent begins in_mode from_start row one_of any_of no_longer longest is_longer
 returns-then-at_third-clause-sees c cond = saw-told (saw-so (c.at.ensures.sees cond) c.if-not-at.false and saw-before c.at.ensures.peeks.same (saw-arm c.in-MOVE_KW.is (c.nth.ensures.sees cond)) and saw-before c.at.ensures.peeks.same (saw-before c.nth.ensures.peeks.same (saw-so (c.at_third.ensures.sees cond) c.if-at_third.true)) and nothing) refl
 
 pub returns-then-at_third-clause-peeks : goal.returns-then-at_third-clause-peeks
 returns-then-at_third-clause-peeks c = peeks-within (peeks-then c.at.ensures.peeks (peeks-then c.nth.ensures.peeks (c.at_third.ensures.peeks))) (omega arith)
 
 pub returns-else-at_third-clause-sees : goal.returns-else-at_third-clause-sees
-unfolding look_of begins_below whole rule items statements expressions patterns types paths there_at shift passes is_silent begins in_mode anew row one_of any_of no_longer longest is_longer
+unfolding look_of begins_below whole rule items statements expressions patterns types paths there_at shift passes is_silent begins in_mode from_start row one_of any_of no_longer longest is_longer
 returns-else-at_third-clause-sees c cond = saw-told (saw-so (c.at.ensures.sees cond) c.if-not-at.false and saw-before c.at.ensures.peeks.same (saw-arm c.in-MOVE_KW.is (c.nth.ensures.sees cond)) and saw-before c.at.ensures.peeks.same (saw-before c.nth.ensures.peeks.same (saw-so (c.at_third.ensures.sees cond) c.if-at_third.false)) and nothing) refl
 
 pub returns-else-at_third-clause-peeks : goal.returns-else-at_third-clause-peeks
 returns-else-at_third-clause-peeks c = peeks-within (peeks-then c.at.ensures.peeks (peeks-then c.nth.ensures.peeks (c.at_third.ensures.peeks))) (omega arith)
 
 pub returns-in_default-clause-sees : goal.returns-in_default-clause-sees
-unfolding look_of begins_below whole rule items statements expressions patterns types paths there_at shift passes is_silent begins in_mode anew row one_of any_of no_longer longest is_longer
+unfolding look_of begins_below whole rule items statements expressions patterns types paths there_at shift passes is_silent begins in_mode from_start row one_of any_of no_longer longest is_longer
 returns-in_default-clause-sees c cond = saw-told (saw-so (c.at.ensures.sees cond) c.if-not-at.false and saw-before c.at.ensures.peeks.same (saw-not c.in_default.not-L_CURLY (c.nth.ensures.sees cond)) and saw-before c.at.ensures.peeks.same (saw-not c.in_default.not-MOVE_KW (c.nth.ensures.sees cond)) and nothing) refl
 
 pub returns-in_default-clause-peeks : goal.returns-in_default-clause-peeks

@@ -6,7 +6,7 @@ use Rattle.rust_grammar.specs.Meaning.{begins_below, look_of}
 use Rattle.rust_grammar.specs.Notation.{any_of, is_longer, no_longer, longest, one_of, row}
 use Rattle.rust_grammar.specs.Paths.{paths}
 use Rattle.rust_grammar.specs.Patterns.{patterns}
-use Rattle.rust_grammar.specs.Rule.{begins, in_mode, anew, is_silent, passes, shift, there_at}
+use Rattle.rust_grammar.specs.Rule.{begins, in_mode, from_start, is_silent, passes, shift, there_at}
 use Rattle.rust_grammar.specs.Statements.{statements}
 use Rattle.rust_grammar.specs.Types.{types}
 use Rattle.rust_grammar.specs.Whole.{rule, whole}
@@ -18,63 +18,63 @@ use Rattle.rust_productions.proofs.Staying.{stays-peeks}
 use Rattle.rust_productions.proofs.grammar.expression_words.at_new_block.Goals as goal
 
 pub returns-then-not-at_whole-clause-sees : goal.returns-then-not-at_whole-clause-sees
-unfolding look_of begins_below whole rule items statements expressions patterns types paths there_at shift passes is_silent begins in_mode anew row one_of any_of no_longer longest is_longer
+unfolding look_of begins_below whole rule items statements expressions patterns types paths there_at shift passes is_silent begins in_mode from_start row one_of any_of no_longer longest is_longer
 returns-then-not-at_whole-clause-sees c cond = saw-told (saw-so (c.at_whole.ensures.sees cond) c.if-not-at_whole.true and nothing) refl
 
 pub returns-then-not-at_whole-clause-peeks : goal.returns-then-not-at_whole-clause-peeks
 returns-then-not-at_whole-clause-peeks c = peeks-within (stays-peeks c.at_whole.ensures.same c.at_whole.ensures.stays) (omega arith)
 
 pub returns-then-at_second-clause-sees : goal.returns-then-at_second-clause-sees
-unfolding look_of begins_below whole rule items statements expressions patterns types paths there_at shift passes is_silent begins in_mode anew row one_of any_of no_longer longest is_longer
+unfolding look_of begins_below whole rule items statements expressions patterns types paths there_at shift passes is_silent begins in_mode from_start row one_of any_of no_longer longest is_longer
 returns-then-at_second-clause-sees c cond = saw-told (saw-so (c.at_whole.ensures.sees cond) c.if-not-at_whole.false and saw-before c.at_whole.ensures.same (saw-arm c.in-LIFETIME_IDENT.is (c.current.ensures.sees cond)) and saw-before c.at_whole.ensures.same (saw-before c.current.ensures.peeks.same (saw-so (c.at_second.ensures.sees cond) c.if-at_second.true)) and nothing) refl
 
 pub returns-then-at_second-clause-peeks : goal.returns-then-at_second-clause-peeks
 returns-then-at_second-clause-peeks c = peeks-within (stays-then c.at_whole.ensures.same c.at_whole.ensures.stays (peeks-then c.current.ensures.peeks (c.at_second.ensures.peeks))) (omega arith)
 
 pub returns-else-at_second-clause-sees : goal.returns-else-at_second-clause-sees
-unfolding look_of begins_below whole rule items statements expressions patterns types paths there_at shift passes is_silent begins in_mode anew row one_of any_of no_longer longest is_longer
+unfolding look_of begins_below whole rule items statements expressions patterns types paths there_at shift passes is_silent begins in_mode from_start row one_of any_of no_longer longest is_longer
 returns-else-at_second-clause-sees c cond = saw-told (saw-so (c.at_whole.ensures.sees cond) c.if-not-at_whole.false and saw-before c.at_whole.ensures.same (saw-arm c.in-LIFETIME_IDENT.is (c.current.ensures.sees cond)) and saw-before c.at_whole.ensures.same (saw-before c.current.ensures.peeks.same (saw-so (c.at_second.ensures.sees cond) c.if-at_second.false)) and nothing) refl
 
 pub returns-else-at_second-clause-peeks : goal.returns-else-at_second-clause-peeks
 returns-else-at_second-clause-peeks c = peeks-within (stays-then c.at_whole.ensures.same c.at_whole.ensures.stays (peeks-then c.current.ensures.peeks (c.at_second.ensures.peeks))) (omega arith)
 
 pub returns-then-at_second-2-clause-sees : goal.returns-then-at_second-2-clause-sees
-unfolding look_of begins_below whole rule items statements expressions patterns types paths there_at shift passes is_silent begins in_mode anew row one_of any_of no_longer longest is_longer
+unfolding look_of begins_below whole rule items statements expressions patterns types paths there_at shift passes is_silent begins in_mode from_start row one_of any_of no_longer longest is_longer
 returns-then-at_second-2-clause-sees c cond = elim c.in-CONST_KW.is [ inl a0 ↦ saw-told (saw-so (c.at_whole.ensures.sees cond) c.if-not-at_whole.false and saw-before c.at_whole.ensures.same (saw-arm a0 (c.current.ensures.sees cond)) and saw-before c.at_whole.ensures.same (saw-before c.current.ensures.peeks.same (saw-so (c.at_second-in-CONST_KW.ensures.sees cond) c.if-at_second-2.true)) and nothing) refl | inr b0 ↦ saw-told (saw-so (c.at_whole.ensures.sees cond) c.if-not-at_whole.false and saw-before c.at_whole.ensures.same (saw-arm b0 (c.current.ensures.sees cond)) and saw-before c.at_whole.ensures.same (saw-before c.current.ensures.peeks.same (saw-so (c.at_second-in-CONST_KW.ensures.sees cond) c.if-at_second-2.true)) and nothing) refl ]
 
 pub returns-then-at_second-2-clause-peeks : goal.returns-then-at_second-2-clause-peeks
 returns-then-at_second-2-clause-peeks c = peeks-within (stays-then c.at_whole.ensures.same c.at_whole.ensures.stays (peeks-then c.current.ensures.peeks (c.at_second-in-CONST_KW.ensures.peeks))) (omega arith)
 
 pub returns-else-at_second-2-clause-sees : goal.returns-else-at_second-2-clause-sees
-unfolding look_of begins_below whole rule items statements expressions patterns types paths there_at shift passes is_silent begins in_mode anew row one_of any_of no_longer longest is_longer
+unfolding look_of begins_below whole rule items statements expressions patterns types paths there_at shift passes is_silent begins in_mode from_start row one_of any_of no_longer longest is_longer
 returns-else-at_second-2-clause-sees c cond = elim c.in-CONST_KW.is [ inl a0 ↦ saw-told (saw-so (c.at_whole.ensures.sees cond) c.if-not-at_whole.false and saw-before c.at_whole.ensures.same (saw-arm a0 (c.current.ensures.sees cond)) and saw-before c.at_whole.ensures.same (saw-before c.current.ensures.peeks.same (saw-so (c.at_second-in-CONST_KW.ensures.sees cond) c.if-at_second-2.false)) and nothing) refl | inr b0 ↦ saw-told (saw-so (c.at_whole.ensures.sees cond) c.if-not-at_whole.false and saw-before c.at_whole.ensures.same (saw-arm b0 (c.current.ensures.sees cond)) and saw-before c.at_whole.ensures.same (saw-before c.current.ensures.peeks.same (saw-so (c.at_second-in-CONST_KW.ensures.sees cond) c.if-at_second-2.false)) and nothing) refl ]
 
 pub returns-else-at_second-2-clause-peeks : goal.returns-else-at_second-2-clause-peeks
 returns-else-at_second-2-clause-peeks c = peeks-within (stays-then c.at_whole.ensures.same c.at_whole.ensures.stays (peeks-then c.current.ensures.peeks (c.at_second-in-CONST_KW.ensures.peeks))) (omega arith)
 
 pub returns-then-at_async_block-clause-sees : goal.returns-then-at_async_block-clause-sees
-unfolding look_of begins_below whole rule items statements expressions patterns types paths there_at shift passes is_silent begins in_mode anew row one_of any_of no_longer longest is_longer
+unfolding look_of begins_below whole rule items statements expressions patterns types paths there_at shift passes is_silent begins in_mode from_start row one_of any_of no_longer longest is_longer
 returns-then-at_async_block-clause-sees c cond = saw-told (saw-so (c.at_whole.ensures.sees cond) c.if-not-at_whole.false and saw-before c.at_whole.ensures.same (saw-arm c.in-ASYNC_KW.is (c.current.ensures.sees cond)) and saw-before c.at_whole.ensures.same (saw-before c.current.ensures.peeks.same (saw-so (c.at_async_block.ensures.sees cond) c.if-at_async_block.true)) and nothing) refl
 
 pub returns-then-at_async_block-clause-peeks : goal.returns-then-at_async_block-clause-peeks
 returns-then-at_async_block-clause-peeks c = peeks-within (stays-then c.at_whole.ensures.same c.at_whole.ensures.stays (peeks-then c.current.ensures.peeks (c.at_async_block.ensures.peeks))) (omega arith)
 
 pub returns-else-at_async_block-clause-sees : goal.returns-else-at_async_block-clause-sees
-unfolding look_of begins_below whole rule items statements expressions patterns types paths there_at shift passes is_silent begins in_mode anew row one_of any_of no_longer longest is_longer
+unfolding look_of begins_below whole rule items statements expressions patterns types paths there_at shift passes is_silent begins in_mode from_start row one_of any_of no_longer longest is_longer
 returns-else-at_async_block-clause-sees c cond = saw-told (saw-so (c.at_whole.ensures.sees cond) c.if-not-at_whole.false and saw-before c.at_whole.ensures.same (saw-arm c.in-ASYNC_KW.is (c.current.ensures.sees cond)) and saw-before c.at_whole.ensures.same (saw-before c.current.ensures.peeks.same (saw-so (c.at_async_block.ensures.sees cond) c.if-at_async_block.false)) and nothing) refl
 
 pub returns-else-at_async_block-clause-peeks : goal.returns-else-at_async_block-clause-peeks
 returns-else-at_async_block-clause-peeks c = peeks-within (stays-then c.at_whole.ensures.same c.at_whole.ensures.stays (peeks-then c.current.ensures.peeks (c.at_async_block.ensures.peeks))) (omega arith)
 
 pub returns-then-at_gen_block-clause-sees : goal.returns-then-at_gen_block-clause-sees
-unfolding look_of begins_below whole rule items statements expressions patterns types paths there_at shift passes is_silent begins in_mode anew row one_of any_of no_longer longest is_longer
+unfolding look_of begins_below whole rule items statements expressions patterns types paths there_at shift passes is_silent begins in_mode from_start row one_of any_of no_longer longest is_longer
 returns-then-at_gen_block-clause-sees c cond = saw-told (saw-so (c.at_whole.ensures.sees cond) c.if-not-at_whole.false and saw-before c.at_whole.ensures.same (saw-not c.in_default.not-LIFETIME_IDENT (c.current.ensures.sees cond)) and saw-before c.at_whole.ensures.same (saw-not c.in_default.not-CONST_KW (c.current.ensures.sees cond)) and saw-before c.at_whole.ensures.same (saw-not c.in_default.not-TRY_KW (c.current.ensures.sees cond)) and saw-before c.at_whole.ensures.same (saw-not c.in_default.not-ASYNC_KW (c.current.ensures.sees cond)) and saw-before c.at_whole.ensures.same (saw-before c.current.ensures.peeks.same (saw-so (c.at_gen_block.ensures.sees cond) c.if-at_gen_block.true)) and nothing) refl
 
 pub returns-then-at_gen_block-clause-peeks : goal.returns-then-at_gen_block-clause-peeks
 returns-then-at_gen_block-clause-peeks c = peeks-within (stays-then c.at_whole.ensures.same c.at_whole.ensures.stays (peeks-then c.current.ensures.peeks (c.at_gen_block.ensures.peeks))) (omega arith)
 
 pub returns-else-at_gen_block-clause-sees : goal.returns-else-at_gen_block-clause-sees
-unfolding look_of begins_below whole rule items statements expressions patterns types paths there_at shift passes is_silent begins in_mode anew row one_of any_of no_longer longest is_longer
+unfolding look_of begins_below whole rule items statements expressions patterns types paths there_at shift passes is_silent begins in_mode from_start row one_of any_of no_longer longest is_longer
 returns-else-at_gen_block-clause-sees c cond = saw-told (saw-so (c.at_whole.ensures.sees cond) c.if-not-at_whole.false and saw-before c.at_whole.ensures.same (saw-not c.in_default.not-LIFETIME_IDENT (c.current.ensures.sees cond)) and saw-before c.at_whole.ensures.same (saw-not c.in_default.not-CONST_KW (c.current.ensures.sees cond)) and saw-before c.at_whole.ensures.same (saw-not c.in_default.not-TRY_KW (c.current.ensures.sees cond)) and saw-before c.at_whole.ensures.same (saw-not c.in_default.not-ASYNC_KW (c.current.ensures.sees cond)) and saw-before c.at_whole.ensures.same (saw-before c.current.ensures.peeks.same (saw-so (c.at_gen_block.ensures.sees cond) c.if-at_gen_block.false)) and nothing) refl
 
 pub returns-else-at_gen_block-clause-peeks : goal.returns-else-at_gen_block-clause-peeks

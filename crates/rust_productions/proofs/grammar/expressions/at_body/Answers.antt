@@ -4,19 +4,19 @@ use Rattle.rust_grammar.specs.Notation.{row}
 use Rattle.rust_grammar.specs.Rule.{there_at}
 use Rattle.rust_productions.proofs.ByHand.{does-nothing}
 use Rattle.rust_productions.proofs.Words.{saw-both}
-use Rattle.rust_productions.proofs.Seen.{saw-always, saw-condition, saw-no-left}
+use Rattle.rust_productions.proofs.Seen.{saw-always, saw-no-left, saw-off, saw-on}
 use Rattle.rust_productions.proofs.grammar.expressions.at_body.Goals as goal
 
-pub returns-then-not-condition-clause-sees : goal.returns-then-not-condition-clause-sees
-returns-then-not-condition-clause-sees c = saw-no-left (saw-condition c.if-not-condition.true)
+pub returns-in-On-clause-sees : goal.returns-in-On-clause-sees
+unfolding row there_at
+returns-in-On-clause-sees c = saw-both (saw-on c.in-On.is) (saw-always (c.at.ensures.sees c.args.condition))
 
-pub returns-then-not-condition-clause-peeks : goal.returns-then-not-condition-clause-peeks
-returns-then-not-condition-clause-peeks c = record {
+pub returns-in-Off-clause-sees : goal.returns-in-Off-clause-sees
+returns-in-Off-clause-sees c = saw-no-left (saw-off c.in-Off.is)
+
+pub returns-in-Off-clause-peeks : goal.returns-in-Off-clause-peeks
+returns-in-Off-clause-peeks c = record {
   same = does-nothing _;
   left = omega arith;
   looks = omega arith;
 }
-
-pub returns-clause-sees : goal.returns-clause-sees
-unfolding row there_at
-returns-clause-sees c = saw-both (saw-condition c.if-not-condition.false) (saw-always (c.at.ensures.sees c.args.condition))

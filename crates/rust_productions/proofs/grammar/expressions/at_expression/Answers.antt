@@ -7,7 +7,7 @@ use Rattle.rust_grammar.specs.Notation.{any_of, is_longer, no_longer, longest, o
 use Rattle.rust_grammar.specs.Paths.{paths}
 use Rattle.rust_grammar.specs.Patterns.{patterns}
 use Rattle.rust_grammar.specs.Rule as rules
-use Rattle.rust_grammar.specs.Rule.{Unless, begins, in_mode, anew, is_silent, passes, shift, there_at}
+use Rattle.rust_grammar.specs.Rule.{Unless, begins, in_mode, from_start, is_silent, passes, shift, there_at}
 use Rattle.rust_grammar.specs.Statements.{statements}
 use Rattle.rust_grammar.specs.Types.{types}
 use Rattle.rust_grammar.specs.Whole.{rule, whole}
@@ -16,5 +16,5 @@ use Rattle.rust_productions.proofs.Seen.{begins-row}
 use Rattle.rust_productions.proofs.grammar.expressions.at_expression.Goals as goal
 
 pub returns-clause-sees : goal.returns-clause-sees
-unfolding look_of begins_below whole rule items statements expressions patterns types paths there_at shift passes is_silent begins in_mode anew row one_of any_of no_longer longest is_longer
+unfolding look_of begins_below whole rule items statements expressions patterns types paths there_at shift passes is_silent begins in_mode from_start row one_of any_of no_longer longest is_longer
 returns-clause-sees c = begins-row rules.expression (begun rules.operation c.at_operation.ensures.sees nothing) refl

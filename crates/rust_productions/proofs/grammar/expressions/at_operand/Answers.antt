@@ -6,7 +6,7 @@ use Rattle.rust_grammar.specs.Meaning.{begins_below, look_of}
 use Rattle.rust_grammar.specs.Notation.{any_of, is_longer, no_longer, longest, one_of, row}
 use Rattle.rust_grammar.specs.Paths.{paths}
 use Rattle.rust_grammar.specs.Patterns.{patterns}
-use Rattle.rust_grammar.specs.Rule.{begins, in_mode, anew, is_silent, passes, shift, there_at}
+use Rattle.rust_grammar.specs.Rule.{begins, in_mode, from_start, is_silent, passes, shift, there_at}
 use Rattle.rust_grammar.specs.Statements.{statements}
 use Rattle.rust_grammar.specs.Types.{types}
 use Rattle.rust_grammar.specs.Whole.{rule, whole}
@@ -19,63 +19,63 @@ use Rattle.rust_productions.proofs.Staying.{stays-peeks}
 use Rattle.rust_productions.proofs.grammar.expressions.at_operand.Goals as goal
 
 pub returns-then-at_atom-clause-sees : goal.returns-then-at_atom-clause-sees
-unfolding look_of begins_below whole rule items statements expressions patterns types paths there_at shift passes is_silent begins in_mode anew row one_of any_of no_longer longest is_longer
+unfolding look_of begins_below whole rule items statements expressions patterns types paths there_at shift passes is_silent begins in_mode from_start row one_of any_of no_longer longest is_longer
 returns-then-at_atom-clause-sees c = begins-row rules.prefixed (begun rules.atom (saw-so (c.at_atom.ensures.sees) c.if-at_atom.true) (nothing)) refl
 
 pub returns-then-at_atom-clause-peeks : goal.returns-then-at_atom-clause-peeks
 returns-then-at_atom-clause-peeks c = peeks-within (c.at_atom.ensures.peeks) (omega arith)
 
 pub returns-in-MINUS-clause-sees : goal.returns-in-MINUS-clause-sees
-unfolding look_of begins_below whole rule items statements expressions patterns types paths there_at shift passes is_silent begins in_mode anew row one_of any_of no_longer longest is_longer
+unfolding look_of begins_below whole rule items statements expressions patterns types paths there_at shift passes is_silent begins in_mode from_start row one_of any_of no_longer longest is_longer
 returns-in-MINUS-clause-sees c = elim c.in-MINUS.is [ inl a0 ↦ begins-row rules.prefixed (begun rules.atom (saw-so (c.at_atom.ensures.sees) c.if-at_atom.false) (saw-before c.at_atom.ensures.peeks.same (saw-arm a0 (c.current.ensures.sees c.args.condition)) and nothing)) refl | inr b0 ↦ elim b0 [ inl a1 ↦ begins-row rules.prefixed (begun rules.atom (saw-so (c.at_atom.ensures.sees) c.if-at_atom.false) (saw-before c.at_atom.ensures.peeks.same (saw-arm a1 (c.current.ensures.sees c.args.condition)) and nothing)) refl | inr b1 ↦ elim b1 [ inl a2 ↦ begins-row rules.prefixed (begun rules.atom (saw-so (c.at_atom.ensures.sees) c.if-at_atom.false) (saw-before c.at_atom.ensures.peeks.same (saw-arm a2 (c.current.ensures.sees c.args.condition)) and nothing)) refl | inr b2 ↦ begins-row rules.prefixed (begun rules.atom (saw-so (c.at_atom.ensures.sees) c.if-at_atom.false) (saw-before c.at_atom.ensures.peeks.same (saw-arm b2 (c.current.ensures.sees c.args.condition)) and nothing)) refl ] ] ]
 
 pub returns-in-MINUS-clause-peeks : goal.returns-in-MINUS-clause-peeks
 returns-in-MINUS-clause-peeks c = peeks-within (peeks-then c.at_atom.ensures.peeks (c.current.ensures.peeks)) (omega arith)
 
 pub returns-then-not-at_whole-clause-sees : goal.returns-then-not-at_whole-clause-sees
-unfolding look_of begins_below whole rule items statements expressions patterns types paths there_at shift passes is_silent begins in_mode anew row one_of any_of no_longer longest is_longer
+unfolding look_of begins_below whole rule items statements expressions patterns types paths there_at shift passes is_silent begins in_mode from_start row one_of any_of no_longer longest is_longer
 returns-then-not-at_whole-clause-sees c = begins-row rules.prefixed (begun rules.atom (saw-so (c.at_atom.ensures.sees) c.if-at_atom.false) (saw-before c.at_atom.ensures.peeks.same (saw-arm c.in-DOT.is (c.current.ensures.sees c.args.condition)) and saw-before c.at_atom.ensures.peeks.same (saw-before c.current.ensures.peeks.same (saw-so (c.at_whole.ensures.sees c.args.condition) c.if-not-at_whole.true)) and nothing)) refl
 
 pub returns-then-not-at_whole-clause-peeks : goal.returns-then-not-at_whole-clause-peeks
 returns-then-not-at_whole-clause-peeks c = peeks-within (peeks-then c.at_atom.ensures.peeks (peeks-then c.current.ensures.peeks (stays-peeks c.at_whole.ensures.same c.at_whole.ensures.stays))) (omega arith)
 
 pub returns-then-not-at_joint-clause-sees : goal.returns-then-not-at_joint-clause-sees
-unfolding look_of begins_below whole rule items statements expressions patterns types paths there_at shift passes is_silent begins in_mode anew row one_of any_of no_longer longest is_longer
+unfolding look_of begins_below whole rule items statements expressions patterns types paths there_at shift passes is_silent begins in_mode from_start row one_of any_of no_longer longest is_longer
 returns-then-not-at_joint-clause-sees c = begins-row rules.prefixed (begun rules.atom (saw-so (c.at_atom.ensures.sees) c.if-at_atom.false) (saw-before c.at_atom.ensures.peeks.same (saw-arm c.in-DOT.is (c.current.ensures.sees c.args.condition)) and saw-before c.at_atom.ensures.peeks.same (saw-before c.current.ensures.peeks.same (saw-so (c.at_whole.ensures.sees c.args.condition) c.if-not-at_whole.false)) and saw-before c.at_atom.ensures.peeks.same (saw-before c.current.ensures.peeks.same (saw-before c.at_whole.ensures.same (saw-so (c.at_joint.ensures.sees c.args.condition) c.if-not-at_joint.true))) and nothing)) refl
 
 pub returns-then-not-at_joint-clause-peeks : goal.returns-then-not-at_joint-clause-peeks
 returns-then-not-at_joint-clause-peeks c = peeks-within (peeks-then c.at_atom.ensures.peeks (peeks-then c.current.ensures.peeks (stays-then c.at_whole.ensures.same c.at_whole.ensures.stays (stays-peeks c.at_joint.ensures.same c.at_joint.ensures.stays)))) (omega arith)
 
 pub returns-then-at_second-clause-sees : goal.returns-then-at_second-clause-sees
-unfolding look_of begins_below whole rule items statements expressions patterns types paths there_at shift passes is_silent begins in_mode anew row one_of any_of no_longer longest is_longer
+unfolding look_of begins_below whole rule items statements expressions patterns types paths there_at shift passes is_silent begins in_mode from_start row one_of any_of no_longer longest is_longer
 returns-then-at_second-clause-sees c = begins-row rules.prefixed (begun rules.atom (saw-so (c.at_atom.ensures.sees) c.if-at_atom.false) (saw-before c.at_atom.ensures.peeks.same (saw-arm c.in-DOT.is (c.current.ensures.sees c.args.condition)) and saw-before c.at_atom.ensures.peeks.same (saw-before c.current.ensures.peeks.same (saw-so (c.at_whole.ensures.sees c.args.condition) c.if-not-at_whole.false)) and saw-before c.at_atom.ensures.peeks.same (saw-before c.current.ensures.peeks.same (saw-before c.at_whole.ensures.same (saw-so (c.at_joint.ensures.sees c.args.condition) c.if-not-at_joint.false))) and saw-before c.at_atom.ensures.peeks.same (saw-before c.current.ensures.peeks.same (saw-before c.at_whole.ensures.same (saw-before c.at_joint.ensures.same (saw-so (c.at_second.ensures.sees c.args.condition) c.if-at_second.true)))) and nothing)) refl
 
 pub returns-then-at_second-clause-peeks : goal.returns-then-at_second-clause-peeks
 returns-then-at_second-clause-peeks c = peeks-within (peeks-then c.at_atom.ensures.peeks (peeks-then c.current.ensures.peeks (stays-then c.at_whole.ensures.same c.at_whole.ensures.stays (stays-then c.at_joint.ensures.same c.at_joint.ensures.stays (c.at_second.ensures.peeks))))) (omega arith)
 
 pub returns-else-at_second-clause-sees : goal.returns-else-at_second-clause-sees
-unfolding look_of begins_below whole rule items statements expressions patterns types paths there_at shift passes is_silent begins in_mode anew row one_of any_of no_longer longest is_longer
+unfolding look_of begins_below whole rule items statements expressions patterns types paths there_at shift passes is_silent begins in_mode from_start row one_of any_of no_longer longest is_longer
 returns-else-at_second-clause-sees c = begins-row rules.prefixed (begun rules.atom (saw-so (c.at_atom.ensures.sees) c.if-at_atom.false) (saw-before c.at_atom.ensures.peeks.same (saw-arm c.in-DOT.is (c.current.ensures.sees c.args.condition)) and saw-before c.at_atom.ensures.peeks.same (saw-before c.current.ensures.peeks.same (saw-so (c.at_whole.ensures.sees c.args.condition) c.if-not-at_whole.false)) and saw-before c.at_atom.ensures.peeks.same (saw-before c.current.ensures.peeks.same (saw-before c.at_whole.ensures.same (saw-so (c.at_joint.ensures.sees c.args.condition) c.if-not-at_joint.false))) and saw-before c.at_atom.ensures.peeks.same (saw-before c.current.ensures.peeks.same (saw-before c.at_whole.ensures.same (saw-before c.at_joint.ensures.same (saw-so (c.at_second.ensures.sees c.args.condition) c.if-at_second.false)))) and nothing)) refl
 
 pub returns-else-at_second-clause-peeks : goal.returns-else-at_second-clause-peeks
 returns-else-at_second-clause-peeks c = peeks-within (peeks-then c.at_atom.ensures.peeks (peeks-then c.current.ensures.peeks (stays-then c.at_whole.ensures.same c.at_whole.ensures.stays (stays-then c.at_joint.ensures.same c.at_joint.ensures.stays (c.at_second.ensures.peeks))))) (omega arith)
 
 pub returns-then-at_whole-clause-sees : goal.returns-then-at_whole-clause-sees
-unfolding look_of begins_below whole rule items statements expressions patterns types paths there_at shift passes is_silent begins in_mode anew row one_of any_of no_longer longest is_longer
+unfolding look_of begins_below whole rule items statements expressions patterns types paths there_at shift passes is_silent begins in_mode from_start row one_of any_of no_longer longest is_longer
 returns-then-at_whole-clause-sees c = begins-row rules.prefixed (begun rules.atom (saw-so (c.at_atom.ensures.sees) c.if-at_atom.false) (saw-before c.at_atom.ensures.peeks.same (saw-arm c.in-POUND.is (c.current.ensures.sees c.args.condition)) and saw-before c.at_atom.ensures.peeks.same (saw-before c.current.ensures.peeks.same (saw-so (c.at_whole-in-POUND.ensures.sees c.args.condition) c.if-at_whole.true)) and nothing)) refl
 
 pub returns-then-at_whole-clause-peeks : goal.returns-then-at_whole-clause-peeks
 returns-then-at_whole-clause-peeks c = peeks-within (peeks-then c.at_atom.ensures.peeks (peeks-then c.current.ensures.peeks (stays-peeks c.at_whole-in-POUND.ensures.same c.at_whole-in-POUND.ensures.stays))) (omega arith)
 
 pub returns-else-at_whole-clause-sees : goal.returns-else-at_whole-clause-sees
-unfolding look_of begins_below whole rule items statements expressions patterns types paths there_at shift passes is_silent begins in_mode anew row one_of any_of no_longer longest is_longer
+unfolding look_of begins_below whole rule items statements expressions patterns types paths there_at shift passes is_silent begins in_mode from_start row one_of any_of no_longer longest is_longer
 returns-else-at_whole-clause-sees c = begins-row rules.prefixed (begun rules.atom (saw-so (c.at_atom.ensures.sees) c.if-at_atom.false) (saw-before c.at_atom.ensures.peeks.same (saw-arm c.in-POUND.is (c.current.ensures.sees c.args.condition)) and saw-before c.at_atom.ensures.peeks.same (saw-before c.current.ensures.peeks.same (saw-so (c.at_whole-in-POUND.ensures.sees c.args.condition) c.if-at_whole.false)) and nothing)) refl
 
 pub returns-else-at_whole-clause-peeks : goal.returns-else-at_whole-clause-peeks
 returns-else-at_whole-clause-peeks c = peeks-within (peeks-then c.at_atom.ensures.peeks (peeks-then c.current.ensures.peeks (stays-peeks c.at_whole-in-POUND.ensures.same c.at_whole-in-POUND.ensures.stays))) (omega arith)
 
 pub returns-in_default-clause-sees : goal.returns-in_default-clause-sees
-unfolding look_of begins_below whole rule items statements expressions patterns types paths there_at shift passes is_silent begins in_mode anew row one_of any_of no_longer longest is_longer
+unfolding look_of begins_below whole rule items statements expressions patterns types paths there_at shift passes is_silent begins in_mode from_start row one_of any_of no_longer longest is_longer
 returns-in_default-clause-sees c = begins-row rules.prefixed (begun rules.atom (saw-so (c.at_atom.ensures.sees) c.if-at_atom.false) (saw-before c.at_atom.ensures.peeks.same (saw-not c.in_default.not-MINUS (c.current.ensures.sees c.args.condition)) and saw-before c.at_atom.ensures.peeks.same (saw-not c.in_default.not-BANG (c.current.ensures.sees c.args.condition)) and saw-before c.at_atom.ensures.peeks.same (saw-not c.in_default.not-STAR (c.current.ensures.sees c.args.condition)) and saw-before c.at_atom.ensures.peeks.same (saw-not c.in_default.not-AMP (c.current.ensures.sees c.args.condition)) and saw-before c.at_atom.ensures.peeks.same (saw-not c.in_default.not-DOT (c.current.ensures.sees c.args.condition)) and saw-before c.at_atom.ensures.peeks.same (saw-not c.in_default.not-POUND (c.current.ensures.sees c.args.condition)) and nothing)) refl
 
 pub returns-in_default-clause-peeks : goal.returns-in_default-clause-peeks

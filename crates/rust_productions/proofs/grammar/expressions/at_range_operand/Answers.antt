@@ -7,7 +7,7 @@ use Rattle.rust_grammar.specs.Notation.{any_of, is_longer, no_longer, longest, o
 use Rattle.rust_grammar.specs.Paths.{paths}
 use Rattle.rust_grammar.specs.Patterns.{patterns}
 use Rattle.rust_grammar.specs.Rule as rules
-use Rattle.rust_grammar.specs.Rule.{begins, in_mode, anew, is_silent, passes, shift, there_at}
+use Rattle.rust_grammar.specs.Rule.{begins, in_mode, from_start, is_silent, passes, shift, there_at}
 use Rattle.rust_grammar.specs.Statements.{statements}
 use Rattle.rust_grammar.specs.Types.{types}
 use Rattle.rust_grammar.specs.Whole.{rule, whole}
@@ -18,18 +18,18 @@ use Rattle.rust_productions.proofs.Peeking.{peeks-then, peeks-within}
 use Rattle.rust_productions.proofs.grammar.expressions.at_range_operand.Goals as goal
 
 pub returns-then-at_body-clause-sees : goal.returns-then-at_body-clause-sees
-unfolding look_of begins_below whole rule items statements expressions patterns types paths there_at shift passes is_silent begins in_mode anew row one_of any_of no_longer longest is_longer
+unfolding look_of begins_below whole rule items statements expressions patterns types paths there_at shift passes is_silent begins in_mode from_start row one_of any_of no_longer longest is_longer
 returns-then-at_body-clause-sees c = starts-here range_operand (saw-so c.at_body.ensures.sees c.if-at_body.true and nothing) refl
 
 pub returns-then-at_new_mark-clause-sees : goal.returns-then-at_new_mark-clause-sees
-unfolding look_of begins_below whole rule items statements expressions patterns types paths there_at shift passes is_silent begins in_mode anew row one_of any_of no_longer longest is_longer
+unfolding look_of begins_below whole rule items statements expressions patterns types paths there_at shift passes is_silent begins in_mode from_start row one_of any_of no_longer longest is_longer
 returns-then-at_new_mark-clause-sees c = starts-here range_operand (saw-so c.at_body.ensures.sees c.if-at_body.false and saw-before c.at_body.ensures.peeks.same (saw-so (c.at_new_mark.ensures.sees c.args.condition) c.if-at_new_mark.true) and nothing) refl
 
 pub returns-then-at_new_mark-clause-peeks : goal.returns-then-at_new_mark-clause-peeks
 returns-then-at_new_mark-clause-peeks c = peeks-within (peeks-then c.at_body.ensures.peeks c.at_new_mark.ensures.peeks) (omega arith)
 
 pub returns-clause-sees : goal.returns-clause-sees
-unfolding look_of begins_below whole rule items statements expressions patterns types paths there_at shift passes is_silent begins in_mode anew row one_of any_of no_longer longest is_longer
+unfolding look_of begins_below whole rule items statements expressions patterns types paths there_at shift passes is_silent begins in_mode from_start row one_of any_of no_longer longest is_longer
 returns-clause-sees c =
     starts-here range_operand
     (saw-so c.at_body.ensures.sees c.if-at_body.false

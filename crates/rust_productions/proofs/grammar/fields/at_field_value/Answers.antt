@@ -6,7 +6,7 @@ use Rattle.rust_grammar.specs.Meaning.{begins_below, look_of}
 use Rattle.rust_grammar.specs.Notation.{any_of, is_longer, no_longer, longest, one_of, row}
 use Rattle.rust_grammar.specs.Paths.{paths}
 use Rattle.rust_grammar.specs.Patterns.{patterns}
-use Rattle.rust_grammar.specs.Rule.{begins, in_mode, anew, is_silent, passes, shift, there_at}
+use Rattle.rust_grammar.specs.Rule.{begins, in_mode, from_start, is_silent, passes, shift, there_at}
 use Rattle.rust_grammar.specs.Statements.{statements}
 use Rattle.rust_grammar.specs.Types.{types}
 use Rattle.rust_grammar.specs.Whole.{rule, whole}
@@ -18,35 +18,35 @@ use Rattle.rust_productions.proofs.Peeking.{peeks-then, peeks-within}
 use Rattle.rust_productions.proofs.grammar.fields.at_field_value.Goals as goal
 
 pub returns-then-at_new-clause-sees : goal.returns-then-at_new-clause-sees
-unfolding look_of begins_below whole rule items statements expressions patterns types paths there_at shift passes is_silent begins in_mode anew row one_of any_of no_longer longest is_longer
+unfolding look_of begins_below whole rule items statements expressions patterns types paths there_at shift passes is_silent begins in_mode from_start row one_of any_of no_longer longest is_longer
 returns-then-at_new-clause-sees c cond = begins-row rules.field_value (saw-so (c.at_new.ensures.sees cond) c.if-at_new.true and nothing) refl
 
 pub returns-then-at_new-clause-peeks : goal.returns-then-at_new-clause-peeks
 returns-then-at_new-clause-peeks c = peeks-within (c.at_new.ensures.peeks) (omega arith)
 
 pub returns-then-at_path-clause-sees : goal.returns-then-at_path-clause-sees
-unfolding look_of begins_below whole rule items statements expressions patterns types paths there_at shift passes is_silent begins in_mode anew row one_of any_of no_longer longest is_longer
+unfolding look_of begins_below whole rule items statements expressions patterns types paths there_at shift passes is_silent begins in_mode from_start row one_of any_of no_longer longest is_longer
 returns-then-at_path-clause-sees c cond = begins-row rules.field_value (saw-so (c.at_new.ensures.sees cond) c.if-at_new.false and begun rules.type_path (saw-type-path (saw-before c.at_new.ensures.peeks.same (saw-so (c.at_path.ensures.sees cond) c.if-at_path.true))) (begun rules.expr_path (saw-expr-path (saw-before c.at_new.ensures.peeks.same (saw-so (c.at_path.ensures.sees cond) c.if-at_path.true))) (begun rules.path (saw-before c.at_new.ensures.peeks.same (saw-so (c.at_path.ensures.sees cond) c.if-at_path.true)) (saw-path-begins (saw-before c.at_new.ensures.peeks.same (saw-so (c.at_path.ensures.sees cond) c.if-at_path.true)) and nothing)))) refl
 
 pub returns-then-at_path-clause-peeks : goal.returns-then-at_path-clause-peeks
 returns-then-at_path-clause-peeks c = peeks-within (peeks-then c.at_new.ensures.peeks (c.at_path.ensures.peeks)) (omega arith)
 
 pub returns-then-at_named_field-clause-sees : goal.returns-then-at_named_field-clause-sees
-unfolding look_of begins_below whole rule items statements expressions patterns types paths there_at shift passes is_silent begins in_mode anew row one_of any_of no_longer longest is_longer
+unfolding look_of begins_below whole rule items statements expressions patterns types paths there_at shift passes is_silent begins in_mode from_start row one_of any_of no_longer longest is_longer
 returns-then-at_named_field-clause-sees c cond = begins-row rules.field_value (saw-so (c.at_new.ensures.sees cond) c.if-at_new.false and begun rules.type_path (saw-type-path (saw-before c.at_new.ensures.peeks.same (saw-so (c.at_path.ensures.sees cond) c.if-at_path.false))) (begun rules.expr_path (saw-expr-path (saw-before c.at_new.ensures.peeks.same (saw-so (c.at_path.ensures.sees cond) c.if-at_path.false))) (begun rules.path (saw-before c.at_new.ensures.peeks.same (saw-so (c.at_path.ensures.sees cond) c.if-at_path.false)) (saw-path-begins (saw-before c.at_new.ensures.peeks.same (saw-so (c.at_path.ensures.sees cond) c.if-at_path.false)) and saw-before c.at_new.ensures.peeks.same (saw-before c.at_path.ensures.peeks.same (saw-so (c.at_named_field.ensures.sees cond) c.if-at_named_field.true)) and nothing)))) refl
 
 pub returns-then-at_named_field-clause-peeks : goal.returns-then-at_named_field-clause-peeks
 returns-then-at_named_field-clause-peeks c = peeks-within (peeks-then c.at_new.ensures.peeks (peeks-then c.at_path.ensures.peeks (c.at_named_field.ensures.peeks))) (omega arith)
 
 pub returns-then-at_pair-clause-sees : goal.returns-then-at_pair-clause-sees
-unfolding look_of begins_below whole rule items statements expressions patterns types paths there_at shift passes is_silent begins in_mode anew row one_of any_of no_longer longest is_longer
+unfolding look_of begins_below whole rule items statements expressions patterns types paths there_at shift passes is_silent begins in_mode from_start row one_of any_of no_longer longest is_longer
 returns-then-at_pair-clause-sees c cond = begins-row rules.field_value (saw-so (c.at_new.ensures.sees cond) c.if-at_new.false and begun rules.type_path (saw-type-path (saw-before c.at_new.ensures.peeks.same (saw-so (c.at_path.ensures.sees cond) c.if-at_path.false))) (begun rules.expr_path (saw-expr-path (saw-before c.at_new.ensures.peeks.same (saw-so (c.at_path.ensures.sees cond) c.if-at_path.false))) (begun rules.path (saw-before c.at_new.ensures.peeks.same (saw-so (c.at_path.ensures.sees cond) c.if-at_path.false)) (saw-path-begins (saw-before c.at_new.ensures.peeks.same (saw-so (c.at_path.ensures.sees cond) c.if-at_path.false)) and saw-before c.at_new.ensures.peeks.same (saw-before c.at_path.ensures.peeks.same (saw-so (c.at_named_field.ensures.sees cond) c.if-at_named_field.false)) and saw-before c.at_new.ensures.peeks.same (saw-before c.at_path.ensures.peeks.same (saw-before c.at_named_field.ensures.peeks.same (saw-so (c.at_pair.ensures.sees cond) c.if-at_pair.true))) and nothing)))) refl
 
 pub returns-then-at_pair-clause-peeks : goal.returns-then-at_pair-clause-peeks
 returns-then-at_pair-clause-peeks c = peeks-within (peeks-then c.at_new.ensures.peeks (peeks-then c.at_path.ensures.peeks (peeks-then c.at_named_field.ensures.peeks (c.at_pair.ensures.peeks)))) (omega arith)
 
 pub returns-clause-sees : goal.returns-clause-sees
-unfolding look_of begins_below whole rule items statements expressions patterns types paths there_at shift passes is_silent begins in_mode anew row one_of any_of no_longer longest is_longer
+unfolding look_of begins_below whole rule items statements expressions patterns types paths there_at shift passes is_silent begins in_mode from_start row one_of any_of no_longer longest is_longer
 returns-clause-sees c cond = begins-row rules.field_value (saw-so (c.at_new.ensures.sees cond) c.if-at_new.false and begun rules.type_path (saw-type-path (saw-before c.at_new.ensures.peeks.same (saw-so (c.at_path.ensures.sees cond) c.if-at_path.false))) (begun rules.expr_path (saw-expr-path (saw-before c.at_new.ensures.peeks.same (saw-so (c.at_path.ensures.sees cond) c.if-at_path.false))) (begun rules.path (saw-before c.at_new.ensures.peeks.same (saw-so (c.at_path.ensures.sees cond) c.if-at_path.false)) (saw-path-begins (saw-before c.at_new.ensures.peeks.same (saw-so (c.at_path.ensures.sees cond) c.if-at_path.false)) and saw-before c.at_new.ensures.peeks.same (saw-before c.at_path.ensures.peeks.same (saw-so (c.at_named_field.ensures.sees cond) c.if-at_named_field.false)) and saw-before c.at_new.ensures.peeks.same (saw-before c.at_path.ensures.peeks.same (saw-before c.at_named_field.ensures.peeks.same (saw-so (c.at_pair.ensures.sees cond) c.if-at_pair.false))) and nothing)))) refl
 
 pub returns-clause-peeks : goal.returns-clause-peeks

@@ -6,7 +6,7 @@ use Rattle.rust_grammar.specs.Meaning.{begins_below, look_of}
 use Rattle.rust_grammar.specs.Notation.{any_of, is_longer, no_longer, longest, one_of, row}
 use Rattle.rust_grammar.specs.Paths.{paths}
 use Rattle.rust_grammar.specs.Patterns.{patterns}
-use Rattle.rust_grammar.specs.Rule.{begins, in_mode, anew, is_silent, passes, shift, there_at}
+use Rattle.rust_grammar.specs.Rule.{begins, in_mode, from_start, is_silent, passes, shift, there_at}
 use Rattle.rust_grammar.specs.Statements.{statements}
 use Rattle.rust_grammar.specs.Types.{types}
 use Rattle.rust_grammar.specs.Whole.{rule, whole}
@@ -18,21 +18,21 @@ use Rattle.rust_productions.proofs.Peeking.{peeks-then, peeks-within}
 use Rattle.rust_productions.proofs.grammar.generic_params.at_generic_param.Goals as goal
 
 pub returns-then-at_new_param-clause-sees : goal.returns-then-at_new_param-clause-sees
-unfolding look_of begins_below whole rule items statements expressions patterns types paths there_at shift passes is_silent begins in_mode anew row one_of any_of no_longer longest is_longer
+unfolding look_of begins_below whole rule items statements expressions patterns types paths there_at shift passes is_silent begins in_mode from_start row one_of any_of no_longer longest is_longer
 returns-then-at_new_param-clause-sees c cond = begins-row rules.generic_param (saw-so (c.at_new_param.ensures.sees cond) c.if-at_new_param.true and nothing) refl
 
 pub returns-then-at_new_param-clause-peeks : goal.returns-then-at_new_param-clause-peeks
 returns-then-at_new_param-clause-peeks c = peeks-within (c.at_new_param.ensures.peeks) (omega arith)
 
 pub returns-in-LIFETIME_IDENT-clause-sees : goal.returns-in-LIFETIME_IDENT-clause-sees
-unfolding look_of begins_below whole rule items statements expressions patterns types paths there_at shift passes is_silent begins in_mode anew row one_of any_of no_longer longest is_longer
+unfolding look_of begins_below whole rule items statements expressions patterns types paths there_at shift passes is_silent begins in_mode from_start row one_of any_of no_longer longest is_longer
 returns-in-LIFETIME_IDENT-clause-sees c cond = elim c.in-LIFETIME_IDENT.is [ inl a0 ↦ begins-row rules.generic_param (saw-so (c.at_new_param.ensures.sees cond) c.if-at_new_param.false and saw-before c.at_new_param.ensures.peeks.same (left-arm a0 (c.current.ensures.end cond)) and saw-before c.at_new_param.ensures.peeks.same (saw-arm a0 (c.current.ensures.sees cond)) and nothing) refl | inr b0 ↦ begins-row rules.generic_param (saw-so (c.at_new_param.ensures.sees cond) c.if-at_new_param.false and saw-before c.at_new_param.ensures.peeks.same (left-arm b0 (c.current.ensures.end cond)) and saw-before c.at_new_param.ensures.peeks.same (saw-arm b0 (c.current.ensures.sees cond)) and nothing) refl ]
 
 pub returns-in-LIFETIME_IDENT-clause-peeks : goal.returns-in-LIFETIME_IDENT-clause-peeks
 returns-in-LIFETIME_IDENT-clause-peeks c = peeks-then c.at_new_param.ensures.peeks c.current.ensures.peeks
 
 pub returns-in_default-clause-sees : goal.returns-in_default-clause-sees
-unfolding look_of begins_below whole rule items statements expressions patterns types paths there_at shift passes is_silent begins in_mode anew row one_of any_of no_longer longest is_longer
+unfolding look_of begins_below whole rule items statements expressions patterns types paths there_at shift passes is_silent begins in_mode from_start row one_of any_of no_longer longest is_longer
 returns-in_default-clause-sees c cond = begins-row rules.generic_param (saw-so (c.at_new_param.ensures.sees cond) c.if-at_new_param.false and saw-before c.at_new_param.ensures.peeks.same (saw-not c.in_default.not-LIFETIME_IDENT (c.current.ensures.sees cond)) and saw-before c.at_new_param.ensures.peeks.same (saw-not c.in_default.not-IDENT (c.current.ensures.sees cond)) and nothing) refl
 
 pub returns-in_default-clause-peeks : goal.returns-in_default-clause-peeks

@@ -6,7 +6,7 @@ use Rattle.rust_grammar.specs.Meaning.{begins_below, look_of}
 use Rattle.rust_grammar.specs.Notation.{any_of, is_longer, no_longer, longest, one_of, row}
 use Rattle.rust_grammar.specs.Paths.{paths}
 use Rattle.rust_grammar.specs.Patterns.{patterns}
-use Rattle.rust_grammar.specs.Rule.{begins, in_mode, anew, is_silent, passes, shift, there_at}
+use Rattle.rust_grammar.specs.Rule.{begins, in_mode, from_start, is_silent, passes, shift, there_at}
 use Rattle.rust_grammar.specs.Statements.{statements}
 use Rattle.rust_grammar.specs.Types.{types}
 use Rattle.rust_grammar.specs.Whole.{rule, whole}
@@ -17,21 +17,21 @@ use Rattle.rust_productions.proofs.Peeking.{stays-then}
 use Rattle.rust_productions.proofs.grammar.generic_params.at_new_param.Goals as goal
 
 pub returns-then-not-at_whole-clause-sees : goal.returns-then-not-at_whole-clause-sees
-unfolding look_of begins_below whole rule items statements expressions patterns types paths there_at shift passes is_silent begins in_mode anew row one_of any_of no_longer longest is_longer
+unfolding look_of begins_below whole rule items statements expressions patterns types paths there_at shift passes is_silent begins in_mode from_start row one_of any_of no_longer longest is_longer
 returns-then-not-at_whole-clause-sees c cond = saw-told (saw-so (c.at_whole.ensures.sees cond) c.if-not-at_whole.true and nothing) refl
 
 pub returns-then-not-at_whole-clause-peeks : goal.returns-then-not-at_whole-clause-peeks
 returns-then-not-at_whole-clause-peeks c = record { same = c.at_whole.ensures.same; left = c.at_whole.ensures.stays.left; looks = omega (arith, c.at_whole.ensures.stays.looks) }
 
 pub returns-in-CONST_KW-clause-sees : goal.returns-in-CONST_KW-clause-sees
-unfolding look_of begins_below whole rule items statements expressions patterns types paths there_at shift passes is_silent begins in_mode anew row one_of any_of no_longer longest is_longer
+unfolding look_of begins_below whole rule items statements expressions patterns types paths there_at shift passes is_silent begins in_mode from_start row one_of any_of no_longer longest is_longer
 returns-in-CONST_KW-clause-sees c cond = elim c.in-CONST_KW.is [ inl a0 ↦ saw-told (saw-so (c.at_whole.ensures.sees cond) c.if-not-at_whole.false and saw-before c.at_whole.ensures.same (saw-arm a0 (c.current.ensures.sees cond)) and nothing) refl | inr b0 ↦ saw-told (saw-so (c.at_whole.ensures.sees cond) c.if-not-at_whole.false and saw-before c.at_whole.ensures.same (saw-arm b0 (c.current.ensures.sees cond)) and nothing) refl ]
 
 pub returns-in-CONST_KW-clause-peeks : goal.returns-in-CONST_KW-clause-peeks
 returns-in-CONST_KW-clause-peeks c = stays-then c.at_whole.ensures.same c.at_whole.ensures.stays c.current.ensures.peeks
 
 pub returns-in_default-clause-sees : goal.returns-in_default-clause-sees
-unfolding look_of begins_below whole rule items statements expressions patterns types paths there_at shift passes is_silent begins in_mode anew row one_of any_of no_longer longest is_longer
+unfolding look_of begins_below whole rule items statements expressions patterns types paths there_at shift passes is_silent begins in_mode from_start row one_of any_of no_longer longest is_longer
 returns-in_default-clause-sees c cond = saw-told (saw-so (c.at_whole.ensures.sees cond) c.if-not-at_whole.false and saw-before c.at_whole.ensures.same (saw-not c.in_default.not-CONST_KW (c.current.ensures.sees cond)) and saw-before c.at_whole.ensures.same (saw-not c.in_default.not-POUND (c.current.ensures.sees cond)) and nothing) refl
 
 pub returns-in_default-clause-peeks : goal.returns-in_default-clause-peeks

@@ -6,7 +6,7 @@ use Rattle.rust_grammar.specs.Meaning.{begins_below, look_of}
 use Rattle.rust_grammar.specs.Notation.{any_of, is_longer, no_longer, longest, one_of, row}
 use Rattle.rust_grammar.specs.Paths.{paths}
 use Rattle.rust_grammar.specs.Patterns.{patterns}
-use Rattle.rust_grammar.specs.Rule.{begins, in_mode, anew, is_silent, passes, shift, there_at}
+use Rattle.rust_grammar.specs.Rule.{begins, in_mode, from_start, is_silent, passes, shift, there_at}
 use Rattle.rust_grammar.specs.Statements.{statements}
 use Rattle.rust_grammar.specs.Types.{types}
 use Rattle.rust_grammar.specs.Whole.{rule, whole}
@@ -16,21 +16,21 @@ use Rattle.rust_productions.proofs.Peeking.{stays-then}
 use Rattle.rust_productions.proofs.grammar.generic_params.at_new_pred.Goals as goal
 
 pub returns-then-not-at_whole-clause-sees : goal.returns-then-not-at_whole-clause-sees
-unfolding look_of begins_below whole rule items statements expressions patterns types paths there_at shift passes is_silent begins in_mode anew row one_of any_of no_longer longest is_longer
+unfolding look_of begins_below whole rule items statements expressions patterns types paths there_at shift passes is_silent begins in_mode from_start row one_of any_of no_longer longest is_longer
 returns-then-not-at_whole-clause-sees c cond = saw-told (saw-so (c.at_whole.ensures.sees cond) c.if-not-at_whole.true and nothing) refl
 
 pub returns-then-not-at_whole-clause-peeks : goal.returns-then-not-at_whole-clause-peeks
 returns-then-not-at_whole-clause-peeks c = record { same = c.at_whole.ensures.same; left = c.at_whole.ensures.stays.left; looks = omega (arith, c.at_whole.ensures.stays.looks) }
 
 pub returns-then-at_binder-clause-sees : goal.returns-then-at_binder-clause-sees
-unfolding look_of begins_below whole rule items statements expressions patterns types paths there_at shift passes is_silent begins in_mode anew row one_of any_of no_longer longest is_longer
+unfolding look_of begins_below whole rule items statements expressions patterns types paths there_at shift passes is_silent begins in_mode from_start row one_of any_of no_longer longest is_longer
 returns-then-at_binder-clause-sees c cond = saw-told (saw-so (c.at_whole.ensures.sees cond) c.if-not-at_whole.false and saw-before c.at_whole.ensures.same (saw-so (c.at_binder.ensures.sees cond) c.if-at_binder.true) and nothing) refl
 
 pub returns-then-at_binder-clause-peeks : goal.returns-then-at_binder-clause-peeks
 returns-then-at_binder-clause-peeks c = stays-then c.at_whole.ensures.same c.at_whole.ensures.stays c.at_binder.ensures.peeks
 
 pub returns-clause-sees : goal.returns-clause-sees
-unfolding look_of begins_below whole rule items statements expressions patterns types paths there_at shift passes is_silent begins in_mode anew row one_of any_of no_longer longest is_longer
+unfolding look_of begins_below whole rule items statements expressions patterns types paths there_at shift passes is_silent begins in_mode from_start row one_of any_of no_longer longest is_longer
 returns-clause-sees c cond = saw-told (saw-so (c.at_whole.ensures.sees cond) c.if-not-at_whole.false and saw-before c.at_whole.ensures.same (saw-so (c.at_binder.ensures.sees cond) c.if-at_binder.false) and nothing) refl
 
 pub returns-clause-peeks : goal.returns-clause-peeks

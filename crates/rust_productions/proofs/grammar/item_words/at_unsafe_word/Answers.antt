@@ -6,7 +6,7 @@ use Rattle.rust_grammar.specs.Meaning.{begins_below, look_of}
 use Rattle.rust_grammar.specs.Notation.{any_of, is_longer, no_longer, longest, one_of, row}
 use Rattle.rust_grammar.specs.Paths.{paths}
 use Rattle.rust_grammar.specs.Patterns.{patterns}
-use Rattle.rust_grammar.specs.Rule.{begins, in_mode, anew, is_silent, passes, shift, there_at}
+use Rattle.rust_grammar.specs.Rule.{begins, in_mode, from_start, is_silent, passes, shift, there_at}
 use Rattle.rust_grammar.specs.Statements.{statements}
 use Rattle.rust_grammar.specs.Types.{types}
 use Rattle.rust_grammar.specs.Whole.{rule, whole}
@@ -19,35 +19,35 @@ use Rattle.rust_productions.proofs.Staying.{stays-peeks}
 use Rattle.rust_productions.proofs.grammar.item_words.at_unsafe_word.Goals as goal
 
 pub returns-then-not-at-clause-sees : goal.returns-then-not-at-clause-sees
-unfolding look_of begins_below whole rule items statements expressions patterns types paths there_at shift passes is_silent begins in_mode anew row one_of any_of no_longer longest is_longer
+unfolding look_of begins_below whole rule items statements expressions patterns types paths there_at shift passes is_silent begins in_mode from_start row one_of any_of no_longer longest is_longer
 returns-then-not-at-clause-sees c cond = saw-told (saw-so (c.at.ensures.sees cond) c.if-not-at.true and nothing) refl
 
 pub returns-then-not-at-clause-peeks : goal.returns-then-not-at-clause-peeks
 returns-then-not-at-clause-peeks c = peeks-within (c.at.ensures.peeks) (omega arith)
 
 pub returns-in-FN_KW-clause-sees : goal.returns-in-FN_KW-clause-sees
-unfolding look_of begins_below whole rule items statements expressions patterns types paths there_at shift passes is_silent begins in_mode anew row one_of any_of no_longer longest is_longer
+unfolding look_of begins_below whole rule items statements expressions patterns types paths there_at shift passes is_silent begins in_mode from_start row one_of any_of no_longer longest is_longer
 returns-in-FN_KW-clause-sees c cond = elim c.in-FN_KW.is [ inl a0 ↦ saw-told (saw-so (c.at.ensures.sees cond) c.if-not-at.false and saw-before c.at.ensures.peeks.same (saw-arm a0 (c.nth.ensures.sees cond)) and nothing) refl | inr b0 ↦ elim b0 [ inl a1 ↦ saw-told (saw-so (c.at.ensures.sees cond) c.if-not-at.false and saw-before c.at.ensures.peeks.same (saw-arm a1 (c.nth.ensures.sees cond)) and nothing) refl | inr b1 ↦ elim b1 [ inl a2 ↦ saw-told (saw-so (c.at.ensures.sees cond) c.if-not-at.false and saw-before c.at.ensures.peeks.same (saw-arm a2 (c.nth.ensures.sees cond)) and nothing) refl | inr b2 ↦ elim b2 [ inl a3 ↦ saw-told (saw-so (c.at.ensures.sees cond) c.if-not-at.false and saw-before c.at.ensures.peeks.same (saw-arm a3 (c.nth.ensures.sees cond)) and nothing) refl | inr b3 ↦ elim b3 [ inl a4 ↦ saw-told (saw-so (c.at.ensures.sees cond) c.if-not-at.false and saw-before c.at.ensures.peeks.same (saw-arm a4 (c.nth.ensures.sees cond)) and nothing) refl | inr b4 ↦ elim b4 [ inl a5 ↦ saw-told (saw-so (c.at.ensures.sees cond) c.if-not-at.false and saw-before c.at.ensures.peeks.same (saw-arm a5 (c.nth.ensures.sees cond)) and nothing) refl | inr b5 ↦ saw-told (saw-so (c.at.ensures.sees cond) c.if-not-at.false and saw-before c.at.ensures.peeks.same (saw-arm b5 (c.nth.ensures.sees cond)) and nothing) refl ] ] ] ] ] ]
 
 pub returns-in-FN_KW-clause-peeks : goal.returns-in-FN_KW-clause-peeks
 returns-in-FN_KW-clause-peeks c = peeks-within (peeks-then c.at.ensures.peeks (c.nth.ensures.peeks)) (omega arith)
 
 pub returns-then-at_second_contextual-clause-sees : goal.returns-then-at_second_contextual-clause-sees
-unfolding look_of begins_below whole rule items statements expressions patterns types paths there_at shift passes is_silent begins in_mode anew row one_of any_of no_longer longest is_longer
+unfolding look_of begins_below whole rule items statements expressions patterns types paths there_at shift passes is_silent begins in_mode from_start row one_of any_of no_longer longest is_longer
 returns-then-at_second_contextual-clause-sees c cond = saw-told (saw-so (c.at.ensures.sees cond) c.if-not-at.false and saw-before c.at.ensures.peeks.same (saw-not c.in_default.not-FN_KW (c.nth.ensures.sees cond)) and saw-before c.at.ensures.peeks.same (saw-not c.in_default.not-IMPL_KW (c.nth.ensures.sees cond)) and saw-before c.at.ensures.peeks.same (saw-not c.in_default.not-TRAIT_KW (c.nth.ensures.sees cond)) and saw-before c.at.ensures.peeks.same (saw-not c.in_default.not-EXTERN_KW (c.nth.ensures.sees cond)) and saw-before c.at.ensures.peeks.same (saw-not c.in_default.not-STATIC_KW (c.nth.ensures.sees cond)) and saw-before c.at.ensures.peeks.same (saw-not c.in_default.not-CONST_KW (c.nth.ensures.sees cond)) and saw-before c.at.ensures.peeks.same (saw-not c.in_default.not-TYPE_KW (c.nth.ensures.sees cond)) and saw-before c.at.ensures.peeks.same (saw-before c.nth.ensures.peeks.same (saw-so (c.at_second_contextual.ensures.sees cond) c.if-at_second_contextual.true)) and nothing) refl
 
 pub returns-then-at_second_contextual-clause-peeks : goal.returns-then-at_second_contextual-clause-peeks
 returns-then-at_second_contextual-clause-peeks c = peeks-within (peeks-then c.at.ensures.peeks (peeks-then c.nth.ensures.peeks (stays-peeks c.at_second_contextual.ensures.same c.at_second_contextual.ensures.stays))) (omega arith)
 
 pub returns-then-at_second_contextual-2-clause-sees : goal.returns-then-at_second_contextual-2-clause-sees
-unfolding look_of begins_below whole rule items statements expressions patterns types paths there_at shift passes is_silent begins in_mode anew row one_of any_of no_longer longest is_longer
+unfolding look_of begins_below whole rule items statements expressions patterns types paths there_at shift passes is_silent begins in_mode from_start row one_of any_of no_longer longest is_longer
 returns-then-at_second_contextual-2-clause-sees c cond = saw-told (saw-so (c.at.ensures.sees cond) c.if-not-at.false and saw-before c.at.ensures.peeks.same (saw-not c.in_default.not-FN_KW (c.nth.ensures.sees cond)) and saw-before c.at.ensures.peeks.same (saw-not c.in_default.not-IMPL_KW (c.nth.ensures.sees cond)) and saw-before c.at.ensures.peeks.same (saw-not c.in_default.not-TRAIT_KW (c.nth.ensures.sees cond)) and saw-before c.at.ensures.peeks.same (saw-not c.in_default.not-EXTERN_KW (c.nth.ensures.sees cond)) and saw-before c.at.ensures.peeks.same (saw-not c.in_default.not-STATIC_KW (c.nth.ensures.sees cond)) and saw-before c.at.ensures.peeks.same (saw-not c.in_default.not-CONST_KW (c.nth.ensures.sees cond)) and saw-before c.at.ensures.peeks.same (saw-not c.in_default.not-TYPE_KW (c.nth.ensures.sees cond)) and saw-before c.at.ensures.peeks.same (saw-before c.nth.ensures.peeks.same (saw-so (c.at_second_contextual.ensures.sees cond) c.if-at_second_contextual.false)) and saw-before c.at.ensures.peeks.same (saw-before c.nth.ensures.peeks.same (saw-before c.at_second_contextual.ensures.same (saw-so (c.at_second_contextual-in_default.ensures.sees cond) c.if-at_second_contextual-2.true))) and nothing) refl
 
 pub returns-then-at_second_contextual-2-clause-peeks : goal.returns-then-at_second_contextual-2-clause-peeks
 returns-then-at_second_contextual-2-clause-peeks c = peeks-within (peeks-then c.at.ensures.peeks (peeks-then c.nth.ensures.peeks (stays-then c.at_second_contextual.ensures.same c.at_second_contextual.ensures.stays (stays-peeks c.at_second_contextual-in_default.ensures.same c.at_second_contextual-in_default.ensures.stays)))) (omega arith)
 
 pub returns-else-at_second_contextual-2-clause-sees : goal.returns-else-at_second_contextual-2-clause-sees
-unfolding look_of begins_below whole rule items statements expressions patterns types paths there_at shift passes is_silent begins in_mode anew row one_of any_of no_longer longest is_longer
+unfolding look_of begins_below whole rule items statements expressions patterns types paths there_at shift passes is_silent begins in_mode from_start row one_of any_of no_longer longest is_longer
 returns-else-at_second_contextual-2-clause-sees c cond = saw-told (saw-so (c.at.ensures.sees cond) c.if-not-at.false and saw-before c.at.ensures.peeks.same (saw-not c.in_default.not-FN_KW (c.nth.ensures.sees cond)) and saw-before c.at.ensures.peeks.same (saw-not c.in_default.not-IMPL_KW (c.nth.ensures.sees cond)) and saw-before c.at.ensures.peeks.same (saw-not c.in_default.not-TRAIT_KW (c.nth.ensures.sees cond)) and saw-before c.at.ensures.peeks.same (saw-not c.in_default.not-EXTERN_KW (c.nth.ensures.sees cond)) and saw-before c.at.ensures.peeks.same (saw-not c.in_default.not-STATIC_KW (c.nth.ensures.sees cond)) and saw-before c.at.ensures.peeks.same (saw-not c.in_default.not-CONST_KW (c.nth.ensures.sees cond)) and saw-before c.at.ensures.peeks.same (saw-not c.in_default.not-TYPE_KW (c.nth.ensures.sees cond)) and saw-before c.at.ensures.peeks.same (saw-before c.nth.ensures.peeks.same (saw-so (c.at_second_contextual.ensures.sees cond) c.if-at_second_contextual.false)) and saw-before c.at.ensures.peeks.same (saw-before c.nth.ensures.peeks.same (saw-before c.at_second_contextual.ensures.same (saw-so (c.at_second_contextual-in_default.ensures.sees cond) c.if-at_second_contextual-2.false))) and nothing) refl
 
 pub returns-else-at_second_contextual-2-clause-peeks : goal.returns-else-at_second_contextual-2-clause-peeks

@@ -6,7 +6,7 @@ use Rattle.rust_grammar.specs.Meaning.{begins_below, look_of}
 use Rattle.rust_grammar.specs.Notation.{any_of, is_longer, no_longer, longest, one_of, row}
 use Rattle.rust_grammar.specs.Paths.{paths}
 use Rattle.rust_grammar.specs.Patterns.{patterns}
-use Rattle.rust_grammar.specs.Rule.{begins, in_mode, anew, is_silent, passes, shift, there_at}
+use Rattle.rust_grammar.specs.Rule.{begins, in_mode, from_start, is_silent, passes, shift, there_at}
 use Rattle.rust_grammar.specs.Statements.{statements}
 use Rattle.rust_grammar.specs.Types.{types}
 use Rattle.rust_grammar.specs.Whole.{rule, whole}
@@ -16,9 +16,9 @@ use Rattle.rust_productions.proofs.Seen.{saw-left, saw-told}
 use Rattle.rust_productions.proofs.grammar.items.at_fn_after_const.Goals as goal
 
 pub returns-in-FN_KW-clause-sees : goal.returns-in-FN_KW-clause-sees
-unfolding look_of begins_below whole rule items statements expressions patterns types paths there_at shift passes is_silent begins in_mode anew row one_of any_of no_longer longest is_longer
+unfolding look_of begins_below whole rule items statements expressions patterns types paths there_at shift passes is_silent begins in_mode from_start row one_of any_of no_longer longest is_longer
 returns-in-FN_KW-clause-sees c cond = elim c.in-FN_KW.is [ inl a ↦ saw-told (saw-left (c.requires cond) and saw-arm a (c.nth.ensures.sees cond) and nothing) refl | inr b ↦ saw-told (saw-left (c.requires cond) and saw-arm b (c.nth.ensures.sees cond) and nothing) refl ]
 
 pub returns-in_default-clause-sees : goal.returns-in_default-clause-sees
-unfolding look_of begins_below whole rule items statements expressions patterns types paths there_at shift passes is_silent begins in_mode anew row one_of any_of no_longer longest is_longer
+unfolding look_of begins_below whole rule items statements expressions patterns types paths there_at shift passes is_silent begins in_mode from_start row one_of any_of no_longer longest is_longer
 returns-in_default-clause-sees c cond = saw-told (saw-left (c.requires cond) and saw-not c.in_default.not-FN_KW (c.nth.ensures.sees cond) and saw-not c.in_default.not-UNSAFE_KW (c.nth.ensures.sees cond) and nothing) refl

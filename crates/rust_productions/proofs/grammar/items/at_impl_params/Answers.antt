@@ -6,7 +6,7 @@ use Rattle.rust_grammar.specs.Meaning.{begins_below, look_of}
 use Rattle.rust_grammar.specs.Notation.{any_of, is_longer, no_longer, longest, one_of, row}
 use Rattle.rust_grammar.specs.Paths.{paths}
 use Rattle.rust_grammar.specs.Patterns.{patterns}
-use Rattle.rust_grammar.specs.Rule.{begins, in_mode, anew, is_silent, passes, shift, there_at}
+use Rattle.rust_grammar.specs.Rule.{begins, in_mode, from_start, is_silent, passes, shift, there_at}
 use Rattle.rust_grammar.specs.Statements.{statements}
 use Rattle.rust_grammar.specs.Types.{types}
 use Rattle.rust_grammar.specs.Whole.{rule, whole}
@@ -18,21 +18,21 @@ use Rattle.rust_grammar.specs.Items.{impl_params}
 use Rattle.rust_productions.proofs.grammar.items.at_impl_params.Goals as goal
 
 pub returns-then-at_type_after_impl-clause-sees : goal.returns-then-at_type_after_impl-clause-sees
-unfolding look_of begins_below whole rule items statements expressions patterns types paths there_at shift passes is_silent begins in_mode anew row one_of any_of no_longer longest is_longer
+unfolding look_of begins_below whole rule items statements expressions patterns types paths there_at shift passes is_silent begins in_mode from_start row one_of any_of no_longer longest is_longer
 returns-then-at_type_after_impl-clause-sees c cond = starts-here impl_params (saw-so (c.at_type_after_impl.ensures.sees cond) c.if-at_type_after_impl.true and nothing) refl
 
 pub returns-then-at_type_after_impl-clause-peeks : goal.returns-then-at_type_after_impl-clause-peeks
 returns-then-at_type_after_impl-clause-peeks c = peeks-within (c.at_type_after_impl.ensures.peeks) (omega arith)
 
 pub returns-then-at-clause-sees : goal.returns-then-at-clause-sees
-unfolding look_of begins_below whole rule items statements expressions patterns types paths there_at shift passes is_silent begins in_mode anew row one_of any_of no_longer longest is_longer
+unfolding look_of begins_below whole rule items statements expressions patterns types paths there_at shift passes is_silent begins in_mode from_start row one_of any_of no_longer longest is_longer
 returns-then-at-clause-sees c cond = starts-here impl_params (saw-so (c.at_type_after_impl.ensures.sees cond) c.if-at_type_after_impl.false and saw-before c.at_type_after_impl.ensures.peeks.same (saw-so (c.at.ensures.sees cond) c.if-at.true) and nothing) refl
 
 pub returns-then-at-clause-peeks : goal.returns-then-at-clause-peeks
 returns-then-at-clause-peeks c = peeks-within (peeks-then c.at_type_after_impl.ensures.peeks (c.at.ensures.peeks)) (omega arith)
 
 pub returns-clause-sees : goal.returns-clause-sees
-unfolding look_of begins_below whole rule items statements expressions patterns types paths there_at shift passes is_silent begins in_mode anew row one_of any_of no_longer longest is_longer
+unfolding look_of begins_below whole rule items statements expressions patterns types paths there_at shift passes is_silent begins in_mode from_start row one_of any_of no_longer longest is_longer
 returns-clause-sees c cond = starts-here impl_params (saw-so (c.at_type_after_impl.ensures.sees cond) c.if-at_type_after_impl.false and saw-before c.at_type_after_impl.ensures.peeks.same (saw-so (c.at.ensures.sees cond) c.if-at.false) and nothing) refl
 
 pub returns-clause-peeks : goal.returns-clause-peeks

@@ -6,7 +6,7 @@ use Rattle.rust_grammar.specs.Meaning.{begins_below, look_of}
 use Rattle.rust_grammar.specs.Notation.{any_of, is_longer, no_longer, longest, one_of, row}
 use Rattle.rust_grammar.specs.Paths.{paths}
 use Rattle.rust_grammar.specs.Patterns.{patterns}
-use Rattle.rust_grammar.specs.Rule.{begins, in_mode, anew, is_silent, passes, shift, there_at}
+use Rattle.rust_grammar.specs.Rule.{begins, in_mode, from_start, is_silent, passes, shift, there_at}
 use Rattle.rust_grammar.specs.Statements.{statements}
 use Rattle.rust_grammar.specs.Types.{types}
 use Rattle.rust_grammar.specs.Whole.{rule, whole}
@@ -18,39 +18,39 @@ use Rattle.rust_productions.proofs.Peeking.{peeks-then, peeks-within, stays-then
 use Rattle.rust_productions.proofs.grammar.items.at_type_after_impl.Goals as goal
 
 pub returns-then-not-at_whole-clause-sees : goal.returns-then-not-at_whole-clause-sees
-unfolding look_of begins_below whole rule items statements expressions patterns types paths there_at shift passes is_silent begins in_mode anew row one_of any_of no_longer longest is_longer
+unfolding look_of begins_below whole rule items statements expressions patterns types paths there_at shift passes is_silent begins in_mode from_start row one_of any_of no_longer longest is_longer
 returns-then-not-at_whole-clause-sees c cond = saw-told (saw-so (c.at_whole.ensures.sees cond) c.if-not-at_whole.true and nothing) refl
 
 pub returns-then-not-at-clause-sees : goal.returns-then-not-at-clause-sees
-unfolding look_of begins_below whole rule items statements expressions patterns types paths there_at shift passes is_silent begins in_mode anew row one_of any_of no_longer longest is_longer
+unfolding look_of begins_below whole rule items statements expressions patterns types paths there_at shift passes is_silent begins in_mode from_start row one_of any_of no_longer longest is_longer
 returns-then-not-at-clause-sees c cond = saw-told (saw-so (c.at_whole.ensures.sees cond) c.if-not-at_whole.false and saw-before c.at_whole.ensures.same (saw-so (c.at.ensures.sees cond) c.if-not-at.true) and nothing) refl
 
 pub returns-then-not-at-clause-peeks : goal.returns-then-not-at-clause-peeks
 returns-then-not-at-clause-peeks c = peeks-within (stays-then c.at_whole.ensures.same c.at_whole.ensures.stays (c.at.ensures.peeks)) (omega arith)
 
 pub returns-in-POUND-clause-sees : goal.returns-in-POUND-clause-sees
-unfolding look_of begins_below whole rule items statements expressions patterns types paths there_at shift passes is_silent begins in_mode anew row one_of any_of no_longer longest is_longer
+unfolding look_of begins_below whole rule items statements expressions patterns types paths there_at shift passes is_silent begins in_mode from_start row one_of any_of no_longer longest is_longer
 returns-in-POUND-clause-sees c cond = elim c.in-POUND.is [ inl a0 ↦ saw-told (saw-so (c.at_whole.ensures.sees cond) c.if-not-at_whole.false and saw-before c.at_whole.ensures.same (saw-so (c.at.ensures.sees cond) c.if-not-at.false) and saw-before c.at_whole.ensures.same (saw-before c.at.ensures.peeks.same (saw-arm a0 (c.nth.ensures.sees cond))) and nothing) refl | inr b0 ↦ elim b0 [ inl a1 ↦ saw-told (saw-so (c.at_whole.ensures.sees cond) c.if-not-at_whole.false and saw-before c.at_whole.ensures.same (saw-so (c.at.ensures.sees cond) c.if-not-at.false) and saw-before c.at_whole.ensures.same (saw-before c.at.ensures.peeks.same (saw-arm a1 (c.nth.ensures.sees cond))) and nothing) refl | inr b1 ↦ saw-told (saw-so (c.at_whole.ensures.sees cond) c.if-not-at_whole.false and saw-before c.at_whole.ensures.same (saw-so (c.at.ensures.sees cond) c.if-not-at.false) and saw-before c.at_whole.ensures.same (saw-before c.at.ensures.peeks.same (saw-arm b1 (c.nth.ensures.sees cond))) and nothing) refl ] ]
 
 pub returns-in-POUND-clause-peeks : goal.returns-in-POUND-clause-peeks
 returns-in-POUND-clause-peeks c = peeks-within (stays-then c.at_whole.ensures.same c.at_whole.ensures.stays (peeks-then c.at.ensures.peeks (c.nth.ensures.peeks))) (omega arith)
 
 pub returns-then-at_param_end-clause-sees : goal.returns-then-at_param_end-clause-sees
-unfolding look_of begins_below whole rule items statements expressions patterns types paths there_at shift passes is_silent begins in_mode anew row one_of any_of no_longer longest is_longer
+unfolding look_of begins_below whole rule items statements expressions patterns types paths there_at shift passes is_silent begins in_mode from_start row one_of any_of no_longer longest is_longer
 returns-then-at_param_end-clause-sees c cond = elim c.in-LIFETIME_IDENT.is [ inl a0 ↦ saw-told (saw-so (c.at_whole.ensures.sees cond) c.if-not-at_whole.false and saw-before c.at_whole.ensures.same (saw-so (c.at.ensures.sees cond) c.if-not-at.false) and saw-before c.at_whole.ensures.same (saw-before c.at.ensures.peeks.same (saw-arm a0 (c.nth.ensures.sees cond))) and saw-before c.at_whole.ensures.same (saw-before c.at.ensures.peeks.same (saw-before c.nth.ensures.peeks.same (saw-so (c.at_param_end.ensures.sees cond) c.if-at_param_end.true))) and nothing) refl | inr b0 ↦ saw-told (saw-so (c.at_whole.ensures.sees cond) c.if-not-at_whole.false and saw-before c.at_whole.ensures.same (saw-so (c.at.ensures.sees cond) c.if-not-at.false) and saw-before c.at_whole.ensures.same (saw-before c.at.ensures.peeks.same (saw-arm b0 (c.nth.ensures.sees cond))) and saw-before c.at_whole.ensures.same (saw-before c.at.ensures.peeks.same (saw-before c.nth.ensures.peeks.same (saw-so (c.at_param_end.ensures.sees cond) c.if-at_param_end.true))) and nothing) refl ]
 
 pub returns-then-at_param_end-clause-peeks : goal.returns-then-at_param_end-clause-peeks
 returns-then-at_param_end-clause-peeks c = peeks-within (stays-then c.at_whole.ensures.same c.at_whole.ensures.stays (peeks-then c.at.ensures.peeks (peeks-then c.nth.ensures.peeks (c.at_param_end.ensures.peeks)))) (omega arith)
 
 pub returns-else-at_param_end-clause-sees : goal.returns-else-at_param_end-clause-sees
-unfolding look_of begins_below whole rule items statements expressions patterns types paths there_at shift passes is_silent begins in_mode anew row one_of any_of no_longer longest is_longer
+unfolding look_of begins_below whole rule items statements expressions patterns types paths there_at shift passes is_silent begins in_mode from_start row one_of any_of no_longer longest is_longer
 returns-else-at_param_end-clause-sees c cond = elim c.in-LIFETIME_IDENT.is [ inl a0 ↦ saw-told (saw-so (c.at_whole.ensures.sees cond) c.if-not-at_whole.false and saw-before c.at_whole.ensures.same (saw-so (c.at.ensures.sees cond) c.if-not-at.false) and saw-before c.at_whole.ensures.same (saw-before c.at.ensures.peeks.same (saw-arm a0 (c.nth.ensures.sees cond))) and saw-before c.at_whole.ensures.same (saw-before c.at.ensures.peeks.same (saw-before c.nth.ensures.peeks.same (saw-so (c.at_param_end.ensures.sees cond) c.if-at_param_end.false))) and nothing) refl | inr b0 ↦ saw-told (saw-so (c.at_whole.ensures.sees cond) c.if-not-at_whole.false and saw-before c.at_whole.ensures.same (saw-so (c.at.ensures.sees cond) c.if-not-at.false) and saw-before c.at_whole.ensures.same (saw-before c.at.ensures.peeks.same (saw-arm b0 (c.nth.ensures.sees cond))) and saw-before c.at_whole.ensures.same (saw-before c.at.ensures.peeks.same (saw-before c.nth.ensures.peeks.same (saw-so (c.at_param_end.ensures.sees cond) c.if-at_param_end.false))) and nothing) refl ]
 
 pub returns-else-at_param_end-clause-peeks : goal.returns-else-at_param_end-clause-peeks
 returns-else-at_param_end-clause-peeks c = peeks-within (stays-then c.at_whole.ensures.same c.at_whole.ensures.stays (peeks-then c.at.ensures.peeks (peeks-then c.nth.ensures.peeks (c.at_param_end.ensures.peeks)))) (omega arith)
 
 pub returns-in_default-clause-sees : goal.returns-in_default-clause-sees
-unfolding look_of begins_below whole rule items statements expressions patterns types paths there_at shift passes is_silent begins in_mode anew row one_of any_of no_longer longest is_longer
+unfolding look_of begins_below whole rule items statements expressions patterns types paths there_at shift passes is_silent begins in_mode from_start row one_of any_of no_longer longest is_longer
 returns-in_default-clause-sees c cond = saw-told (saw-so (c.at_whole.ensures.sees cond) c.if-not-at_whole.false and saw-before c.at_whole.ensures.same (saw-so (c.at.ensures.sees cond) c.if-not-at.false) and saw-before c.at_whole.ensures.same (saw-before c.at.ensures.peeks.same (saw-not c.in_default.not-POUND (c.nth.ensures.sees cond))) and saw-before c.at_whole.ensures.same (saw-before c.at.ensures.peeks.same (saw-not c.in_default.not-R_ANGLE (c.nth.ensures.sees cond))) and saw-before c.at_whole.ensures.same (saw-before c.at.ensures.peeks.same (saw-not c.in_default.not-CONST_KW (c.nth.ensures.sees cond))) and saw-before c.at_whole.ensures.same (saw-before c.at.ensures.peeks.same (saw-not c.in_default.not-LIFETIME_IDENT (c.nth.ensures.sees cond))) and saw-before c.at_whole.ensures.same (saw-before c.at.ensures.peeks.same (saw-not c.in_default.not-IDENT (c.nth.ensures.sees cond))) and nothing) refl
 
 pub returns-in_default-clause-peeks : goal.returns-in_default-clause-peeks

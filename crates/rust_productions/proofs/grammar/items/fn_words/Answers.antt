@@ -6,7 +6,7 @@ use Rattle.rust_grammar.specs.Meaning.{begins_below, look_of}
 use Rattle.rust_grammar.specs.Notation.{any_of, is_longer, no_longer, longest, one_of, row}
 use Rattle.rust_grammar.specs.Paths.{paths}
 use Rattle.rust_grammar.specs.Patterns.{patterns}
-use Rattle.rust_grammar.specs.Rule.{begins, in_mode, anew, is_silent, passes, shift, there_at}
+use Rattle.rust_grammar.specs.Rule.{begins, in_mode, from_start, is_silent, passes, shift, there_at}
 use Rattle.rust_grammar.specs.Statements.{statements}
 use Rattle.rust_grammar.specs.Types.{types}
 use Rattle.rust_grammar.specs.Whole.{rule, whole}
@@ -21,13 +21,13 @@ use Rattle.rust_grammar.specs.Rule.{Kind}
 use Rattle.rust_productions.proofs.grammar.items.fn_words.Goals as goal
 
 pub returns-in-CONST_KW-clause-reads : goal.returns-in-CONST_KW-clause-reads
-unfolding look_of begins_below whole rule items statements expressions patterns types paths there_at shift passes is_silent begins in_mode anew row one_of any_of no_longer longest is_longer
+unfolding look_of begins_below whole rule items statements expressions patterns types paths there_at shift passes is_silent begins in_mode from_start row one_of any_of no_longer longest is_longer
 returns-in-CONST_KW-clause-reads c cond = reads-here (saw-arm c.in-CONST_KW.is (c.current.ensures.sees cond) and nothing) (after-look cond c.current.ensures.peeks.same (reads-then cond (c.take.ensures.reads cond) (reads-then cond (c.eat.ensures.reads cond) (c.expect.ensures.reads cond))))
 
 pub returns-in-UNSAFE_KW-clause-reads : goal.returns-in-UNSAFE_KW-clause-reads
-unfolding look_of begins_below whole rule items statements expressions patterns types paths there_at shift passes is_silent begins in_mode anew row one_of any_of no_longer longest is_longer
+unfolding look_of begins_below whole rule items statements expressions patterns types paths there_at shift passes is_silent begins in_mode from_start row one_of any_of no_longer longest is_longer
 returns-in-UNSAFE_KW-clause-reads c cond = reads-here (saw-arm c.in-UNSAFE_KW.is (c.current.ensures.sees cond) and nothing) (after-look cond c.current.ensures.peeks.same (reads-then cond (c.take-in-UNSAFE_KW.ensures.reads cond) (c.expect-in-UNSAFE_KW.ensures.reads cond)))
 
 pub returns-in_default-clause-reads : goal.returns-in_default-clause-reads
-unfolding look_of begins_below whole rule items statements expressions patterns types paths there_at shift passes is_silent begins in_mode anew row one_of any_of no_longer longest is_longer
+unfolding look_of begins_below whole rule items statements expressions patterns types paths there_at shift passes is_silent begins in_mode from_start row one_of any_of no_longer longest is_longer
 returns-in_default-clause-reads c cond = reads-here (saw-else (Kind 0 FN_KW) fn_begins (saw-not c.in_default.not-CONST_KW (c.current.ensures.sees cond) and saw-not c.in_default.not-UNSAFE_KW (c.current.ensures.sees cond) and nothing) (c.requires.begins cond) refl and nothing) (after-look cond c.current.ensures.peeks.same (c.take-in_default.ensures.reads cond))

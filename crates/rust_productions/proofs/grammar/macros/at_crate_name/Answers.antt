@@ -6,7 +6,7 @@ use Rattle.rust_grammar.specs.Meaning.{begins_below, look_of}
 use Rattle.rust_grammar.specs.Notation.{any_of, is_longer, no_longer, longest, one_of, row}
 use Rattle.rust_grammar.specs.Paths.{paths}
 use Rattle.rust_grammar.specs.Patterns.{patterns}
-use Rattle.rust_grammar.specs.Rule.{begins, in_mode, anew, is_silent, passes, shift, there_at}
+use Rattle.rust_grammar.specs.Rule.{begins, in_mode, from_start, is_silent, passes, shift, there_at}
 use Rattle.rust_grammar.specs.Statements.{statements}
 use Rattle.rust_grammar.specs.Types.{types}
 use Rattle.rust_grammar.specs.Whole.{rule, whole}
@@ -19,14 +19,14 @@ use Rattle.rust_grammar.specs.Items.{crate_name}
 use Rattle.rust_productions.proofs.grammar.macros.at_crate_name.Goals as goal
 
 pub returns-in-IDENT-clause-sees : goal.returns-in-IDENT-clause-sees
-unfolding look_of begins_below whole rule items statements expressions patterns types paths there_at shift passes is_silent begins in_mode anew row one_of any_of no_longer longest is_longer
+unfolding look_of begins_below whole rule items statements expressions patterns types paths there_at shift passes is_silent begins in_mode from_start row one_of any_of no_longer longest is_longer
 returns-in-IDENT-clause-sees c cond = elim c.in-IDENT.is [ inl a0 ↦ starts-here crate_name (saw-arm a0 (c.current.ensures.sees cond) and nothing) refl | inr b0 ↦ starts-here crate_name (saw-arm b0 (c.current.ensures.sees cond) and nothing) refl ]
 
 pub returns-in-IDENT-clause-peeks : goal.returns-in-IDENT-clause-peeks
 returns-in-IDENT-clause-peeks c = peeks-within (c.current.ensures.peeks) (omega arith)
 
 pub returns-in_default-clause-sees : goal.returns-in_default-clause-sees
-unfolding look_of begins_below whole rule items statements expressions patterns types paths there_at shift passes is_silent begins in_mode anew row one_of any_of no_longer longest is_longer
+unfolding look_of begins_below whole rule items statements expressions patterns types paths there_at shift passes is_silent begins in_mode from_start row one_of any_of no_longer longest is_longer
 returns-in_default-clause-sees c cond = starts-here crate_name (saw-not c.in_default.not-IDENT (c.current.ensures.sees cond) and saw-not c.in_default.not-SELF_KW (c.current.ensures.sees cond) and nothing) refl
 
 pub returns-in_default-clause-peeks : goal.returns-in_default-clause-peeks

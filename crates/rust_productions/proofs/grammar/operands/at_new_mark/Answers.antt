@@ -6,7 +6,7 @@ use Rattle.rust_grammar.specs.Meaning.{begins_below, look_of}
 use Rattle.rust_grammar.specs.Notation.{any_of, is_longer, no_longer, longest, one_of, row}
 use Rattle.rust_grammar.specs.Paths.{paths}
 use Rattle.rust_grammar.specs.Patterns.{patterns}
-use Rattle.rust_grammar.specs.Rule.{begins, in_mode, anew, is_silent, passes, shift, there_at}
+use Rattle.rust_grammar.specs.Rule.{begins, in_mode, from_start, is_silent, passes, shift, there_at}
 use Rattle.rust_grammar.specs.Statements.{statements}
 use Rattle.rust_grammar.specs.Types.{types}
 use Rattle.rust_grammar.specs.Whole.{rule, whole}
@@ -17,35 +17,35 @@ use Rattle.rust_productions.proofs.Staying.{stays-peeks}
 use Rattle.rust_productions.proofs.grammar.operands.at_new_mark.Goals as goal
 
 pub returns-then-not-at_whole-clause-sees : goal.returns-then-not-at_whole-clause-sees
-unfolding look_of begins_below whole rule items statements expressions patterns types paths there_at shift passes is_silent begins in_mode anew row one_of any_of no_longer longest is_longer
+unfolding look_of begins_below whole rule items statements expressions patterns types paths there_at shift passes is_silent begins in_mode from_start row one_of any_of no_longer longest is_longer
 returns-then-not-at_whole-clause-sees c cond = saw-told (saw-so (c.at_whole.ensures.sees cond) c.if-not-at_whole.true and nothing) refl
 
 pub returns-then-not-at_whole-clause-peeks : goal.returns-then-not-at_whole-clause-peeks
 returns-then-not-at_whole-clause-peeks c = peeks-within (stays-peeks c.at_whole.ensures.same c.at_whole.ensures.stays) (omega arith)
 
 pub returns-then-not-at-clause-sees : goal.returns-then-not-at-clause-sees
-unfolding look_of begins_below whole rule items statements expressions patterns types paths there_at shift passes is_silent begins in_mode anew row one_of any_of no_longer longest is_longer
+unfolding look_of begins_below whole rule items statements expressions patterns types paths there_at shift passes is_silent begins in_mode from_start row one_of any_of no_longer longest is_longer
 returns-then-not-at-clause-sees c cond = saw-told (saw-so (c.at_whole.ensures.sees cond) c.if-not-at_whole.false and saw-before c.at_whole.ensures.same (saw-so (c.at.ensures.sees cond) c.if-not-at.true) and nothing) refl
 
 pub returns-then-not-at-clause-peeks : goal.returns-then-not-at-clause-peeks
 returns-then-not-at-clause-peeks c = peeks-within (stays-then c.at_whole.ensures.same c.at_whole.ensures.stays (c.at.ensures.peeks)) (omega arith)
 
 pub returns-then-not-at_joint-clause-sees : goal.returns-then-not-at_joint-clause-sees
-unfolding look_of begins_below whole rule items statements expressions patterns types paths there_at shift passes is_silent begins in_mode anew row one_of any_of no_longer longest is_longer
+unfolding look_of begins_below whole rule items statements expressions patterns types paths there_at shift passes is_silent begins in_mode from_start row one_of any_of no_longer longest is_longer
 returns-then-not-at_joint-clause-sees c cond = saw-told (saw-so (c.at_whole.ensures.sees cond) c.if-not-at_whole.false and saw-before c.at_whole.ensures.same (saw-so (c.at.ensures.sees cond) c.if-not-at.false) and saw-before c.at_whole.ensures.same (saw-before c.at.ensures.peeks.same (saw-so (c.at_joint.ensures.sees cond) c.if-not-at_joint.true)) and nothing) refl
 
 pub returns-then-not-at_joint-clause-peeks : goal.returns-then-not-at_joint-clause-peeks
 returns-then-not-at_joint-clause-peeks c = peeks-within (stays-then c.at_whole.ensures.same c.at_whole.ensures.stays (peeks-then c.at.ensures.peeks (stays-peeks c.at_joint.ensures.same c.at_joint.ensures.stays))) (omega arith)
 
 pub returns-then-at_second-clause-sees : goal.returns-then-at_second-clause-sees
-unfolding look_of begins_below whole rule items statements expressions patterns types paths there_at shift passes is_silent begins in_mode anew row one_of any_of no_longer longest is_longer
+unfolding look_of begins_below whole rule items statements expressions patterns types paths there_at shift passes is_silent begins in_mode from_start row one_of any_of no_longer longest is_longer
 returns-then-at_second-clause-sees c cond = saw-told (saw-so (c.at_whole.ensures.sees cond) c.if-not-at_whole.false and saw-before c.at_whole.ensures.same (saw-so (c.at.ensures.sees cond) c.if-not-at.false) and saw-before c.at_whole.ensures.same (saw-before c.at.ensures.peeks.same (saw-so (c.at_joint.ensures.sees cond) c.if-not-at_joint.false)) and saw-before c.at_whole.ensures.same (saw-before c.at.ensures.peeks.same (saw-before c.at_joint.ensures.same (saw-so (c.at_second.ensures.sees cond) c.if-at_second.true))) and nothing) refl
 
 pub returns-then-at_second-clause-peeks : goal.returns-then-at_second-clause-peeks
 returns-then-at_second-clause-peeks c = peeks-within (stays-then c.at_whole.ensures.same c.at_whole.ensures.stays (peeks-then c.at.ensures.peeks (stays-then c.at_joint.ensures.same c.at_joint.ensures.stays (c.at_second.ensures.peeks)))) (omega arith)
 
 pub returns-clause-sees : goal.returns-clause-sees
-unfolding look_of begins_below whole rule items statements expressions patterns types paths there_at shift passes is_silent begins in_mode anew row one_of any_of no_longer longest is_longer
+unfolding look_of begins_below whole rule items statements expressions patterns types paths there_at shift passes is_silent begins in_mode from_start row one_of any_of no_longer longest is_longer
 returns-clause-sees c cond = saw-told (saw-so (c.at_whole.ensures.sees cond) c.if-not-at_whole.false and saw-before c.at_whole.ensures.same (saw-so (c.at.ensures.sees cond) c.if-not-at.false) and saw-before c.at_whole.ensures.same (saw-before c.at.ensures.peeks.same (saw-so (c.at_joint.ensures.sees cond) c.if-not-at_joint.false)) and saw-before c.at_whole.ensures.same (saw-before c.at.ensures.peeks.same (saw-before c.at_joint.ensures.same (saw-so (c.at_second.ensures.sees cond) c.if-at_second.false))) and nothing) refl
 
 pub returns-clause-peeks : goal.returns-clause-peeks

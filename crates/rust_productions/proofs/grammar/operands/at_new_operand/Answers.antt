@@ -6,7 +6,7 @@ use Rattle.rust_grammar.specs.Meaning.{begins_below, look_of}
 use Rattle.rust_grammar.specs.Notation.{any_of, is_longer, no_longer, longest, one_of, row}
 use Rattle.rust_grammar.specs.Paths.{paths}
 use Rattle.rust_grammar.specs.Patterns.{patterns}
-use Rattle.rust_grammar.specs.Rule.{begins, in_mode, anew, is_silent, passes, shift, there_at}
+use Rattle.rust_grammar.specs.Rule.{begins, in_mode, from_start, is_silent, passes, shift, there_at}
 use Rattle.rust_grammar.specs.Statements.{statements}
 use Rattle.rust_grammar.specs.Types.{types}
 use Rattle.rust_grammar.specs.Whole.{rule, whole}
@@ -18,35 +18,35 @@ use Rattle.rust_productions.proofs.Staying.{stays-peeks}
 use Rattle.rust_productions.proofs.grammar.operands.at_new_operand.Goals as goal
 
 pub returns-then-not-at_whole-clause-sees : goal.returns-then-not-at_whole-clause-sees
-unfolding look_of begins_below whole rule items statements expressions patterns types paths there_at shift passes is_silent begins in_mode anew row one_of any_of no_longer longest is_longer
+unfolding look_of begins_below whole rule items statements expressions patterns types paths there_at shift passes is_silent begins in_mode from_start row one_of any_of no_longer longest is_longer
 returns-then-not-at_whole-clause-sees c cond = saw-told (saw-so (c.at_whole.ensures.sees cond) c.if-not-at_whole.true and nothing) refl
 
 pub returns-then-not-at_whole-clause-peeks : goal.returns-then-not-at_whole-clause-peeks
 returns-then-not-at_whole-clause-peeks c = peeks-within (stays-peeks c.at_whole.ensures.same c.at_whole.ensures.stays) (omega arith)
 
 pub returns-then-at_raw-clause-sees : goal.returns-then-at_raw-clause-sees
-unfolding look_of begins_below whole rule items statements expressions patterns types paths there_at shift passes is_silent begins in_mode anew row one_of any_of no_longer longest is_longer
+unfolding look_of begins_below whole rule items statements expressions patterns types paths there_at shift passes is_silent begins in_mode from_start row one_of any_of no_longer longest is_longer
 returns-then-at_raw-clause-sees c cond = saw-told (saw-so (c.at_whole.ensures.sees cond) c.if-not-at_whole.false and saw-before c.at_whole.ensures.same (saw-so (c.at_raw.ensures.sees cond) c.if-at_raw.true) and nothing) refl
 
 pub returns-then-at_raw-clause-peeks : goal.returns-then-at_raw-clause-peeks
 returns-then-at_raw-clause-peeks c = peeks-within (stays-then c.at_whole.ensures.same c.at_whole.ensures.stays (c.at_raw.ensures.peeks)) (omega arith)
 
 pub returns-then-at-clause-sees : goal.returns-then-at-clause-sees
-unfolding look_of begins_below whole rule items statements expressions patterns types paths there_at shift passes is_silent begins in_mode anew row one_of any_of no_longer longest is_longer
+unfolding look_of begins_below whole rule items statements expressions patterns types paths there_at shift passes is_silent begins in_mode from_start row one_of any_of no_longer longest is_longer
 returns-then-at-clause-sees c cond = saw-told (saw-so (c.at_whole.ensures.sees cond) c.if-not-at_whole.false and saw-before c.at_whole.ensures.same (saw-so (c.at_raw.ensures.sees cond) c.if-at_raw.false) and saw-before c.at_whole.ensures.same (saw-before c.at_raw.ensures.peeks.same (saw-so (c.at.ensures.sees cond) c.if-at.true)) and nothing) refl
 
 pub returns-then-at-clause-peeks : goal.returns-then-at-clause-peeks
 returns-then-at-clause-peeks c = peeks-within (stays-then c.at_whole.ensures.same c.at_whole.ensures.stays (peeks-then c.at_raw.ensures.peeks (c.at.ensures.peeks))) (omega arith)
 
 pub returns-then-at_new_mark-clause-sees : goal.returns-then-at_new_mark-clause-sees
-unfolding look_of begins_below whole rule items statements expressions patterns types paths there_at shift passes is_silent begins in_mode anew row one_of any_of no_longer longest is_longer
+unfolding look_of begins_below whole rule items statements expressions patterns types paths there_at shift passes is_silent begins in_mode from_start row one_of any_of no_longer longest is_longer
 returns-then-at_new_mark-clause-sees c cond = saw-told (saw-so (c.at_whole.ensures.sees cond) c.if-not-at_whole.false and saw-before c.at_whole.ensures.same (saw-so (c.at_raw.ensures.sees cond) c.if-at_raw.false) and saw-before c.at_whole.ensures.same (saw-before c.at_raw.ensures.peeks.same (saw-so (c.at.ensures.sees cond) c.if-at.false)) and saw-of-whole (saw-so (c.at_whole.ensures.sees cond) c.if-not-at_whole.false) (saw-before c.at_whole.ensures.same (saw-before c.at_raw.ensures.peeks.same (saw-before c.at.ensures.peeks.same (saw-so (c.at_new_mark.ensures.sees cond) c.if-at_new_mark.true)))) and nothing) refl
 
 pub returns-then-at_new_mark-clause-peeks : goal.returns-then-at_new_mark-clause-peeks
 returns-then-at_new_mark-clause-peeks c = peeks-within (stays-then c.at_whole.ensures.same c.at_whole.ensures.stays (peeks-then c.at_raw.ensures.peeks (peeks-then c.at.ensures.peeks (c.at_new_mark.ensures.peeks)))) (omega arith)
 
 pub returns-clause-sees : goal.returns-clause-sees
-unfolding look_of begins_below whole rule items statements expressions patterns types paths there_at shift passes is_silent begins in_mode anew row one_of any_of no_longer longest is_longer
+unfolding look_of begins_below whole rule items statements expressions patterns types paths there_at shift passes is_silent begins in_mode from_start row one_of any_of no_longer longest is_longer
 returns-clause-sees c cond = saw-told (saw-so (c.at_whole.ensures.sees cond) c.if-not-at_whole.false and saw-before c.at_whole.ensures.same (saw-so (c.at_raw.ensures.sees cond) c.if-at_raw.false) and saw-before c.at_whole.ensures.same (saw-before c.at_raw.ensures.peeks.same (saw-so (c.at.ensures.sees cond) c.if-at.false)) and saw-of-whole (saw-so (c.at_whole.ensures.sees cond) c.if-not-at_whole.false) (saw-before c.at_whole.ensures.same (saw-before c.at_raw.ensures.peeks.same (saw-before c.at.ensures.peeks.same (saw-so (c.at_new_mark.ensures.sees cond) c.if-at_new_mark.false)))) and nothing) refl
 
 pub returns-clause-peeks : goal.returns-clause-peeks

@@ -8,7 +8,7 @@ use Rattle.rust_grammar.specs.Meaning.{begins_below, look_of}
 use Rattle.rust_grammar.specs.Notation.{any_of, is_longer, no_longer, longest, one_of, row}
 use Rattle.rust_grammar.specs.Paths.{paths}
 use Rattle.rust_grammar.specs.Patterns.{patterns}
-use Rattle.rust_grammar.specs.Rule.{Both, Joint, Kind, begins, in_mode, anew, is_silent, passes, shift, there_at}
+use Rattle.rust_grammar.specs.Rule.{Both, Joint, Kind, begins, in_mode, from_start, is_silent, passes, shift, there_at}
 use Rattle.rust_grammar.specs.Statements.{statements}
 use Rattle.rust_grammar.specs.Types.{types}
 use Rattle.rust_grammar.specs.Whole.{rule, whole}
@@ -93,11 +93,11 @@ pub returns-in-R_ANGLE-clause-peeks : goal.returns-in-R_ANGLE-clause-peeks
 returns-in-R_ANGLE-clause-peeks c = peeks-then c.current.ensures.peeks c.after_right_angle.ensures.peeks
 
 pub returns-in-AS_KW-clause-next : goal.returns-in-AS_KW-clause-next
-unfolding look_of begins_below whole rule items statements expressions patterns types paths there_at shift passes is_silent begins in_mode anew row one_of any_of no_longer longest is_longer operators_at operators
+unfolding look_of begins_below whole rule items statements expressions patterns types paths there_at shift passes is_silent begins in_mode from_start row one_of any_of no_longer longest is_longer operators_at operators
 returns-in-AS_KW-clause-next c = operator-next 1 variants.AS_KW 1 c.new.ensures (omega arith) (omega arith) (some-arm c.in-AS_KW.is refl c.current.ensures.some) (λ d. saw-arm c.in-AS_KW.is (c.current.ensures.sees d) and nothing) refl refl
 
 pub returns-in-STAR-clause-next : goal.returns-in-STAR-clause-next
-unfolding look_of begins_below whole rule items statements expressions patterns types paths there_at shift passes is_silent begins in_mode anew row one_of any_of no_longer longest is_longer operators_at operators
+unfolding look_of begins_below whole rule items statements expressions patterns types paths there_at shift passes is_silent begins in_mode from_start row one_of any_of no_longer longest is_longer operators_at operators
 returns-in-STAR-clause-next c =
     assigned-next (λ b. Answers (Kind 0 (raw_of variants.STAR)) true ∷ Answers (Both (Joint 0) (Kind 1 (raw_of variants.EQ))) b ∷ []) c.at_joined-assigned.result 2 variants.STAR variants.STAREQ c.or_assignment.ensures c.new-in-STAR.ensures
     (omega arith) (some-arm c.in-STAR.is refl c.current.ensures.some) (λ is. omega (arith, c.current.ensures.peeks.left, c.at_joined-assigned.ensures.some is (no-end variants.EQ refl)))
@@ -107,7 +107,7 @@ pub returns-in-STAR-clause-peeks : goal.returns-in-STAR-clause-peeks
 returns-in-STAR-clause-peeks c = peeks-within (peeks-then c.current.ensures.peeks c.at_joined-assigned.ensures.peeks) (omega arith)
 
 pub returns-in-SLASH-clause-next : goal.returns-in-SLASH-clause-next
-unfolding look_of begins_below whole rule items statements expressions patterns types paths there_at shift passes is_silent begins in_mode anew row one_of any_of no_longer longest is_longer operators_at operators
+unfolding look_of begins_below whole rule items statements expressions patterns types paths there_at shift passes is_silent begins in_mode from_start row one_of any_of no_longer longest is_longer operators_at operators
 returns-in-SLASH-clause-next c =
     assigned-next (λ b. Answers (Kind 0 (raw_of variants.SLASH)) true ∷ Answers (Both (Joint 0) (Kind 1 (raw_of variants.EQ))) b ∷ []) c.at_joined-assigned-in-SLASH.result 2 variants.SLASH variants.SLASHEQ c.or_assignment-in-SLASH.ensures c.new-in-SLASH.ensures
     (omega arith) (some-arm c.in-SLASH.is refl c.current.ensures.some) (λ is. omega (arith, c.current.ensures.peeks.left, c.at_joined-assigned-in-SLASH.ensures.some is (no-end variants.EQ refl)))
@@ -117,7 +117,7 @@ pub returns-in-SLASH-clause-peeks : goal.returns-in-SLASH-clause-peeks
 returns-in-SLASH-clause-peeks c = peeks-within (peeks-then c.current.ensures.peeks c.at_joined-assigned-in-SLASH.ensures.peeks) (omega arith)
 
 pub returns-in-PERCENT-clause-next : goal.returns-in-PERCENT-clause-next
-unfolding look_of begins_below whole rule items statements expressions patterns types paths there_at shift passes is_silent begins in_mode anew row one_of any_of no_longer longest is_longer operators_at operators
+unfolding look_of begins_below whole rule items statements expressions patterns types paths there_at shift passes is_silent begins in_mode from_start row one_of any_of no_longer longest is_longer operators_at operators
 returns-in-PERCENT-clause-next c =
     assigned-next (λ b. Answers (Kind 0 (raw_of variants.PERCENT)) true ∷ Answers (Both (Joint 0) (Kind 1 (raw_of variants.EQ))) b ∷ []) c.at_joined-assigned-in-PERCENT.result 2 variants.PERCENT variants.PERCENTEQ c.or_assignment-in-PERCENT.ensures c.new-in-PERCENT.ensures
     (omega arith) (some-arm c.in-PERCENT.is refl c.current.ensures.some) (λ is. omega (arith, c.current.ensures.peeks.left, c.at_joined-assigned-in-PERCENT.ensures.some is (no-end variants.EQ refl)))
@@ -127,7 +127,7 @@ pub returns-in-PERCENT-clause-peeks : goal.returns-in-PERCENT-clause-peeks
 returns-in-PERCENT-clause-peeks c = peeks-within (peeks-then c.current.ensures.peeks c.at_joined-assigned-in-PERCENT.ensures.peeks) (omega arith)
 
 pub returns-in-PLUS-clause-next : goal.returns-in-PLUS-clause-next
-unfolding look_of begins_below whole rule items statements expressions patterns types paths there_at shift passes is_silent begins in_mode anew row one_of any_of no_longer longest is_longer operators_at operators
+unfolding look_of begins_below whole rule items statements expressions patterns types paths there_at shift passes is_silent begins in_mode from_start row one_of any_of no_longer longest is_longer operators_at operators
 returns-in-PLUS-clause-next c =
     assigned-next (λ b. Answers (Kind 0 (raw_of variants.PLUS)) true ∷ Answers (Both (Joint 0) (Kind 1 (raw_of variants.EQ))) b ∷ []) c.at_joined-assigned-in-PLUS.result 3 variants.PLUS variants.PLUSEQ c.or_assignment-in-PLUS.ensures c.new-in-PLUS.ensures
     (omega arith) (some-arm c.in-PLUS.is refl c.current.ensures.some) (λ is. omega (arith, c.current.ensures.peeks.left, c.at_joined-assigned-in-PLUS.ensures.some is (no-end variants.EQ refl)))
@@ -137,7 +137,7 @@ pub returns-in-PLUS-clause-peeks : goal.returns-in-PLUS-clause-peeks
 returns-in-PLUS-clause-peeks c = peeks-within (peeks-then c.current.ensures.peeks c.at_joined-assigned-in-PLUS.ensures.peeks) (omega arith)
 
 pub returns-in-MINUS-clause-next : goal.returns-in-MINUS-clause-next
-unfolding look_of begins_below whole rule items statements expressions patterns types paths there_at shift passes is_silent begins in_mode anew row one_of any_of no_longer longest is_longer operators_at operators
+unfolding look_of begins_below whole rule items statements expressions patterns types paths there_at shift passes is_silent begins in_mode from_start row one_of any_of no_longer longest is_longer operators_at operators
 returns-in-MINUS-clause-next c =
     assigned-next (λ b. Answers (Kind 0 (raw_of variants.MINUS)) true ∷ Answers (Both (Joint 0) (Kind 1 (raw_of variants.EQ))) b ∷ []) c.at_joined-assigned-in-MINUS.result 3 variants.MINUS variants.MINUSEQ c.or_assignment-in-MINUS.ensures c.new-in-MINUS.ensures
     (omega arith) (some-arm c.in-MINUS.is refl c.current.ensures.some) (λ is. omega (arith, c.current.ensures.peeks.left, c.at_joined-assigned-in-MINUS.ensures.some is (no-end variants.EQ refl)))
@@ -147,7 +147,7 @@ pub returns-in-MINUS-clause-peeks : goal.returns-in-MINUS-clause-peeks
 returns-in-MINUS-clause-peeks c = peeks-within (peeks-then c.current.ensures.peeks c.at_joined-assigned-in-MINUS.ensures.peeks) (omega arith)
 
 pub returns-in-CARET-clause-next : goal.returns-in-CARET-clause-next
-unfolding look_of begins_below whole rule items statements expressions patterns types paths there_at shift passes is_silent begins in_mode anew row one_of any_of no_longer longest is_longer operators_at operators
+unfolding look_of begins_below whole rule items statements expressions patterns types paths there_at shift passes is_silent begins in_mode from_start row one_of any_of no_longer longest is_longer operators_at operators
 returns-in-CARET-clause-next c =
     assigned-next (λ b. Answers (Kind 0 (raw_of variants.CARET)) true ∷ Answers (Both (Joint 0) (Kind 1 (raw_of variants.EQ))) b ∷ []) c.at_joined-assigned-in-CARET.result 6 variants.CARET variants.CARETEQ c.or_assignment-in-CARET.ensures c.new-in-CARET.ensures
     (omega arith) (some-arm c.in-CARET.is refl c.current.ensures.some) (λ is. omega (arith, c.current.ensures.peeks.left, c.at_joined-assigned-in-CARET.ensures.some is (no-end variants.EQ refl)))
@@ -157,7 +157,7 @@ pub returns-in-CARET-clause-peeks : goal.returns-in-CARET-clause-peeks
 returns-in-CARET-clause-peeks c = peeks-within (peeks-then c.current.ensures.peeks c.at_joined-assigned-in-CARET.ensures.peeks) (omega arith)
 
 pub returns-in_default-clause-next : goal.returns-in_default-clause-next
-unfolding look_of begins_below whole rule items statements expressions patterns types paths there_at shift passes is_silent begins in_mode anew row one_of any_of no_longer longest is_longer operators_at operators
+unfolding look_of begins_below whole rule items statements expressions patterns types paths there_at shift passes is_silent begins in_mode from_start row one_of any_of no_longer longest is_longer operators_at operators
 returns-in_default-clause-next c = none-next c.none.ensures (λ d. (saw-not c.in_default.not-AS_KW (c.current.ensures.sees d)) and (saw-not c.in_default.not-STAR (c.current.ensures.sees d)) and (saw-not c.in_default.not-SLASH (c.current.ensures.sees d)) and (saw-not c.in_default.not-PERCENT (c.current.ensures.sees d)) and (saw-not c.in_default.not-PLUS (c.current.ensures.sees d)) and (saw-not c.in_default.not-MINUS (c.current.ensures.sees d)) and (saw-not c.in_default.not-CARET (c.current.ensures.sees d)) and (saw-not c.in_default.not-AMP (c.current.ensures.sees d)) and (saw-not c.in_default.not-PIPE (c.current.ensures.sees d)) and (saw-not c.in_default.not-EQ (c.current.ensures.sees d)) and (saw-not c.in_default.not-BANG (c.current.ensures.sees d)) and (saw-not c.in_default.not-L_ANGLE (c.current.ensures.sees d)) and (saw-not c.in_default.not-R_ANGLE (c.current.ensures.sees d)) and nothing) refl
 
 pub returns-in_default-clause-peeks : goal.returns-in_default-clause-peeks

@@ -1,15 +1,15 @@
 -- Each path reads what the rule comes to there.
-use Rattle.std.proofs.Common.{true}
 use Rattle.rust_grammar.specs.Expressions.{expressions}
 use Rattle.rust_grammar.specs.Items.{items}
 use Rattle.rust_grammar.specs.Meaning.{begins_below, look_of}
 use Rattle.rust_grammar.specs.Notation.{any_of, is_longer, no_longer, longest, one_of, row}
 use Rattle.rust_grammar.specs.Paths.{paths}
 use Rattle.rust_grammar.specs.Patterns.{patterns}
-use Rattle.rust_grammar.specs.Rule.{begins, in_mode, anew, is_silent, passes, shift, there_at}
+use Rattle.rust_grammar.specs.Rule.{begins, in_mode, from_start, is_silent, passes, shift, there_at}
 use Rattle.rust_grammar.specs.Statements.{statements}
 use Rattle.rust_grammar.specs.Types.{types}
 use Rattle.rust_grammar.specs.Whole.{rule, whole}
+use Rattle.rust_productions.specs.Reads.{On}
 use Rattle.rust_productions.proofs.ByHand.{reads-node}
 use Rattle.rust_productions.proofs.Seen.{saw-inside}
 use Rattle.rust_productions.proofs.grammar.paths.first_segment.Goals as goal
@@ -18,11 +18,11 @@ pub first_word-requires-clause-begins : goal.first_word-requires-clause-begins
 first_word-requires-clause-begins c cond = saw-inside c.start-segment.ensures.opens (saw-inside c.start-path.ensures.opens (c.requires.begins cond))
 
 pub complete-requires : goal.complete-requires
-complete-requires c = (c.first_word.ensures.reads true).does.innermost _ (c.start-segment.ensures.marker)
+complete-requires c = (c.first_word.ensures.reads On).does.innermost _ (c.start-segment.ensures.marker)
 
 pub complete-requires-2 : goal.complete-requires-2
-complete-requires-2 c = c.complete.ensures.closes.innermost _ ((c.first_word.ensures.reads true).does.innermost _ (c.start-segment.ensures.opens.innermost _ (c.start-path.ensures.marker)))
+complete-requires-2 c = c.complete.ensures.closes.innermost _ ((c.first_word.ensures.reads On).does.innermost _ (c.start-segment.ensures.opens.innermost _ (c.start-path.ensures.marker)))
 
 pub returns-clause-reads : goal.returns-clause-reads
-unfolding look_of begins_below whole rule items statements expressions patterns types paths there_at shift passes is_silent begins in_mode anew row one_of any_of no_longer longest is_longer
+unfolding look_of begins_below whole rule items statements expressions patterns types paths there_at shift passes is_silent begins in_mode from_start row one_of any_of no_longer longest is_longer
 returns-clause-reads c cond = reads-node cond c.start-path.ensures.opens (reads-node cond c.start-segment.ensures.opens ((c.first_word.ensures.reads cond)) c.complete.ensures.closes) c.complete-2.ensures.closes

@@ -6,7 +6,7 @@ use Rattle.rust_grammar.specs.Meaning.{begins_below, look_of}
 use Rattle.rust_grammar.specs.Notation.{any_of, is_longer, no_longer, longest, one_of, row}
 use Rattle.rust_grammar.specs.Paths.{paths}
 use Rattle.rust_grammar.specs.Patterns.{patterns}
-use Rattle.rust_grammar.specs.Rule.{begins, in_mode, anew, is_silent, passes, shift, there_at}
+use Rattle.rust_grammar.specs.Rule.{begins, in_mode, from_start, is_silent, passes, shift, there_at}
 use Rattle.rust_grammar.specs.Statements.{statements}
 use Rattle.rust_grammar.specs.Types.{types}
 use Rattle.rust_grammar.specs.Whole.{rule, whole}
@@ -18,9 +18,9 @@ use Rattle.rust_productions.proofs.Seen.{begins-else}
 use Rattle.rust_productions.proofs.grammar.paths.first_word.Goals as goal
 
 pub returns-then-at_colons-clause-reads : goal.returns-then-at_colons-clause-reads
-unfolding look_of begins_below whole rule items statements expressions patterns types paths there_at shift passes is_silent begins in_mode anew row one_of any_of no_longer longest is_longer
+unfolding look_of begins_below whole rule items statements expressions patterns types paths there_at shift passes is_silent begins in_mode from_start row one_of any_of no_longer longest is_longer
 returns-then-at_colons-clause-reads c cond = reads-here (saw-so (c.at_colons.ensures.sees cond) c.if-at_colons.true and nothing) (after-look cond c.at_colons.ensures.peeks.same (reads-then cond ((c.take_pair.ensures.reads cond _ _)) (reads-then cond ((c.expect_name_ref.ensures.reads cond)) (reads-nothing cond (does-nothing _)))))
 
 pub returns-clause-reads : goal.returns-clause-reads
-unfolding look_of begins_below whole rule items statements expressions patterns types paths there_at shift passes is_silent begins in_mode anew row one_of any_of no_longer longest is_longer
+unfolding look_of begins_below whole rule items statements expressions patterns types paths there_at shift passes is_silent begins in_mode from_start row one_of any_of no_longer longest is_longer
 returns-clause-reads c cond = reads-here (begun rules.name_ref (begins-else rules.name_ref rules.path refl (saw-so (c.at_colons.ensures.sees cond) c.if-at_colons.false and nothing) (c.requires.begins cond) refl) (saw-so (c.at_colons.ensures.sees cond) c.if-at_colons.false and nothing)) (after-look cond c.at_colons.ensures.peeks.same (reads-then cond (reads-call cond (c.name_ref.ensures.gives cond)) (reads-nothing cond (does-nothing _))))

@@ -6,7 +6,7 @@ use Rattle.rust_grammar.specs.Meaning.{begins_below, look_of}
 use Rattle.rust_grammar.specs.Notation.{any_of, is_longer, no_longer, longest, one_of, row}
 use Rattle.rust_grammar.specs.Paths.{paths}
 use Rattle.rust_grammar.specs.Patterns.{patterns}
-use Rattle.rust_grammar.specs.Rule.{begins, in_mode, anew, is_silent, passes, shift, there_at}
+use Rattle.rust_grammar.specs.Rule.{begins, in_mode, from_start, is_silent, passes, shift, there_at}
 use Rattle.rust_grammar.specs.Statements.{statements}
 use Rattle.rust_grammar.specs.Types.{types}
 use Rattle.rust_grammar.specs.Whole.{rule, whole}
@@ -18,37 +18,37 @@ use Rattle.rust_productions.proofs.Staying.{stays-peeks}
 use Rattle.rust_productions.proofs.grammar.pattern_ranges.at_open_range.Goals as goal
 
 pub returns-then-not-at_whole-clause-sees : goal.returns-then-not-at_whole-clause-sees
-unfolding look_of begins_below whole rule items statements expressions patterns types paths there_at shift passes is_silent begins in_mode anew row one_of any_of no_longer longest is_longer
+unfolding look_of begins_below whole rule items statements expressions patterns types paths there_at shift passes is_silent begins in_mode from_start row one_of any_of no_longer longest is_longer
 returns-then-not-at_whole-clause-sees c cond = saw-told (saw-so (c.at_whole.ensures.sees cond) c.if-not-at_whole.true and nothing) refl
 
 pub returns-then-not-at_whole-clause-peeks : goal.returns-then-not-at_whole-clause-peeks
 returns-then-not-at_whole-clause-peeks c = peeks-within (stays-peeks c.at_whole.ensures.same c.at_whole.ensures.stays) (omega arith)
 
 pub returns-then-at_dots_eq-clause-sees : goal.returns-then-at_dots_eq-clause-sees
-unfolding look_of begins_below whole rule items statements expressions patterns types paths there_at shift passes is_silent begins in_mode anew row one_of any_of no_longer longest is_longer
+unfolding look_of begins_below whole rule items statements expressions patterns types paths there_at shift passes is_silent begins in_mode from_start row one_of any_of no_longer longest is_longer
 returns-then-at_dots_eq-clause-sees c cond = saw-told (saw-so (c.at_whole.ensures.sees cond) c.if-not-at_whole.false and saw-before c.at_whole.ensures.same (saw-so (c.at_dots_eq.ensures.sees cond) c.if-at_dots_eq.true) and nothing) refl
 
 pub returns-then-at_dots_eq-clause-peeks : goal.returns-then-at_dots_eq-clause-peeks
 returns-then-at_dots_eq-clause-peeks c = peeks-within (stays-then c.at_whole.ensures.same c.at_whole.ensures.stays (c.at_dots_eq.ensures.peeks)) (omega arith)
 
 pub returns-then-at_dots_before_end-clause-sees : goal.returns-then-at_dots_before_end-clause-sees
-unfolding look_of begins_below whole rule items statements expressions patterns types paths there_at shift passes is_silent begins in_mode anew row one_of any_of no_longer longest is_longer
+unfolding look_of begins_below whole rule items statements expressions patterns types paths there_at shift passes is_silent begins in_mode from_start row one_of any_of no_longer longest is_longer
 returns-then-at_dots_before_end-clause-sees c cond = saw-told (saw-so (c.at_whole.ensures.sees cond) c.if-not-at_whole.false and saw-before c.at_whole.ensures.same (saw-so (c.at_dots_eq.ensures.sees cond) c.if-at_dots_eq.false) and saw-before c.at_whole.ensures.same (saw-before c.at_dots_eq.ensures.peeks.same (saw-so (c.at_dots_before_end.ensures.sees cond) c.if-at_dots_before_end.true)) and nothing) refl
 
 pub returns-then-at_dots_before_end-clause-peeks : goal.returns-then-at_dots_before_end-clause-peeks
 returns-then-at_dots_before_end-clause-peeks c = peeks-within (stays-then c.at_whole.ensures.same c.at_whole.ensures.stays (peeks-then c.at_dots_eq.ensures.peeks (c.at_dots_before_end.ensures.peeks))) (omega arith)
 
 pub returns-clause-sees : goal.returns-clause-sees
-unfolding look_of begins_below whole rule items statements expressions patterns types paths there_at shift passes is_silent begins in_mode anew row one_of any_of no_longer longest is_longer
+unfolding look_of begins_below whole rule items statements expressions patterns types paths there_at shift passes is_silent begins in_mode from_start row one_of any_of no_longer longest is_longer
 returns-clause-sees c cond = saw-told (saw-so (c.at_whole.ensures.sees cond) c.if-not-at_whole.false and saw-before c.at_whole.ensures.same (saw-so (c.at_dots_eq.ensures.sees cond) c.if-at_dots_eq.false) and saw-before c.at_whole.ensures.same (saw-before c.at_dots_eq.ensures.peeks.same (saw-so (c.at_dots_before_end.ensures.sees cond) c.if-at_dots_before_end.false)) and nothing) refl
 
 pub returns-clause-peeks : goal.returns-clause-peeks
 returns-clause-peeks c = peeks-within (stays-then c.at_whole.ensures.same c.at_whole.ensures.stays (peeks-then c.at_dots_eq.ensures.peeks (c.at_dots_before_end.ensures.peeks))) (omega arith)
 
 pub returns-then-at_dots_eq-clause-op : goal.returns-then-at_dots_eq-clause-op
-unfolding look_of begins_below whole rule items statements expressions patterns types paths there_at shift passes is_silent begins in_mode anew row one_of any_of no_longer longest is_longer
+unfolding look_of begins_below whole rule items statements expressions patterns types paths there_at shift passes is_silent begins in_mode from_start row one_of any_of no_longer longest is_longer
 returns-then-at_dots_eq-clause-op c _ cond = saw-told (saw-before c.at_whole.ensures.same (saw-so (c.at_dots_eq.ensures.sees cond) c.if-at_dots_eq.true) and nothing) refl
 
 pub returns-then-at_dots_before_end-clause-op : goal.returns-then-at_dots_before_end-clause-op
-unfolding look_of begins_below whole rule items statements expressions patterns types paths there_at shift passes is_silent begins in_mode anew row one_of any_of no_longer longest is_longer
+unfolding look_of begins_below whole rule items statements expressions patterns types paths there_at shift passes is_silent begins in_mode from_start row one_of any_of no_longer longest is_longer
 returns-then-at_dots_before_end-clause-op c _ cond = saw-told (saw-left (saw-before c.at_whole.ensures.same (saw-before c.at_dots_eq.ensures.peeks.same (saw-so (c.at_dots_before_end.ensures.sees cond) c.if-at_dots_before_end.true))) and nothing) refl

@@ -6,7 +6,7 @@ use Rattle.rust_grammar.specs.Meaning.{begins_below, look_of}
 use Rattle.rust_grammar.specs.Notation.{any_of, is_longer, no_longer, longest, one_of, row}
 use Rattle.rust_grammar.specs.Paths.{paths}
 use Rattle.rust_grammar.specs.Patterns.{patterns}
-use Rattle.rust_grammar.specs.Rule.{begins, in_mode, anew, is_silent, passes, shift, there_at}
+use Rattle.rust_grammar.specs.Rule.{begins, in_mode, from_start, is_silent, passes, shift, there_at}
 use Rattle.rust_grammar.specs.Statements.{statements}
 use Rattle.rust_grammar.specs.Types.{types}
 use Rattle.rust_grammar.specs.Whole.{rule, whole}
@@ -19,47 +19,47 @@ use Rattle.rust_productions.proofs.Staying.{stays-peeks}
 use Rattle.rust_productions.proofs.grammar.pattern_ranges.at_range_end.Goals as goal
 
 pub returns-in-INT_NUMBER-clause-sees : goal.returns-in-INT_NUMBER-clause-sees
-unfolding look_of begins_below whole rule items statements expressions patterns types paths there_at shift passes is_silent begins in_mode anew row one_of any_of no_longer longest is_longer
+unfolding look_of begins_below whole rule items statements expressions patterns types paths there_at shift passes is_silent begins in_mode from_start row one_of any_of no_longer longest is_longer
 returns-in-INT_NUMBER-clause-sees c cond = elim c.in-INT_NUMBER.is [ inl a0 ↦ saw-told (saw-arm a0 (c.current.ensures.sees cond) and nothing) refl | inr b0 ↦ elim b0 [ inl a1 ↦ saw-told (saw-arm a1 (c.current.ensures.sees cond) and nothing) refl | inr b1 ↦ elim b1 [ inl a2 ↦ saw-told (saw-arm a2 (c.current.ensures.sees cond) and nothing) refl | inr b2 ↦ elim b2 [ inl a3 ↦ saw-told (saw-arm a3 (c.current.ensures.sees cond) and nothing) refl | inr b3 ↦ elim b3 [ inl a4 ↦ saw-told (saw-arm a4 (c.current.ensures.sees cond) and nothing) refl | inr b4 ↦ elim b4 [ inl a5 ↦ saw-told (saw-arm a5 (c.current.ensures.sees cond) and nothing) refl | inr b5 ↦ elim b5 [ inl a6 ↦ saw-told (saw-arm a6 (c.current.ensures.sees cond) and nothing) refl | inr b6 ↦ elim b6 [ inl a7 ↦ saw-told (saw-arm a7 (c.current.ensures.sees cond) and nothing) refl | inr b7 ↦ elim b7 [ inl a8 ↦ saw-told (saw-arm a8 (c.current.ensures.sees cond) and nothing) refl | inr b8 ↦ elim b8 [ inl a9 ↦ saw-told (saw-arm a9 (c.current.ensures.sees cond) and nothing) refl | inr b9 ↦ elim b9 [ inl a10 ↦ saw-told (saw-arm a10 (c.current.ensures.sees cond) and nothing) refl | inr b10 ↦ elim b10 [ inl a11 ↦ saw-told (saw-arm a11 (c.current.ensures.sees cond) and nothing) refl | inr b11 ↦ elim b11 [ inl a12 ↦ saw-told (saw-arm a12 (c.current.ensures.sees cond) and nothing) refl | inr b12 ↦ elim b12 [ inl a13 ↦ saw-told (saw-arm a13 (c.current.ensures.sees cond) and nothing) refl | inr b13 ↦ saw-told (saw-arm b13 (c.current.ensures.sees cond) and nothing) refl ] ] ] ] ] ] ] ] ] ] ] ] ] ]
 
 pub returns-in-INT_NUMBER-clause-atom : goal.returns-in-INT_NUMBER-clause-atom
-unfolding look_of begins_below whole rule items statements expressions patterns types paths there_at shift passes is_silent begins in_mode anew row one_of any_of no_longer longest is_longer
+unfolding look_of begins_below whole rule items statements expressions patterns types paths there_at shift passes is_silent begins in_mode from_start row one_of any_of no_longer longest is_longer
 returns-in-INT_NUMBER-clause-atom c _ cond = elim c.in-INT_NUMBER.is [ inl a0 ↦ saw-told (saw-arm a0 (c.current.ensures.sees cond) and nothing) refl | inr b0 ↦ elim b0 [ inl a1 ↦ saw-told (saw-arm a1 (c.current.ensures.sees cond) and nothing) refl | inr b1 ↦ elim b1 [ inl a2 ↦ saw-told (saw-arm a2 (c.current.ensures.sees cond) and nothing) refl | inr b2 ↦ elim b2 [ inl a3 ↦ saw-told (saw-arm a3 (c.current.ensures.sees cond) and nothing) refl | inr b3 ↦ elim b3 [ inl a4 ↦ saw-told (saw-arm a4 (c.current.ensures.sees cond) and nothing) refl | inr b4 ↦ elim b4 [ inl a5 ↦ saw-told (saw-arm a5 (c.current.ensures.sees cond) and nothing) refl | inr b5 ↦ elim b5 [ inl a6 ↦ saw-told (saw-arm a6 (c.current.ensures.sees cond) and nothing) refl | inr b6 ↦ elim b6 [ inl a7 ↦ saw-told (saw-arm a7 (c.current.ensures.sees cond) and nothing) refl | inr b7 ↦ elim b7 [ inl a8 ↦ saw-told (saw-arm a8 (c.current.ensures.sees cond) and nothing) refl | inr b8 ↦ elim b8 [ inl a9 ↦ saw-told (saw-arm a9 (c.current.ensures.sees cond) and nothing) refl | inr b9 ↦ elim b9 [ inl a10 ↦ saw-told (saw-arm a10 (c.current.ensures.sees cond) and nothing) refl | inr b10 ↦ elim b10 [ inl a11 ↦ saw-told (saw-arm a11 (c.current.ensures.sees cond) and nothing) refl | inr b11 ↦ elim b11 [ inl a12 ↦ saw-told (saw-arm a12 (c.current.ensures.sees cond) and nothing) refl | inr b12 ↦ elim b12 [ inl a13 ↦ saw-told (saw-arm a13 (c.current.ensures.sees cond) and nothing) refl | inr b13 ↦ saw-told (saw-arm b13 (c.current.ensures.sees cond) and nothing) refl ] ] ] ] ] ] ] ] ] ] ] ] ] ]
 
 pub returns-in-INT_NUMBER-clause-peeks : goal.returns-in-INT_NUMBER-clause-peeks
 returns-in-INT_NUMBER-clause-peeks c = peeks-within (c.current.ensures.peeks) (omega arith)
 
 pub returns-then-at_whole-clause-sees : goal.returns-then-at_whole-clause-sees
-unfolding look_of begins_below whole rule items statements expressions patterns types paths there_at shift passes is_silent begins in_mode anew row one_of any_of no_longer longest is_longer
+unfolding look_of begins_below whole rule items statements expressions patterns types paths there_at shift passes is_silent begins in_mode from_start row one_of any_of no_longer longest is_longer
 returns-then-at_whole-clause-sees c cond = saw-told (saw-arm c.in-L_ANGLE.is (c.current.ensures.sees cond) and saw-before c.current.ensures.peeks.same (saw-so (c.at_whole.ensures.sees cond) c.if-at_whole.true) and nothing) refl
 
 pub returns-then-at_whole-clause-atom : goal.returns-then-at_whole-clause-atom
-unfolding look_of begins_below whole rule items statements expressions patterns types paths there_at shift passes is_silent begins in_mode anew row one_of any_of no_longer longest is_longer
+unfolding look_of begins_below whole rule items statements expressions patterns types paths there_at shift passes is_silent begins in_mode from_start row one_of any_of no_longer longest is_longer
 returns-then-at_whole-clause-atom c _ cond = saw-told (saw-arm c.in-L_ANGLE.is (c.current.ensures.sees cond) and saw-before c.current.ensures.peeks.same (saw-so (c.at_whole.ensures.sees cond) c.if-at_whole.true) and nothing) refl
 
 pub returns-then-at_whole-clause-peeks : goal.returns-then-at_whole-clause-peeks
 returns-then-at_whole-clause-peeks c = peeks-within (peeks-then c.current.ensures.peeks (stays-peeks c.at_whole.ensures.same c.at_whole.ensures.stays)) (omega arith)
 
 pub returns-else-at_whole-clause-sees : goal.returns-else-at_whole-clause-sees
-unfolding look_of begins_below whole rule items statements expressions patterns types paths there_at shift passes is_silent begins in_mode anew row one_of any_of no_longer longest is_longer
+unfolding look_of begins_below whole rule items statements expressions patterns types paths there_at shift passes is_silent begins in_mode from_start row one_of any_of no_longer longest is_longer
 returns-else-at_whole-clause-sees c cond = saw-told (saw-arm c.in-L_ANGLE.is (c.current.ensures.sees cond) and saw-before c.current.ensures.peeks.same (saw-so (c.at_whole.ensures.sees cond) c.if-at_whole.false) and nothing) refl
 
 pub returns-else-at_whole-clause-peeks : goal.returns-else-at_whole-clause-peeks
 returns-else-at_whole-clause-peeks c = peeks-within (peeks-then c.current.ensures.peeks (stays-peeks c.at_whole.ensures.same c.at_whole.ensures.stays)) (omega arith)
 
 pub returns-then-at_pair-clause-sees : goal.returns-then-at_pair-clause-sees
-unfolding look_of begins_below whole rule items statements expressions patterns types paths there_at shift passes is_silent begins in_mode anew row one_of any_of no_longer longest is_longer
+unfolding look_of begins_below whole rule items statements expressions patterns types paths there_at shift passes is_silent begins in_mode from_start row one_of any_of no_longer longest is_longer
 returns-then-at_pair-clause-sees c cond = saw-told (saw-not c.in_default.not-INT_NUMBER (c.current.ensures.sees cond) and saw-not c.in_default.not-FLOAT_NUMBER (c.current.ensures.sees cond) and saw-not c.in_default.not-CHAR (c.current.ensures.sees cond) and saw-not c.in_default.not-BYTE (c.current.ensures.sees cond) and saw-not c.in_default.not-STRING (c.current.ensures.sees cond) and saw-not c.in_default.not-BYTE_STRING (c.current.ensures.sees cond) and saw-not c.in_default.not-C_STRING (c.current.ensures.sees cond) and saw-not c.in_default.not-TRUE_KW (c.current.ensures.sees cond) and saw-not c.in_default.not-FALSE_KW (c.current.ensures.sees cond) and saw-not c.in_default.not-MINUS (c.current.ensures.sees cond) and saw-not c.in_default.not-IDENT (c.current.ensures.sees cond) and saw-not c.in_default.not-SELF_KW (c.current.ensures.sees cond) and saw-not c.in_default.not-SUPER_KW (c.current.ensures.sees cond) and saw-not c.in_default.not-CRATE_KW (c.current.ensures.sees cond) and saw-not c.in_default.not-SELF_TYPE_KW (c.current.ensures.sees cond) and saw-not c.in_default.not-L_ANGLE (c.current.ensures.sees cond) and saw-before c.current.ensures.peeks.same (saw-so (c.at_pair.ensures.sees cond) c.if-at_pair.true) and nothing) refl
 
 pub returns-then-at_pair-clause-atom : goal.returns-then-at_pair-clause-atom
-unfolding look_of begins_below whole rule items statements expressions patterns types paths there_at shift passes is_silent begins in_mode anew row one_of any_of no_longer longest is_longer
+unfolding look_of begins_below whole rule items statements expressions patterns types paths there_at shift passes is_silent begins in_mode from_start row one_of any_of no_longer longest is_longer
 returns-then-at_pair-clause-atom c _ cond = saw-told (saw-not c.in_default.not-INT_NUMBER (c.current.ensures.sees cond) and saw-not c.in_default.not-FLOAT_NUMBER (c.current.ensures.sees cond) and saw-not c.in_default.not-CHAR (c.current.ensures.sees cond) and saw-not c.in_default.not-BYTE (c.current.ensures.sees cond) and saw-not c.in_default.not-STRING (c.current.ensures.sees cond) and saw-not c.in_default.not-BYTE_STRING (c.current.ensures.sees cond) and saw-not c.in_default.not-C_STRING (c.current.ensures.sees cond) and saw-not c.in_default.not-TRUE_KW (c.current.ensures.sees cond) and saw-not c.in_default.not-FALSE_KW (c.current.ensures.sees cond) and saw-not c.in_default.not-MINUS (c.current.ensures.sees cond) and saw-not c.in_default.not-IDENT (c.current.ensures.sees cond) and saw-not c.in_default.not-SELF_KW (c.current.ensures.sees cond) and saw-not c.in_default.not-SUPER_KW (c.current.ensures.sees cond) and saw-not c.in_default.not-CRATE_KW (c.current.ensures.sees cond) and saw-not c.in_default.not-SELF_TYPE_KW (c.current.ensures.sees cond) and saw-not c.in_default.not-L_ANGLE (c.current.ensures.sees cond) and saw-before c.current.ensures.peeks.same (saw-so (c.at_pair.ensures.sees cond) c.if-at_pair.true) and nothing) refl
 
 pub returns-then-at_pair-clause-peeks : goal.returns-then-at_pair-clause-peeks
 returns-then-at_pair-clause-peeks c = peeks-within (peeks-then c.current.ensures.peeks (c.at_pair.ensures.peeks)) (omega arith)
 
 pub returns-else-at_pair-clause-sees : goal.returns-else-at_pair-clause-sees
-unfolding look_of begins_below whole rule items statements expressions patterns types paths there_at shift passes is_silent begins in_mode anew row one_of any_of no_longer longest is_longer
+unfolding look_of begins_below whole rule items statements expressions patterns types paths there_at shift passes is_silent begins in_mode from_start row one_of any_of no_longer longest is_longer
 returns-else-at_pair-clause-sees c cond = saw-told (saw-not c.in_default.not-INT_NUMBER (c.current.ensures.sees cond) and saw-not c.in_default.not-FLOAT_NUMBER (c.current.ensures.sees cond) and saw-not c.in_default.not-CHAR (c.current.ensures.sees cond) and saw-not c.in_default.not-BYTE (c.current.ensures.sees cond) and saw-not c.in_default.not-STRING (c.current.ensures.sees cond) and saw-not c.in_default.not-BYTE_STRING (c.current.ensures.sees cond) and saw-not c.in_default.not-C_STRING (c.current.ensures.sees cond) and saw-not c.in_default.not-TRUE_KW (c.current.ensures.sees cond) and saw-not c.in_default.not-FALSE_KW (c.current.ensures.sees cond) and saw-not c.in_default.not-MINUS (c.current.ensures.sees cond) and saw-not c.in_default.not-IDENT (c.current.ensures.sees cond) and saw-not c.in_default.not-SELF_KW (c.current.ensures.sees cond) and saw-not c.in_default.not-SUPER_KW (c.current.ensures.sees cond) and saw-not c.in_default.not-CRATE_KW (c.current.ensures.sees cond) and saw-not c.in_default.not-SELF_TYPE_KW (c.current.ensures.sees cond) and saw-not c.in_default.not-L_ANGLE (c.current.ensures.sees cond) and saw-before c.current.ensures.peeks.same (saw-so (c.at_pair.ensures.sees cond) c.if-at_pair.false) and nothing) refl
 
 pub returns-else-at_pair-clause-peeks : goal.returns-else-at_pair-clause-peeks

@@ -6,7 +6,7 @@ use Rattle.rust_grammar.specs.Meaning.{begins_below, look_of}
 use Rattle.rust_grammar.specs.Notation.{any_of, is_longer, no_longer, longest, one_of, row}
 use Rattle.rust_grammar.specs.Paths.{paths}
 use Rattle.rust_grammar.specs.Patterns.{patterns}
-use Rattle.rust_grammar.specs.Rule.{begins, in_mode, anew, is_silent, passes, shift, there_at}
+use Rattle.rust_grammar.specs.Rule.{begins, in_mode, from_start, is_silent, passes, shift, there_at}
 use Rattle.rust_grammar.specs.Statements.{statements}
 use Rattle.rust_grammar.specs.Types.{types}
 use Rattle.rust_grammar.specs.Whole.{rule, whole}
@@ -17,18 +17,18 @@ use Rattle.rust_productions.proofs.Peeking.{peeks-then}
 use Rattle.rust_productions.proofs.grammar.patterns.at_named_field.Goals as goal
 
 pub returns-then-not-at_second-clause-sees : goal.returns-then-not-at_second-clause-sees
-unfolding look_of begins_below whole rule items statements expressions patterns types paths there_at shift passes is_silent begins in_mode anew row one_of any_of no_longer longest is_longer
+unfolding look_of begins_below whole rule items statements expressions patterns types paths there_at shift passes is_silent begins in_mode from_start row one_of any_of no_longer longest is_longer
 returns-then-not-at_second-clause-sees c cond = saw-told (saw-so (c.at_second.ensures.sees cond) c.if-not-at_second.true and nothing) refl
 
 pub returns-in-IDENT-clause-sees : goal.returns-in-IDENT-clause-sees
-unfolding look_of begins_below whole rule items statements expressions patterns types paths there_at shift passes is_silent begins in_mode anew row one_of any_of no_longer longest is_longer
+unfolding look_of begins_below whole rule items statements expressions patterns types paths there_at shift passes is_silent begins in_mode from_start row one_of any_of no_longer longest is_longer
 returns-in-IDENT-clause-sees c cond = elim c.in-IDENT.is [ inl a0 ↦ saw-told (saw-so (c.at_second.ensures.sees cond) c.if-not-at_second.false and saw-before c.at_second.ensures.peeks.same (left-arm a0 (c.current.ensures.end cond)) and saw-before c.at_second.ensures.peeks.same (saw-arm a0 (c.current.ensures.sees cond)) and nothing) refl | inr b0 ↦ saw-told (saw-so (c.at_second.ensures.sees cond) c.if-not-at_second.false and saw-before c.at_second.ensures.peeks.same (left-arm b0 (c.current.ensures.end cond)) and saw-before c.at_second.ensures.peeks.same (saw-arm b0 (c.current.ensures.sees cond)) and nothing) refl ]
 
 pub returns-in-IDENT-clause-peeks : goal.returns-in-IDENT-clause-peeks
 returns-in-IDENT-clause-peeks c = peeks-then c.at_second.ensures.peeks c.current.ensures.peeks
 
 pub returns-in_default-clause-sees : goal.returns-in_default-clause-sees
-unfolding look_of begins_below whole rule items statements expressions patterns types paths there_at shift passes is_silent begins in_mode anew row one_of any_of no_longer longest is_longer
+unfolding look_of begins_below whole rule items statements expressions patterns types paths there_at shift passes is_silent begins in_mode from_start row one_of any_of no_longer longest is_longer
 returns-in_default-clause-sees c cond = saw-told (saw-so (c.at_second.ensures.sees cond) c.if-not-at_second.false and saw-before c.at_second.ensures.peeks.same (saw-not c.in_default.not-IDENT (c.current.ensures.sees cond)) and saw-before c.at_second.ensures.peeks.same (saw-not c.in_default.not-INT_NUMBER (c.current.ensures.sees cond)) and nothing) refl
 
 pub returns-in_default-clause-peeks : goal.returns-in_default-clause-peeks

@@ -1,6 +1,6 @@
 -- A token tree, or a message.
 use Rattle.rust_grammar.specs.Rule as rules
-use Rattle.rust_grammar.specs.Rule.{begins, in_mode, anew, is_silent, passes, shift, there_at}
+use Rattle.rust_grammar.specs.Rule.{begins, in_mode, from_start, is_silent, passes, shift, there_at}
 use Rattle.rust_productions.proofs.ByHand.{after-look, reads-call}
 use Rattle.rust_productions.proofs.Choices.{reads-here}
 use Rattle.rust_productions.proofs.Facts.{begun, nothing, saw-so}

@@ -6,7 +6,7 @@ use Rattle.rust_grammar.specs.Meaning.{begins_below, look_of}
 use Rattle.rust_grammar.specs.Notation.{any_of, is_longer, no_longer, longest, one_of, row}
 use Rattle.rust_grammar.specs.Paths.{paths}
 use Rattle.rust_grammar.specs.Patterns.{patterns}
-use Rattle.rust_grammar.specs.Rule.{begins, in_mode, anew, is_silent, passes, shift, there_at}
+use Rattle.rust_grammar.specs.Rule.{begins, in_mode, from_start, is_silent, passes, shift, there_at}
 use Rattle.rust_grammar.specs.Statements.{statements}
 use Rattle.rust_grammar.specs.Types.{types}
 use Rattle.rust_grammar.specs.Whole.{rule, whole}
@@ -18,35 +18,35 @@ use Rattle.rust_grammar.specs.Types.{fn_ptr_param}
 use Rattle.rust_productions.proofs.grammar.types.at_fn_ptr_param.Goals as goal
 
 pub returns-then-at_new-clause-sees : goal.returns-then-at_new-clause-sees
-unfolding look_of begins_below whole rule items statements expressions patterns types paths there_at shift passes is_silent begins in_mode anew row one_of any_of no_longer longest is_longer
+unfolding look_of begins_below whole rule items statements expressions patterns types paths there_at shift passes is_silent begins in_mode from_start row one_of any_of no_longer longest is_longer
 returns-then-at_new-clause-sees c cond = starts-here fn_ptr_param (saw-so (c.at_new.ensures.sees cond) c.if-at_new.true and nothing) refl
 
 pub returns-then-at_new-clause-peeks : goal.returns-then-at_new-clause-peeks
 returns-then-at_new-clause-peeks c = peeks-within (c.at_new.ensures.peeks) (omega arith)
 
 pub returns-then-at_dots_dot-clause-sees : goal.returns-then-at_dots_dot-clause-sees
-unfolding look_of begins_below whole rule items statements expressions patterns types paths there_at shift passes is_silent begins in_mode anew row one_of any_of no_longer longest is_longer
+unfolding look_of begins_below whole rule items statements expressions patterns types paths there_at shift passes is_silent begins in_mode from_start row one_of any_of no_longer longest is_longer
 returns-then-at_dots_dot-clause-sees c cond = starts-here fn_ptr_param (saw-so (c.at_new.ensures.sees cond) c.if-at_new.false and saw-before c.at_new.ensures.peeks.same (saw-so (c.at_dots_dot.ensures.sees cond) c.if-at_dots_dot.true) and nothing) refl
 
 pub returns-then-at_dots_dot-clause-peeks : goal.returns-then-at_dots_dot-clause-peeks
 returns-then-at_dots_dot-clause-peeks c = peeks-within (peeks-then c.at_new.ensures.peeks (c.at_dots_dot.ensures.peeks)) (omega arith)
 
 pub returns-then-at_named_param-clause-sees : goal.returns-then-at_named_param-clause-sees
-unfolding look_of begins_below whole rule items statements expressions patterns types paths there_at shift passes is_silent begins in_mode anew row one_of any_of no_longer longest is_longer
+unfolding look_of begins_below whole rule items statements expressions patterns types paths there_at shift passes is_silent begins in_mode from_start row one_of any_of no_longer longest is_longer
 returns-then-at_named_param-clause-sees c cond = starts-here fn_ptr_param (saw-so (c.at_new.ensures.sees cond) c.if-at_new.false and saw-before c.at_new.ensures.peeks.same (saw-so (c.at_dots_dot.ensures.sees cond) c.if-at_dots_dot.false) and saw-before c.at_new.ensures.peeks.same (saw-before c.at_dots_dot.ensures.peeks.same (saw-so (c.at_named_param.ensures.sees cond) c.if-at_named_param.true)) and nothing) refl
 
 pub returns-then-at_named_param-clause-peeks : goal.returns-then-at_named_param-clause-peeks
 returns-then-at_named_param-clause-peeks c = peeks-within (peeks-then c.at_new.ensures.peeks (peeks-then c.at_dots_dot.ensures.peeks (c.at_named_param.ensures.peeks))) (omega arith)
 
 pub returns-then-at_type-clause-sees : goal.returns-then-at_type-clause-sees
-unfolding look_of begins_below whole rule items statements expressions patterns types paths there_at shift passes is_silent begins in_mode anew row one_of any_of no_longer longest is_longer
+unfolding look_of begins_below whole rule items statements expressions patterns types paths there_at shift passes is_silent begins in_mode from_start row one_of any_of no_longer longest is_longer
 returns-then-at_type-clause-sees c cond = starts-here fn_ptr_param (saw-so (c.at_new.ensures.sees cond) c.if-at_new.false and saw-before c.at_new.ensures.peeks.same (saw-so (c.at_dots_dot.ensures.sees cond) c.if-at_dots_dot.false) and saw-before c.at_new.ensures.peeks.same (saw-before c.at_dots_dot.ensures.peeks.same (saw-so (c.at_named_param.ensures.sees cond) c.if-at_named_param.false)) and begun rules.any_type (saw-before c.at_new.ensures.peeks.same (saw-before c.at_dots_dot.ensures.peeks.same (saw-before c.at_named_param.ensures.peeks.same (saw-so (c.at_type.ensures.sees cond) c.if-at_type.true)))) (nothing)) refl
 
 pub returns-then-at_type-clause-peeks : goal.returns-then-at_type-clause-peeks
 returns-then-at_type-clause-peeks c = peeks-within (peeks-then c.at_new.ensures.peeks (peeks-then c.at_dots_dot.ensures.peeks (peeks-then c.at_named_param.ensures.peeks (c.at_type.ensures.peeks)))) (omega arith)
 
 pub returns-clause-sees : goal.returns-clause-sees
-unfolding look_of begins_below whole rule items statements expressions patterns types paths there_at shift passes is_silent begins in_mode anew row one_of any_of no_longer longest is_longer
+unfolding look_of begins_below whole rule items statements expressions patterns types paths there_at shift passes is_silent begins in_mode from_start row one_of any_of no_longer longest is_longer
 returns-clause-sees c cond = starts-here fn_ptr_param (saw-so (c.at_new.ensures.sees cond) c.if-at_new.false and saw-before c.at_new.ensures.peeks.same (saw-so (c.at_dots_dot.ensures.sees cond) c.if-at_dots_dot.false) and saw-before c.at_new.ensures.peeks.same (saw-before c.at_dots_dot.ensures.peeks.same (saw-so (c.at_named_param.ensures.sees cond) c.if-at_named_param.false)) and begun rules.any_type (saw-before c.at_new.ensures.peeks.same (saw-before c.at_dots_dot.ensures.peeks.same (saw-before c.at_named_param.ensures.peeks.same (saw-so (c.at_type.ensures.sees cond) c.if-at_type.false)))) (nothing)) refl
 
 pub returns-clause-peeks : goal.returns-clause-peeks

@@ -6,7 +6,7 @@ use Rattle.rust_grammar.specs.Meaning.{begins_below, look_of}
 use Rattle.rust_grammar.specs.Notation.{any_of, is_longer, no_longer, longest, one_of, row}
 use Rattle.rust_grammar.specs.Paths.{paths}
 use Rattle.rust_grammar.specs.Patterns.{patterns}
-use Rattle.rust_grammar.specs.Rule.{begins, in_mode, anew, is_silent, passes, shift, there_at}
+use Rattle.rust_grammar.specs.Rule.{begins, in_mode, from_start, is_silent, passes, shift, there_at}
 use Rattle.rust_grammar.specs.Statements.{statements}
 use Rattle.rust_grammar.specs.Types.{types}
 use Rattle.rust_grammar.specs.Whole.{rule, whole}
@@ -19,60 +19,60 @@ use Rattle.rust_productions.proofs.Peeking.{peeks-then, peeks-within, stays-then
 use Rattle.rust_productions.proofs.grammar.types.at_new_type.Goals as goal
 
 pub returns-then-not-at_whole-clause-sees : goal.returns-then-not-at_whole-clause-sees
-unfolding look_of begins_below whole rule items statements expressions patterns types paths there_at shift passes is_silent begins in_mode anew row one_of any_of no_longer longest is_longer
+unfolding look_of begins_below whole rule items statements expressions patterns types paths there_at shift passes is_silent begins in_mode from_start row one_of any_of no_longer longest is_longer
 returns-then-not-at_whole-clause-sees c cond = saw-told (saw-so (c.at_whole.ensures.sees cond) c.if-not-at_whole.true and nothing) refl
 
 pub returns-then-at_path-clause-sees : goal.returns-then-at_path-clause-sees
-unfolding look_of begins_below whole rule items statements expressions patterns types paths there_at shift passes is_silent begins in_mode anew row one_of any_of no_longer longest is_longer
+unfolding look_of begins_below whole rule items statements expressions patterns types paths there_at shift passes is_silent begins in_mode from_start row one_of any_of no_longer longest is_longer
 returns-then-at_path-clause-sees c cond = saw-told (saw-so (c.at_whole.ensures.sees cond) c.if-not-at_whole.false and begun rules.type_path (saw-type-path (saw-before c.at_whole.ensures.same (saw-so (c.at_path.ensures.sees cond) c.if-at_path.true))) (begun rules.expr_path (saw-expr-path (saw-before c.at_whole.ensures.same (saw-so (c.at_path.ensures.sees cond) c.if-at_path.true))) (begun rules.path (saw-before c.at_whole.ensures.same (saw-so (c.at_path.ensures.sees cond) c.if-at_path.true)) (saw-path-begins (saw-before c.at_whole.ensures.same (saw-so (c.at_path.ensures.sees cond) c.if-at_path.true)) and nothing)))) refl
 
 pub returns-then-at_path-clause-peeks : goal.returns-then-at_path-clause-peeks
 returns-then-at_path-clause-peeks c = peeks-within (stays-then c.at_whole.ensures.same c.at_whole.ensures.stays (c.at_path.ensures.peeks)) (omega arith)
 
 pub returns-in-L_ANGLE-clause-sees : goal.returns-in-L_ANGLE-clause-sees
-unfolding look_of begins_below whole rule items statements expressions patterns types paths there_at shift passes is_silent begins in_mode anew row one_of any_of no_longer longest is_longer
+unfolding look_of begins_below whole rule items statements expressions patterns types paths there_at shift passes is_silent begins in_mode from_start row one_of any_of no_longer longest is_longer
 returns-in-L_ANGLE-clause-sees c cond = saw-told (saw-so (c.at_whole.ensures.sees cond) c.if-not-at_whole.false and begun rules.type_path (saw-type-path (saw-before c.at_whole.ensures.same (saw-so (c.at_path.ensures.sees cond) c.if-at_path.false))) (begun rules.expr_path (saw-expr-path (saw-before c.at_whole.ensures.same (saw-so (c.at_path.ensures.sees cond) c.if-at_path.false))) (begun rules.path (saw-before c.at_whole.ensures.same (saw-so (c.at_path.ensures.sees cond) c.if-at_path.false)) (saw-path-begins (saw-before c.at_whole.ensures.same (saw-so (c.at_path.ensures.sees cond) c.if-at_path.false)) and saw-before c.at_whole.ensures.same (saw-before c.at_path.ensures.peeks.same (saw-arm c.in-L_ANGLE.is (c.current.ensures.sees cond))) and nothing)))) refl
 
 pub returns-in-L_ANGLE-clause-peeks : goal.returns-in-L_ANGLE-clause-peeks
 returns-in-L_ANGLE-clause-peeks c = peeks-within (stays-then c.at_whole.ensures.same c.at_whole.ensures.stays (peeks-then c.at_path.ensures.peeks (c.current.ensures.peeks))) (omega arith)
 
 pub returns-then-at_second-clause-sees : goal.returns-then-at_second-clause-sees
-unfolding look_of begins_below whole rule items statements expressions patterns types paths there_at shift passes is_silent begins in_mode anew row one_of any_of no_longer longest is_longer
+unfolding look_of begins_below whole rule items statements expressions patterns types paths there_at shift passes is_silent begins in_mode from_start row one_of any_of no_longer longest is_longer
 returns-then-at_second-clause-sees c cond = saw-told (saw-so (c.at_whole.ensures.sees cond) c.if-not-at_whole.false and begun rules.type_path (saw-type-path (saw-before c.at_whole.ensures.same (saw-so (c.at_path.ensures.sees cond) c.if-at_path.false))) (begun rules.expr_path (saw-expr-path (saw-before c.at_whole.ensures.same (saw-so (c.at_path.ensures.sees cond) c.if-at_path.false))) (begun rules.path (saw-before c.at_whole.ensures.same (saw-so (c.at_path.ensures.sees cond) c.if-at_path.false)) (saw-path-begins (saw-before c.at_whole.ensures.same (saw-so (c.at_path.ensures.sees cond) c.if-at_path.false)) and saw-before c.at_whole.ensures.same (saw-before c.at_path.ensures.peeks.same (saw-arm c.in-LIFETIME_IDENT.is (c.current.ensures.sees cond))) and saw-before c.at_whole.ensures.same (saw-before c.at_path.ensures.peeks.same (saw-before c.current.ensures.peeks.same (saw-so (c.at_second.ensures.sees cond) c.if-at_second.true))) and nothing)))) refl
 
 pub returns-then-at_second-clause-peeks : goal.returns-then-at_second-clause-peeks
 returns-then-at_second-clause-peeks c = peeks-within (stays-then c.at_whole.ensures.same c.at_whole.ensures.stays (peeks-then c.at_path.ensures.peeks (peeks-then c.current.ensures.peeks (c.at_second.ensures.peeks)))) (omega arith)
 
 pub returns-else-at_second-clause-sees : goal.returns-else-at_second-clause-sees
-unfolding look_of begins_below whole rule items statements expressions patterns types paths there_at shift passes is_silent begins in_mode anew row one_of any_of no_longer longest is_longer
+unfolding look_of begins_below whole rule items statements expressions patterns types paths there_at shift passes is_silent begins in_mode from_start row one_of any_of no_longer longest is_longer
 returns-else-at_second-clause-sees c cond = saw-told (saw-so (c.at_whole.ensures.sees cond) c.if-not-at_whole.false and begun rules.type_path (saw-type-path (saw-before c.at_whole.ensures.same (saw-so (c.at_path.ensures.sees cond) c.if-at_path.false))) (begun rules.expr_path (saw-expr-path (saw-before c.at_whole.ensures.same (saw-so (c.at_path.ensures.sees cond) c.if-at_path.false))) (begun rules.path (saw-before c.at_whole.ensures.same (saw-so (c.at_path.ensures.sees cond) c.if-at_path.false)) (saw-path-begins (saw-before c.at_whole.ensures.same (saw-so (c.at_path.ensures.sees cond) c.if-at_path.false)) and saw-before c.at_whole.ensures.same (saw-before c.at_path.ensures.peeks.same (saw-arm c.in-LIFETIME_IDENT.is (c.current.ensures.sees cond))) and saw-before c.at_whole.ensures.same (saw-before c.at_path.ensures.peeks.same (saw-before c.current.ensures.peeks.same (saw-so (c.at_second.ensures.sees cond) c.if-at_second.false))) and nothing)))) refl
 
 pub returns-else-at_second-clause-peeks : goal.returns-else-at_second-clause-peeks
 returns-else-at_second-clause-peeks c = peeks-within (stays-then c.at_whole.ensures.same c.at_whole.ensures.stays (peeks-then c.at_path.ensures.peeks (peeks-then c.current.ensures.peeks (c.at_second.ensures.peeks)))) (omega arith)
 
 pub returns-then-at_second-2-clause-sees : goal.returns-then-at_second-2-clause-sees
-unfolding look_of begins_below whole rule items statements expressions patterns types paths there_at shift passes is_silent begins in_mode anew row one_of any_of no_longer longest is_longer
+unfolding look_of begins_below whole rule items statements expressions patterns types paths there_at shift passes is_silent begins in_mode from_start row one_of any_of no_longer longest is_longer
 returns-then-at_second-2-clause-sees c cond = saw-told (saw-so (c.at_whole.ensures.sees cond) c.if-not-at_whole.false and begun rules.type_path (saw-type-path (saw-before c.at_whole.ensures.same (saw-so (c.at_path.ensures.sees cond) c.if-at_path.false))) (begun rules.expr_path (saw-expr-path (saw-before c.at_whole.ensures.same (saw-so (c.at_path.ensures.sees cond) c.if-at_path.false))) (begun rules.path (saw-before c.at_whole.ensures.same (saw-so (c.at_path.ensures.sees cond) c.if-at_path.false)) (saw-path-begins (saw-before c.at_whole.ensures.same (saw-so (c.at_path.ensures.sees cond) c.if-at_path.false)) and saw-before c.at_whole.ensures.same (saw-before c.at_path.ensures.peeks.same (saw-arm c.in-FOR_KW.is (c.current.ensures.sees cond))) and saw-before c.at_whole.ensures.same (saw-before c.at_path.ensures.peeks.same (saw-before c.current.ensures.peeks.same (saw-so (c.at_second-in-FOR_KW.ensures.sees cond) c.if-at_second-2.true))) and nothing)))) refl
 
 pub returns-then-at_second-2-clause-peeks : goal.returns-then-at_second-2-clause-peeks
 returns-then-at_second-2-clause-peeks c = peeks-within (stays-then c.at_whole.ensures.same c.at_whole.ensures.stays (peeks-then c.at_path.ensures.peeks (peeks-then c.current.ensures.peeks (c.at_second-in-FOR_KW.ensures.peeks)))) (omega arith)
 
 pub returns-else-at_second-2-clause-sees : goal.returns-else-at_second-2-clause-sees
-unfolding look_of begins_below whole rule items statements expressions patterns types paths there_at shift passes is_silent begins in_mode anew row one_of any_of no_longer longest is_longer
+unfolding look_of begins_below whole rule items statements expressions patterns types paths there_at shift passes is_silent begins in_mode from_start row one_of any_of no_longer longest is_longer
 returns-else-at_second-2-clause-sees c cond = saw-told (saw-so (c.at_whole.ensures.sees cond) c.if-not-at_whole.false and begun rules.type_path (saw-type-path (saw-before c.at_whole.ensures.same (saw-so (c.at_path.ensures.sees cond) c.if-at_path.false))) (begun rules.expr_path (saw-expr-path (saw-before c.at_whole.ensures.same (saw-so (c.at_path.ensures.sees cond) c.if-at_path.false))) (begun rules.path (saw-before c.at_whole.ensures.same (saw-so (c.at_path.ensures.sees cond) c.if-at_path.false)) (saw-path-begins (saw-before c.at_whole.ensures.same (saw-so (c.at_path.ensures.sees cond) c.if-at_path.false)) and saw-before c.at_whole.ensures.same (saw-before c.at_path.ensures.peeks.same (saw-arm c.in-FOR_KW.is (c.current.ensures.sees cond))) and saw-before c.at_whole.ensures.same (saw-before c.at_path.ensures.peeks.same (saw-before c.current.ensures.peeks.same (saw-so (c.at_second-in-FOR_KW.ensures.sees cond) c.if-at_second-2.false))) and nothing)))) refl
 
 pub returns-else-at_second-2-clause-peeks : goal.returns-else-at_second-2-clause-peeks
 returns-else-at_second-2-clause-peeks c = peeks-within (stays-then c.at_whole.ensures.same c.at_whole.ensures.stays (peeks-then c.at_path.ensures.peeks (peeks-then c.current.ensures.peeks (c.at_second-in-FOR_KW.ensures.peeks)))) (omega arith)
 
 pub returns-then-at_fn_ptr-clause-sees : goal.returns-then-at_fn_ptr-clause-sees
-unfolding look_of begins_below whole rule items statements expressions patterns types paths there_at shift passes is_silent begins in_mode anew row one_of any_of no_longer longest is_longer
+unfolding look_of begins_below whole rule items statements expressions patterns types paths there_at shift passes is_silent begins in_mode from_start row one_of any_of no_longer longest is_longer
 returns-then-at_fn_ptr-clause-sees c cond = saw-told (saw-so (c.at_whole.ensures.sees cond) c.if-not-at_whole.false and begun rules.type_path (saw-type-path (saw-before c.at_whole.ensures.same (saw-so (c.at_path.ensures.sees cond) c.if-at_path.false))) (begun rules.expr_path (saw-expr-path (saw-before c.at_whole.ensures.same (saw-so (c.at_path.ensures.sees cond) c.if-at_path.false))) (begun rules.path (saw-before c.at_whole.ensures.same (saw-so (c.at_path.ensures.sees cond) c.if-at_path.false)) (saw-path-begins (saw-before c.at_whole.ensures.same (saw-so (c.at_path.ensures.sees cond) c.if-at_path.false)) and saw-before c.at_whole.ensures.same (saw-before c.at_path.ensures.peeks.same (saw-not c.in_default.not-L_ANGLE (c.current.ensures.sees cond))) and saw-before c.at_whole.ensures.same (saw-before c.at_path.ensures.peeks.same (saw-not c.in_default.not-LIFETIME_IDENT (c.current.ensures.sees cond))) and saw-before c.at_whole.ensures.same (saw-before c.at_path.ensures.peeks.same (saw-not c.in_default.not-FOR_KW (c.current.ensures.sees cond))) and saw-before c.at_whole.ensures.same (saw-before c.at_path.ensures.peeks.same (saw-before c.current.ensures.peeks.same (saw-so (c.at_fn_ptr.ensures.sees cond) c.if-at_fn_ptr.true))) and nothing)))) refl
 
 pub returns-then-at_fn_ptr-clause-peeks : goal.returns-then-at_fn_ptr-clause-peeks
 returns-then-at_fn_ptr-clause-peeks c = peeks-within (stays-then c.at_whole.ensures.same c.at_whole.ensures.stays (peeks-then c.at_path.ensures.peeks (peeks-then c.current.ensures.peeks (c.at_fn_ptr.ensures.peeks)))) (omega arith)
 
 pub returns-else-at_fn_ptr-clause-sees : goal.returns-else-at_fn_ptr-clause-sees
-unfolding look_of begins_below whole rule items statements expressions patterns types paths there_at shift passes is_silent begins in_mode anew row one_of any_of no_longer longest is_longer
+unfolding look_of begins_below whole rule items statements expressions patterns types paths there_at shift passes is_silent begins in_mode from_start row one_of any_of no_longer longest is_longer
 returns-else-at_fn_ptr-clause-sees c cond = saw-told (saw-so (c.at_whole.ensures.sees cond) c.if-not-at_whole.false and begun rules.type_path (saw-type-path (saw-before c.at_whole.ensures.same (saw-so (c.at_path.ensures.sees cond) c.if-at_path.false))) (begun rules.expr_path (saw-expr-path (saw-before c.at_whole.ensures.same (saw-so (c.at_path.ensures.sees cond) c.if-at_path.false))) (begun rules.path (saw-before c.at_whole.ensures.same (saw-so (c.at_path.ensures.sees cond) c.if-at_path.false)) (saw-path-begins (saw-before c.at_whole.ensures.same (saw-so (c.at_path.ensures.sees cond) c.if-at_path.false)) and saw-before c.at_whole.ensures.same (saw-before c.at_path.ensures.peeks.same (saw-not c.in_default.not-L_ANGLE (c.current.ensures.sees cond))) and saw-before c.at_whole.ensures.same (saw-before c.at_path.ensures.peeks.same (saw-not c.in_default.not-LIFETIME_IDENT (c.current.ensures.sees cond))) and saw-before c.at_whole.ensures.same (saw-before c.at_path.ensures.peeks.same (saw-not c.in_default.not-FOR_KW (c.current.ensures.sees cond))) and saw-before c.at_whole.ensures.same (saw-before c.at_path.ensures.peeks.same (saw-before c.current.ensures.peeks.same (saw-so (c.at_fn_ptr.ensures.sees cond) c.if-at_fn_ptr.false))) and nothing)))) refl
 
 pub returns-else-at_fn_ptr-clause-peeks : goal.returns-else-at_fn_ptr-clause-peeks

@@ -1,5 +1,5 @@
 -- What is left shrinks from call to call, and what repetitions keep.
-use Rattle.std.specs.Prelude.{◌+◌, ◌*◌, ◌≤◌, false}
+use Rattle.std.specs.Prelude.{◌+◌, ◌*◌, ◌≤◌}
 use Rattle.parser_input.specs.Kinds.{COMMA, USE_TREE_LIST}
 use Rattle.parser_events.specs.Forest.{Expected, UnexpectedIn}
 use Rattle.rust_productions.specs.Looks.{tokens, spent}
@@ -7,6 +7,7 @@ use Rattle.rust_grammar.specs.Notation.{◌or◌, ◌▸◌, ◌*, next, one_of,
 use Rattle.rust_grammar.specs.Words.{'comma', 'r_curly'}
 use Rattle.rust_grammar.specs.Calls.{UseTree}
 use Rattle.rust_grammar.specs.Rule.{Left, Both, Not, Nothing, One, Say, Skip, When, Unless}
+use Rattle.rust_productions.specs.Reads.{Off}
 use Rattle.rust_productions.specs.Turns.{TurnsFrom}
 use Rattle.rust_productions.proofs.grammar.use_trees.+use_trees.Given as goal
 
@@ -38,7 +39,7 @@ abbrev pub decreases-use_turns : goal.decreases-use_turns
 decreases-use_turns l = 64 * tokens l.p.now + 6
 
 abbrev pub invariant-use_turns-turns : goal.invariant-use_turns-turns
-invariant-use_turns-turns l = TurnsFrom false (Unless (until 'r_curly') (UseTree ▸ (One 'comma' or When (next 'r_curly') Nothing or Say (Expected COMMA)) or When (Both Left (Not (one_of 0 stops))) (Skip (UnexpectedIn USE_TREE_LIST)))) l.initial.p l.p × (tokens l.p ≤ tokens l.initial.p) × (spent l.p ≤ spent l.initial.p)
+invariant-use_turns-turns l = TurnsFrom Off (Unless (until 'r_curly') (UseTree ▸ (One 'comma' or When (next 'r_curly') Nothing or Say (Expected COMMA)) or When (Both Left (Not (one_of 0 stops))) (Skip (UnexpectedIn USE_TREE_LIST)))) l.initial.p l.p × (tokens l.p ≤ tokens l.initial.p) × (spent l.p ≤ spent l.initial.p)
 
 abbrev pub decreases-use_turns-turns : goal.decreases-use_turns-turns
 decreases-use_turns-turns l = tokens l.p

@@ -29,13 +29,13 @@ returns-clause-finished c =
     let node : IsNode m root.place.root = subst (IsNode m) (sym (ap (λ e. e.place.root) is)) made.green in
     let says : Say c.deref.result.now m = subst (λ ps. Say ps m) (sym c.deref.ensures.value) made.says in
     let came_from = c.in_ok-origins.ensures in
-    let put : ArePutMarks m root c.deref-4.result.now = record { top = top; tree = node; marks = c.deref-4.ensures.value ∙ came_from.put m says } in
-    let came : AreOrigins m root (map element_of c.deref-3.result.now) = record { top = top; tree = node; origins = ap (map element_of) c.deref-3.ensures.value ∙ came_from.elements m says } in
+    let put : ArePutMarks m root c.in_ok-origins.origins.put.items = record { top = top; tree = node; marks = came_from.put m says } in
+    let came : AreOrigins m root (map element_of c.in_ok-origins.origins.elements.items) = record { top = top; tree = node; origins = came_from.elements m says } in
     let edit : Edit = record {
       old_root = own.root;
       new_root = root;
       changed = map bounds c.in_ok-green.field-0.changed.items;
-      origins = map element_of c.in_ok-origins.field-0.elements.items;
+      origins = map element_of c.in_ok-origins.origins.elements.items;
       changed_elements = map element_of c.in-Ok.told.changed_elements.items;
       annotated = map inside.annotated c.in-Ok.told.annotated.items;
     } in

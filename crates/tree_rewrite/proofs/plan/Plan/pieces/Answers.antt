@@ -25,9 +25,7 @@ returns-clause-says c =
     let order = any_order e js os c.self.invariant.0 c.self.invariant.1 (ap (λ p. is_order p.jobs os) c.self.view_is ∙ c.requires) in
     let on = c.in_ok-numbers.ensures made given in
     let whole = ap (reading_of (laid on.0 None)) same ∙ ap (λ x. reading_of x e) on.2 ∙ order ∙ ap (λ p. rewritten p.top (reverse p.jobs)) c.self.view_is in
-    let here = subst (λ l. HaveGiven l c.deref-5.result.now c.deref-6.result.now on.0) (c.deref-2.ensures.value ∙ sym c.deref-4.ensures.value)
-    (subst (λ l. HaveGiven c.deref-2.result.now l c.deref-6.result.now on.0) (c.deref-3.ensures.value ∙ sym c.deref-5.ensures.value)
-    (subst (λ l. HaveGiven c.deref-2.result.now c.deref-3.result.now l on.0) (sym c.deref-6.ensures.value) on.1)) in
+    let here = subst (λ l. HaveGiven c.deref-2.result.now c.deref-3.result.now l on.0) (sym c.deref-4.ensures.value) on.1 in
     adds-from _ _ _ _ (rewritten c.args.self.now.top (reverse c.args.self.now.jobs)) c.new-pieces.ensures.items whole (c.in_ok-push_standing.ensures on.0 here)
 
 pub returns-clause-node : goal.returns-clause-node

@@ -13,7 +13,7 @@ use Rattle.tree_rewrite.proofs.SheetLemmas.{none_given, adds-same}
 use Rattle.tree_rewrite.proofs.FillLemmas.{child-agree, child-whole}
 use Rattle.tree_rewrite.proofs.FillingLemmas.{lead_by, added-more}
 use Rattle.tree_rewrite.proofs.PathLemmas.{reverse-last}
-use Rattle.tree_rewrite.proofs.fill.Overlay.push_child.Goals as goal
+use Rattle.tree_rewrite.proofs.overlay.Overlay.push_child.Goals as goal
 
 pub returns-then-is_empty-clause-terms : goal.returns-then-is_empty-clause-terms
 returns-then-is_empty-clause-terms c = λ gs e ls s t h at lead.

@@ -4,7 +4,7 @@ use Rattle.rowan.specs.Around.{children}
 use Rattle.syntax_tree.specs.Handle.{with_cursor}
 use Rattle.tree_rewrite.specs.Marked.{origin_at}
 use Rattle.tree_rewrite.proofs.FillLemmas.{all_left, left_count}
-use Rattle.tree_rewrite.proofs.fill.Overlay.open_node.Goals as goal
+use Rattle.tree_rewrite.proofs.overlay.Overlay.open_node.Goals as goal
 
 pub returns-clause-new : goal.returns-clause-new
 returns-clause-new c = λ e w at.

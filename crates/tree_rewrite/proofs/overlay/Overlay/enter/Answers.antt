@@ -14,7 +14,7 @@ use Rattle.tree_rewrite.specs.declared.piece.Piece.TheVariants.{Close}
 use Rattle.tree_rewrite.proofs.SheetLemmas.{adds-same, adds-join, added-nothing}
 use Rattle.tree_rewrite.proofs.FillLemmas.{none_of, standing-whole, standing-token}
 use Rattle.tree_rewrite.proofs.FillingLemmas.{lead_by, open-node, new-node}
-use Rattle.tree_rewrite.proofs.fill.Overlay.enter.Goals as goal
+use Rattle.tree_rewrite.proofs.overlay.Overlay.enter.Goals as goal
 
 pub returns-then-not-is_touched-clause-terms : goal.returns-then-not-is_touched-clause-terms
 returns-then-not-is_touched-clause-terms c = λ gs e ls s t h at lead.

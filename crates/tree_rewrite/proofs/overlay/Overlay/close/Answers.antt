@@ -5,7 +5,7 @@ use Rattle.tree_rewrite.specs.Fill.{at_gap}
 use Rattle.tree_rewrite.specs.Below.{lists_of}
 use Rattle.tree_rewrite.proofs.SheetLemmas.{adds-same}
 use Rattle.tree_rewrite.proofs.FillingLemmas.{closes}
-use Rattle.tree_rewrite.proofs.fill.Overlay.close.Goals as goal
+use Rattle.tree_rewrite.proofs.overlay.Overlay.close.Goals as goal
 
 pub returns-clause-terms : goal.returns-clause-terms
 returns-clause-terms c = λ gs h.

@@ -13,7 +13,7 @@ use Rattle.tree_rewrite.proofs.SheetLemmas.{join-assoc}
 use Rattle.tree_rewrite.proofs.FillLemmas.{next_child, none_left, given, on_ok}
 use Rattle.tree_rewrite.proofs.FillingLemmas.{added-more, on_ok_both}
 use Rattle.tree_rewrite.proofs.PathLemmas.{reverse-last}
-use Rattle.tree_rewrite.proofs.fill.Overlay.step.Goals as goal
+use Rattle.tree_rewrite.proofs.overlay.Overlay.step.Goals as goal
 
 pub returns-in_default-clause-terms : goal.returns-in_default-clause-terms
 returns-in_default-clause-terms c = λ e s t lead.

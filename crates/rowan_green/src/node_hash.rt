@@ -1,0 +1,39 @@
+//! Hashes of children, without a walk over what lies below them.
+ghost use Rattle.std.specs.Prelude.{◌≡◌, fold};
+ghost use Rattle.std.specs.Option.{option_copied};
+ghost use Rattle.rowan_green.specs.Hashing.{token_fed, child_fed};
+
+use crate::element::GreenElement;
+use crate::token::GreenToken;
+use crate::utility_types::NodeOrToken;
+use std::hash::{Hash, Hasher};
+
+/// The most bytes of a token's text that a hash reads.
+const MOST_TEXT: usize = 64;
+
+/// Hashes a child: the kind and the length of a node, and a token as [`hash_token`] does.
+pub(crate) fn hash_child<H: Hasher>(child: Option<&GreenElement>, state: &mut H)
+    ensures { state.new ≡ fold H.write state.old (child_fed (option_copied child.entry)) }
+{
+    match child {
+        None => {}
+        Some(NodeOrToken::Node(node)) => {
+            node.kind().0.hash(state);
+            node.text_len().0.hash(state);
+        }
+        Some(NodeOrToken::Token(token)) => hash_token(token, state),
+    }
+}
+
+/// Hashes a token: the kind, and the text if it has at most [`MOST_TEXT`] bytes, else the length.
+fn hash_token<H: Hasher>(token: &GreenToken, state: &mut H)
+    ensures { state.new ≡ fold H.write state.old (token_fed token.now) }
+{
+    token.kind().0.hash(state);
+    let text = token.text();
+    if text.len() <= MOST_TEXT {
+        text.hash(state);
+    } else {
+        token.text_len().0.hash(state);
+    }
+}
