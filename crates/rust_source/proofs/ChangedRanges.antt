@@ -1,17 +1,12 @@
 -- Texts that agree outside of changed ranges.
-use Rattle.std.proofs.Common.{◌≡◌, ℕ, ◌+◌, ◌-◌, ◌≤◌, true, false, Bool, reverse, refl, if◌then◌else◌, List, [], ◌∷◌, ◌++◌, map, take, drop, slice_range, take-append-drop, append_assoc, sym, ap, ◌∙◌, arith}
-use Rattle.std.proofs.lemmas.List.{drop-take, drop-drop, take-take, reverse-append}
+use Rattle.std.proofs.Common.{◌≡◌, ℕ, ◌+◌, ◌-◌, ◌≤◌, true, Bool, if◌then◌else◌, Result, Ok, Err, List, [], ◌∷◌, ◌++◌, map, take, drop, slice_range, take-append-drop, append_assoc, sym, ap, ◌∙◌, arith}
+use Rattle.std.proofs.lemmas.List.{drop-take, drop-drop, take-take}
+use Rattle.std.specs.Prelude.{IfOk}
 use Rattle.std.specs.Str.{IsCharBoundary}
 use Rattle.rust_document.specs.Edit.{can_edit}
 use Rattle.rust_document.proofs.Boundaries.{boundary-to, editable}
-use Rattle.rust_source.specs.ChangedRanges.{ahead, between, bounds, bytes_of, changes_with, if_any, standing, standing_at, standing_in, stays, AreSame, AgreeBetween, Agrees, IsMoved, CanKeep, Standing}
-use Rattle.rowan.specs.Place.{start_of, end_of}
-use Rattle.syntax_tree.specs.Handle.{element_of}
-use Rattle.syntax_tree.specs.declared.element.SyntaxElement.{SyntaxElement}
-use Rattle.tree_rewrite.specs.declared.piece.Piece.{Piece}
-use Rattle.tree_rewrite.specs.declared.piece.Piece.TheVariants.{Whole}
+use Rattle.rust_source.specs.ChangedRanges.{ahead, between, bounds, if_any, stays, AreSame, AgreeBetween, Agrees, IsMoved, CanKeep, Standing}
 use Rattle.rust_source.specs.declared.changed_ranges.ChangedRange.{ChangedRange}
-use Rattle.rust_source.specs.declared.changed_ranges.Walk.{Walk}
 use Rattle.rust_source.specs.declared.changed_ranges.Agreement.{Agreement}
 
 take-plus : (n m : ℕ) (xs : List ℕ) → take (n + m) xs ≡ take n xs ++ take m (drop n xs)
@@ -65,12 +60,12 @@ changed before after from at (d ∷ cs) c agrees first second =
     (agrees.0, (agrees.1.0, (agrees.1.1.0, changed before after d.before.end.0 d.after.end.0 cs c agrees.1.1.1 first second)))
 
 -- a range that is kept, behind what was skipped
-pub kept : (a b : Agreement) (start end place to stop : ℕ) → CanKeep a start end place → Agrees b → IsMoved a b start place → start ≤ end → to ≡ end → stop ≡ place + (end - start)
+pub kept : (a b : Agreement) (s : Standing) (to stop : ℕ) → CanKeep a s → Agrees b → IsMoved a b s.start s.place → s.start ≤ s.end → s.place ≤ s.stop → to ≡ s.end → stop ≡ s.stop
     → Agrees (record { before = b.before; after = b.after; ranges = b.ranges; before_end = to; after_end = stop })
-kept a b start end place to stop keeps agrees moved ordered is_to is_stop = record {
+kept a b s to stop keeps agrees moved ordered ordered_after is_to is_stop = record {
   ranges = extended b.before.now b.after.now 0 0 b.ranges.items b.before_end b.after_end to stop agrees.ranges
       (rw (moved.before, moved.after, moved.before_end, moved.after_end, is_to, is_stop)
-      (record { ordered_before = ordered; ordered_after = omega arith; same = keeps.same }));
+      (record { ordered_before = ordered; ordered_after = ordered_after; same = keeps.same }));
   before_boundary = rw (moved.before, is_to) keeps.before_end;
   after_boundary = rw (moved.after, is_stop) keeps.after_end;
 }
@@ -87,40 +82,18 @@ skipped a c agrees is_start is_at to end =
     (bounded a.before.now c.before.start.0 c.before.end.0 c.before.ordered (rw is_start agrees.before_boundary) to)
     (bounded a.after.now c.after.start.0 c.after.end.0 c.after.ordered (rw is_at agrees.after_boundary) end)
 
--- an element that stays, in front of others
-pub kept-ahead : (a b : Agreement) (start end place to stop : ℕ) (ss : List Standing) → stays a.before.now a.after.now a.before_end a.after_end (standing_in start end place) ≡ true → IsMoved a b start place
-    → to ≡ end → stop ≡ place + (end - start) → map bounds b.ranges.items ++ between b.before.now b.after.now to stop ss ≡ ahead a (standing_in start end place ∷ ss)
-kept-ahead a b start end place to stop ss is moved is_to is_stop =
+-- tokens that stay, in front of others
+pub kept-ahead : (a b : Agreement) (s : Standing) (to stop : ℕ) (ss : List Standing) → stays a.before.now a.after.now a.before_end a.after_end s ≡ true → IsMoved a b s.start s.place
+    → to ≡ s.end → stop ≡ s.stop → map bounds b.ranges.items ++ between b.before.now b.after.now to stop ss ≡ ahead a (s ∷ ss)
+kept-ahead a b s to stop ss is moved is_to is_stop =
     let told = map bounds a.ranges.items in
-    let gap = if_any a.before_end start a.after_end place in
-    let rest = between a.before.now a.after.now end (place + (end - start)) ss in
+    let gap = if_any a.before_end s.start a.after_end s.place in
+    let rest = between a.before.now a.after.now s.end s.stop ss in
     rw (moved.before, moved.after, is_to, is_stop) (ap (λ l. l ++ rest) moved.ranges
     ∙ append_assoc told gap rest
     ∙ sym (ap (λ (t : Bool). told ++ (if t then gap ++ rest else between a.before.now a.after.now a.before_end a.after_end ss)) is))
 
--- ---- piece by piece
-
-bytes-between : (e : SyntaxElement) (start end : ℕ) → start ≡ start_of (element_of e).place → end ≡ end_of (element_of e).place → end - start ≡ bytes_of e
-bytes-between e start end is_start is_end = omega (arith, is_start, is_end)
-
-same-standing : (e : SyntaxElement) (start end place : ℕ) → start ≡ start_of (element_of e).place → end ≡ end_of (element_of e).place → standing_in start end place ≡ standing_at place e
-same-standing e start end place is_start is_end = λ i. record { start = is_start i; end = is_end i; place = place; stop = place + bytes-between e start end is_start is_end i }
-
--- an element that no change inserted
-pub passed : (w u : Walk) (e : SyntaxElement) (start end : ℕ) (ps : List Piece) → start ≡ start_of (element_of e).place → end ≡ end_of (element_of e).place → w.is_inserted ≡ false
-    → ((ss : List Standing) → ahead u.agreement ss ≡ ahead w.agreement (standing_in start end w.place ∷ ss)) → u.is_inserted ≡ w.is_inserted → u.around.items ≡ w.around.items
-    → u.place ≡ w.place + (end - start) → changes_with u ps ≡ changes_with w (Whole e ∷ ps)
-passed w u e start end ps is_start is_end inserted next is around place =
-    let rest = standing false (reverse w.around.items) (w.place + bytes_of e) ps in
-    rw (is, inserted, around, place, bytes-between e start end is_start is_end)
-    (next rest ∙ ap (λ s. ahead w.agreement (s ∷ rest)) (same-standing e start end w.place is_start is_end))
-
--- an inserted one
-pub passed-over : (w u : Walk) (e : SyntaxElement) (start end : ℕ) (ps : List Piece) → start ≡ start_of (element_of e).place → end ≡ end_of (element_of e).place → w.is_inserted ≡ true
-    → u.agreement ≡ w.agreement → u.is_inserted ≡ w.is_inserted → u.around.items ≡ w.around.items → u.place ≡ w.place + (end - start) → changes_with u ps ≡ changes_with w (Whole e ∷ ps)
-passed-over w u e start end ps is_start is_end inserted next is around place = rw (is, inserted, around, place, bytes-between e start end is_start is_end, next) refl
-
--- the start of a node or a group
-pub entered : (w u : Walk) (inserted : Bool) (ps : List Piece) → u.agreement ≡ w.agreement → u.place ≡ w.place → u.is_inserted ≡ inserted → u.around.items ≡ w.around.items ++ w.is_inserted ∷ []
-    → changes_with u ps ≡ ahead w.agreement (standing inserted (w.is_inserted ∷ reverse w.around.items) w.place ps)
-entered w u inserted ps same place is around = rw (same, place, is, around, reverse-append w.around.items (w.is_inserted ∷ [])) refl
+-- a fact about the returned value, from another
+pub if-ok : {A E : Type 0} (r : Result A E) (P Q : A → Type 0) → ((v : A) → P v → Q v) → IfOk r P → IfOk r Q
+if-ok (Ok v) P Q f h = f v h
+if-ok (Err e) P Q f h = h

@@ -7,7 +7,7 @@ ghost use Rattle.tree_rewrite.specs.Pieces.{Say};
 ghost use Rattle.tree_rewrite.specs.Tracking.{bytes_by};
 ghost use Rattle.tree_rewrite.specs.declared.piece.Piece.TheVariants.{Whole, Close};
 ghost use Rattle.rust_document.specs.Edit.{can_edit};
-ghost use Rattle.rust_source.specs.ChangedRanges.{ahead, between, bounds, bytes_of, changes_with, standing_in, stays, AreBetween, AreChanges, Agrees, CanKeep, CanWalk, HasWalked, IsMoved, Standing};
+ghost use Rattle.rust_source.specs.ChangedRanges.{ahead, between, bounds, bytes_of, changes_with, follows, in_a_group, in_a_node, standing_of, stays, up_to, AreChanges, AreRewritten, Agrees, CanKeep, CanWalk, HasWalked, IsMoved, Standing};
 
 use rowan_green::{TextRange, TextSize};
 use std::alloc::{AllocError, Global};
@@ -20,6 +20,33 @@ use tree_rewrite::plan::Rewritten;
 pub struct ChangedRange {
     pub before: TextRange,
     pub after: TextRange,
+}
+
+/// A range of a text, and the range of the new text that has its tokens: no change inserted them.
+#[derive(Clone, Copy)]
+struct StandingRange {
+    before: TextRange,
+    after: TextRange,
+}
+
+impl StandingRange {
+    /// Returns `true` if `next` comes next in both texts.
+    fn is_followed_by(self, next: StandingRange) -> bool
+        ensures { result ≡ follows (standing_of self) (standing_of next) }
+    {
+        next.before.start().0 == self.before.end().0 && next.after.start().0 == self.after.end().0
+    }
+
+    /// Returns the range up to the end of `next`, which comes next in both texts.
+    fn up_to(self, next: StandingRange) -> StandingRange
+        requires { IsTrue (follows (standing_of self) (standing_of next)) }
+        ensures { standing_of result ≡ up_to (standing_of self) (standing_of next) }
+    {
+        StandingRange {
+            before: TextRange::new(self.before.start(), next.before.end()),
+            after: TextRange::new(self.after.start(), next.after.end()),
+        }
+    }
 }
 
 /// Two texts, their changed ranges up to a place in each, and these places. Outside of the ranges
@@ -82,38 +109,37 @@ impl<'a> Agreement<'a> {
         Ok(())
     }
 
-    /// Returns `true` if `range` of the text before comes behind the ends, and the text after has the
-    /// same bytes from `place` on.
-    fn can_keep(&self, range: TextRange, place: u32) -> bool
-        ensures keeps { IsTrue result → CanKeep self.now range.start.0 range.end.0 place }
+    /// Returns `true` if both texts have the same bytes at `range`, behind the ends.
+    fn can_keep(&self, range: StandingRange) -> bool
+        ensures keeps { IsTrue result → CanKeep self.now (standing_of range) }
         ensures stays { result
             ≡ stays self.now.before.now self.now.after.now self.now.before_end self.now.after_end
-            (standing_in range.start.0 range.end.0 place) }
+            (standing_of range) }
     {
-        let start = usize::from(range.start());
-        let end = usize::from(range.end());
-        let from = place as usize;
-        let to = from + (end - start);
-        if range.start().0 < self.before_end || place < self.after_end {
+        let start = usize::from(range.before.start());
+        let end = usize::from(range.before.end());
+        let place = usize::from(range.after.start());
+        let stop = usize::from(range.after.end());
+        if range.before.start().0 < self.before_end || range.after.start().0 < self.after_end {
             return false;
         }
-        if !can_edit(self.before, start, end) || !can_edit(self.after, from, to) {
+        if !can_edit(self.before, start, end) || !can_edit(self.after, place, stop) {
             return false;
         }
-        self.before.as_bytes()[start..end] == self.after.as_bytes()[from..to]
+        self.before.as_bytes()[start..end] == self.after.as_bytes()[place..stop]
     }
 
-    /// Records that `range` of the text before stands at `place` of the text after, if it does.
-    fn keep(&mut self, range: TextRange, place: u32) -> Result<(), AllocError>
+    /// Records that both texts have the same bytes at `range`, if they do.
+    fn keep(&mut self, range: StandingRange) -> Result<(), AllocError>
         requires { CanWalk self.old }
         ensures walked { OnOk result (HasWalked self.old self.new) }
         ensures ahead { (ss : List Standing) → OnOk result (ahead self.new ss
-            ≡ ahead self.old (standing_in range.start.0 range.end.0 place ∷ ss)) }
+            ≡ ahead self.old (standing_of range ∷ ss)) }
     {
-        if self.can_keep(range, place) {
-            self.skip_to(range.start().0, place)?;
-            self.before_end = range.end().0;
-            self.after_end = place + range.len().0;
+        if self.can_keep(range) {
+            self.skip_to(range.before.start().0, range.after.start().0)?;
+            self.before_end = range.before.end().0;
+            self.after_end = range.after.end().0;
         }
         Ok(())
     }
@@ -133,14 +159,51 @@ impl<'a> Agreement<'a> {
     }
 }
 
-/// The agreement of a text with that of a rewritten tree, as the pieces of the tree come: the place
-/// in the new text, and whether the pieces are in a group of inserted elements.
+/// Where the next piece is: below an inserted element or not, and directly in a group of inserted
+/// elements or not.
+#[derive(Clone, Copy)]
+struct Level {
+    is_inserted: bool,
+    is_in_group: bool,
+}
+
+impl Level {
+    /// Returns the level of the children of a node.
+    fn in_a_node(self) -> Level
+        ensures { result ≡ in_a_node self }
+    {
+        Level {
+            is_inserted: self.is_inserted,
+            is_in_group: false,
+        }
+    }
+
+    /// Returns the level of the elements of a group with this flag.
+    fn in_a_group(self, is_top: bool) -> Level
+        ensures { result ≡ in_a_group is_top self }
+    {
+        let is_inserted = if self.is_in_group {
+            self.is_inserted
+        } else {
+            self.is_inserted || is_top
+        };
+        Level {
+            is_inserted,
+            is_in_group: true,
+        }
+    }
+}
+
+/// The agreement of a text with that of a rewritten tree, as the pieces of the tree come: the last
+/// range of elements that no change inserted, which the next one may extend; the place in the new
+/// text; the level of the next piece, and the levels around it.
 #[derive(Drop)]
 struct Walk<'a> {
     agreement: Agreement<'a>,
+    run: StandingRange,
     place: u32,
-    is_inserted: bool,
-    around: Vec<bool>,
+    level: Level,
+    around: Vec<Level>,
 }
 
 impl Walk<'_> {
@@ -154,25 +217,35 @@ impl Walk<'_> {
         ensures place { OnOk result (self.new.place ≡ self.old.place + bytes_of element.now) }
     {
         let range = element.text_range();
-        if self.is_inserted {
-            self.place += range.len().0;
+        let place = self.place;
+        self.place += range.len().0;
+        if self.level.is_inserted || range.is_empty() {
             return Ok(());
         }
-        self.agreement.keep(range, self.place)?;
-        self.place += range.len().0;
+        let next = StandingRange {
+            before: range,
+            after: TextRange::new(TextSize::new(place), TextSize::new(self.place)),
+        };
+        if self.run.is_followed_by(next) {
+            self.run = self.run.up_to(next);
+            return Ok(());
+        }
+        self.agreement.keep(self.run)?;
+        self.run = next;
         Ok(())
     }
 
-    /// Enters a node or a group of inserted elements.
-    fn enter(&mut self, is_group: bool) -> Result<(), AllocError>
+    /// Enters a node or a group of inserted elements: what is in it has this level.
+    fn enter(&mut self, level: Level) -> Result<(), AllocError>
         ensures agreement { OnOk result (self.new.agreement ≡ self.old.agreement) }
+        ensures run { OnOk result (self.new.run ≡ self.old.run) }
         ensures place { OnOk result (self.new.place ≡ self.old.place) }
-        ensures inserted { OnOk result (self.new.is_inserted ≡ (self.old.is_inserted || is_group)) }
+        ensures level { OnOk result (self.new.level ≡ level) }
         ensures around { OnOk result (self.new.around.items
-            ≡ self.old.around.items ++ self.old.is_inserted ∷ []) }
+            ≡ self.old.around.items ++ self.old.level ∷ []) }
     {
-        self.around.push(self.is_inserted)?;
-        self.is_inserted = self.is_inserted || is_group;
+        self.around.push(self.level)?;
+        self.level = level;
         Ok(())
     }
 
@@ -183,8 +256,8 @@ impl Walk<'_> {
         ensures ahead { (ps : List Piece) → changes_with self.new ps
             ≡ changes_with self.old (Close ∷ ps) }
     {
-        if let Some(is_inserted) = self.around.pop() {
-            self.is_inserted = is_inserted;
+        if let Some(level) = self.around.pop() {
+            self.level = level;
         }
     }
 
@@ -199,8 +272,8 @@ impl Walk<'_> {
     {
         match piece {
             Piece::Whole(element) => self.pass(element)?,
-            Piece::Open(_) => self.enter(false)?,
-            Piece::Group(_) => self.enter(true)?,
+            Piece::Open(_) => self.enter(self.level.in_a_node())?,
+            Piece::Group(is_top) => self.enter(self.level.in_a_group(*is_top))?,
             Piece::Close => self.leave(),
         }
         Ok(())
@@ -220,20 +293,34 @@ pub(crate) fn changed_ranges(
     requires after { length after.now < 2 ^ 32 }
     requires made { (m : Marked) × (Say made.now.pieces.items m × IsNode m made.now.green) }
     ensures changes { IfOk result (λ v. AreChanges before.now after.now v.items) }
-    ensures between { IfOk result (λ v.
-        AreBetween before.now after.now made.now.pieces.items v.items) }
+    ensures rewritten { (m : Marked) → Say made.now.pieces.items m → IfOk result (λ v.
+        AreRewritten before.now after.now m v.items) }
 {
-    // The pieces have as many bytes as the tree, which a range of its text can tell.
+    // The pieces have the bytes of the tree, which are fewer than 2^32: this length says so.
     let _bytes = made.green.text_len();
+    let none = TextRange::new(TextSize::new(0), TextSize::new(0));
+    let agreement = Agreement::new(alloc, before, after);
     let mut walk = Walk {
-        agreement: Agreement::new(alloc, before, after),
+        agreement,
+        run: StandingRange {
+            before: none,
+            after: none,
+        },
         place: 0,
-        is_inserted: false,
+        level: Level {
+            is_inserted: false,
+            is_in_group: false,
+        },
         around: Vec::new(alloc),
     };
     for piece in &made.pieces {
         walk.step(piece)?;
     }
-    let Walk { agreement, .. } = walk;
+    let Walk {
+        mut agreement,
+        run,
+        ..
+    } = walk;
+    agreement.keep(run)?;
     agreement.finish()
 }

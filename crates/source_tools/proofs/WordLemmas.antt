@@ -7,7 +7,7 @@ use Rattle.parser_events.specs.declared.message.Message.TheVariants as messages
 use Rattle.syntax_tree.specs.Language.{kind_of_raw-raw_of}
 use Rattle.rust_document.specs.Seen.{fault_of, words_of}
 use Rattle.rust_document.specs.declared.syntax_error.SyntaxMessage.{SyntaxMessage}
-use Rattle.rust_document.specs.declared.syntax_error.SyntaxMessage.TheVariants.{Parser, Lexer}
+use Rattle.rust_document.specs.declared.syntax_error.SyntaxMessage.TheVariants.{Parser}
 use Rattle.source_tools.specs.Words.{kind_name, words}
 
 pub name-of-raw : (kind : SyntaxKind) → kind_name (raw_of kind) ≡ name_of kind
@@ -17,13 +17,4 @@ name-of-raw kind = ap name_of (kind_of_raw-raw_of kind)
 pub words-are : (m : SyntaxMessage) → words_of m ≡ words (fault_of m)
 words-are (Parser (messages.Expected kind)) = ap (λ name. codes "expected " ++ name) (sym (name-of-raw kind))
 words-are (Parser (messages.UnexpectedIn kind)) = ap (λ name. codes "unexpected token in " ++ name) (sym (name-of-raw kind))
-words-are (Parser messages.ExpectedType) = refl
-words-are (Parser messages.ExpectedExpression) = refl
-words-are (Parser messages.ExpectedPattern) = refl
-words-are (Parser messages.ExpectedItem) = refl
-words-are (Parser messages.ExpectedStatement) = refl
-words-are (Parser messages.ExpectedMatchArm) = refl
-words-are (Parser messages.ExpectedField) = refl
-words-are (Parser messages.UnexpectedTokens) = refl
-words-are (Parser messages.IllegalFloat) = refl
-words-are (Lexer said) = refl
+words-are m = refl

@@ -1,8 +1,12 @@
 use Rattle.std.proofs.Common.{◌≡◌, ◌∙◌, ◌+◌, ◌++◌, ◌∷◌, [], List, take, ap, sym, subst}
 use Rattle.std.proofs.lemmas.List.{take_more, take_all}
 use Rattle.std.specs.Option.{option_to_list}
+use Rattle.file_target.specs.Files.{Files}
+use Rattle.source_rewrites.specs.Rewrites.{IsRewritableFile, RefusesFile, changes_of}
 use Rattle.source_rewrites.specs.declared.rewrite.Rewrite.{Rewrite}
-use Rattle.source_rewrites.proofs.RewriteLemmas.{IfPlanned, planned-more, plan-made, plan-memory, plan-refused}
+use Rattle.source_rewrites.specs.declared.rewrite.RewriteFault.{RewriteFault}
+use Rattle.source_tools.proofs.PlanLemmas.{IfPlanned, planned-more, plan-memory, plan-refused}
+use Rattle.source_rewrites.proofs.RewriteLemmas.{memory-file}
 use Rattle.source_rewrites.proofs.plan.plan_rewrites.Goals as goal
 
 pub loop-index-preserved : goal.loop-index-preserved
@@ -14,22 +18,24 @@ loop-index-preserved g c =
     let more : take (c.loop-index.index + 1) c.args.rewrites.now ≡ done ++ s ∷ [] =
     take_more c.args.rewrites.now c.loop-index.index s c.loop-index-test.true ∙ ap (λ (x : Rewrite). done ++ x ∷ []) (sym c.index-rewrites-index.is) in
     rw c.in-Ok-push_change.ensures.pushed
-    (subst (λ (ss : List Rewrite). IfPlanned n files ss (c.loop-index.changes.items ++ option_to_list c.in-Ok.change)) (sym more)
-    (planned-more n files done s c.loop-index.changes.items c.rewrite_file.result c.in-Ok.change c.in-Ok.is c.rewrite_file.ensures c.loop-index.invariant))
+    (subst (λ (ss : List Rewrite). IfPlanned (IsRewritableFile n) (changes_of n) files ss (c.loop-index.changes.items ++ option_to_list c.in-Ok.change)) (sym more)
+    (planned-more (IsRewritableFile n) (changes_of n) (RefusesFile n) files done s c.loop-index.changes.items c.rewrite_file.result c.in-Ok.change c.in-Ok.is c.rewrite_file.ensures c.loop-index.invariant))
 
 pub returns-in-Err : goal.returns-in-Err
 returns-in-Err g c =
-    plan-refused c.args.rule c.args.rewrites.now c.loop-index.index c.index-rewrites-index.result c.loop-index-test.true c.index-rewrites-index.is c.in-Err.fault
+    let n = c.args.rule in
+    plan-refused (IsRewritableFile n) (changes_of n) (RefusesFile n) c.args.rewrites.now c.loop-index.index c.index-rewrites-index.result c.loop-index-test.true c.index-rewrites-index.is c.in-Err.fault
     (g.T.Target.files c.args.target.now) c.rewrite_file.result c.in-Err.is c.rewrite_file.ensures
 
 pub returns-in-Err-push_change : goal.returns-in-Err-push_change
 returns-in-Err-push_change g c =
-    plan-memory c.args.rule c.args.rewrites.now c.loop-index.index c.index-rewrites-index.result c.loop-index-test.true c.index-rewrites-index.is c.in-Err-push_change.fault
-    (g.T.Target.files c.args.target.now) c.rewrite_file.result c.in-Ok.change c.in-Ok.is c.in-Err-push_change.ensures.memory c.rewrite_file.ensures
+    let n = c.args.rule in
+    let s = c.index-rewrites-index.result in
+    plan-memory (IsRewritableFile n) (changes_of n) (RefusesFile n) c.args.rewrites.now c.loop-index.index s c.loop-index-test.true c.index-rewrites-index.is c.in-Err-push_change.fault
+    (g.T.Target.files c.args.target.now) c.rewrite_file.result c.in-Ok.change c.in-Ok.is
+    (λ (files : Files) (can : IsRewritableFile n files s). subst (λ (e : RewriteFault). RefusesFile n files s e) (sym c.in-Err-push_change.ensures.memory) (memory-file n s files can.0 can.1)) c.rewrite_file.ensures
 
 pub returns : goal.returns
 returns g c =
     let n = c.args.rule in
-    let files = g.T.Target.files c.args.target.now in
-    plan-made n files c.args.rewrites.now c.loop-index.changes
-    (subst (λ (ss : List Rewrite). IfPlanned n files ss c.loop-index.changes.items) (take_all c.loop-index.index c.args.rewrites.now c.loop-index-test.false) c.loop-index.invariant)
+    subst (λ (ss : List Rewrite). IfPlanned (IsRewritableFile n) (changes_of n) (g.T.Target.files c.args.target.now) ss c.loop-index.changes.items) (take_all c.loop-index.index c.args.rewrites.now c.loop-index-test.false) c.loop-index.invariant

@@ -1,8 +1,12 @@
 use Rattle.std.proofs.Common.{◌≡◌, ◌∙◌, ◌+◌, ◌++◌, ◌∷◌, [], List, take, ap, sym, subst}
 use Rattle.std.proofs.lemmas.List.{take_more, take_all}
 use Rattle.std.specs.Option.{option_to_list}
+use Rattle.file_target.specs.Files.{Files}
+use Rattle.source_tools.specs.Renames.{IsRenamableFile, RefusesFile, changes_of}
 use Rattle.source_tools.specs.declared.source.Source.{Source}
-use Rattle.source_tools.proofs.RenameLemmas.{IfPlanned, planned-more, plan-made, plan-memory, plan-refused}
+use Rattle.source_tools.specs.declared.renaming.RenameFault.{RenameFault}
+use Rattle.source_tools.proofs.PlanLemmas.{IfPlanned, planned-more, plan-memory, plan-refused}
+use Rattle.source_tools.proofs.RenameLemmas.{memory-file}
 use Rattle.source_tools.proofs.plan.plan_renames.Goals as goal
 
 pub loop-index-preserved : goal.loop-index-preserved
@@ -14,22 +18,24 @@ loop-index-preserved g c =
     let more : take (c.loop-index.index + 1) c.args.sources.now ≡ done ++ s ∷ [] =
     take_more c.args.sources.now c.loop-index.index s c.loop-index-test.true ∙ ap (λ (x : Source). done ++ x ∷ []) (sym c.index-sources-index.is) in
     rw c.in-Ok-push_change.ensures.pushed
-    (subst (λ (ss : List Source). IfPlanned n files ss (c.loop-index.changes.items ++ option_to_list c.in-Ok.change)) (sym more)
-    (planned-more n files done s c.loop-index.changes.items c.rename_file.result c.in-Ok.change c.in-Ok.is c.rename_file.ensures c.loop-index.invariant))
+    (subst (λ (ss : List Source). IfPlanned (IsRenamableFile n) (changes_of n) files ss (c.loop-index.changes.items ++ option_to_list c.in-Ok.change)) (sym more)
+    (planned-more (IsRenamableFile n) (changes_of n) (RefusesFile n) files done s c.loop-index.changes.items c.rename_file.result c.in-Ok.change c.in-Ok.is c.rename_file.ensures c.loop-index.invariant))
 
 pub returns-in-Err : goal.returns-in-Err
 returns-in-Err g c =
-    plan-refused c.args.renaming.now c.args.sources.now c.loop-index.index c.index-sources-index.result c.loop-index-test.true c.index-sources-index.is c.in-Err.fault
+    let n = c.args.renaming.now in
+    plan-refused (IsRenamableFile n) (changes_of n) (RefusesFile n) c.args.sources.now c.loop-index.index c.index-sources-index.result c.loop-index-test.true c.index-sources-index.is c.in-Err.fault
     (g.T.Target.files c.args.target.now) c.rename_file.result c.in-Err.is c.rename_file.ensures
 
 pub returns-in-Err-push_change : goal.returns-in-Err-push_change
 returns-in-Err-push_change g c =
-    plan-memory c.args.renaming.now c.args.sources.now c.loop-index.index c.index-sources-index.result c.loop-index-test.true c.index-sources-index.is c.in-Err-push_change.fault
-    (g.T.Target.files c.args.target.now) c.rename_file.result c.in-Ok.change c.in-Ok.is c.in-Err-push_change.ensures.memory c.rename_file.ensures
+    let n = c.args.renaming.now in
+    let s = c.index-sources-index.result in
+    plan-memory (IsRenamableFile n) (changes_of n) (RefusesFile n) c.args.sources.now c.loop-index.index s c.loop-index-test.true c.index-sources-index.is c.in-Err-push_change.fault
+    (g.T.Target.files c.args.target.now) c.rename_file.result c.in-Ok.change c.in-Ok.is
+    (λ (files : Files) (can : IsRenamableFile n files s). subst (λ (e : RenameFault). RefusesFile n files s e) (sym c.in-Err-push_change.ensures.memory) (memory-file n s files can.0 can.1)) c.rename_file.ensures
 
 pub returns : goal.returns
 returns g c =
     let n = c.args.renaming.now in
-    let files = g.T.Target.files c.args.target.now in
-    plan-made n files c.args.sources.now c.loop-index.changes
-    (subst (λ (ss : List Source). IfPlanned n files ss c.loop-index.changes.items) (take_all c.loop-index.index c.args.sources.now c.loop-index-test.false) c.loop-index.invariant)
+    subst (λ (ss : List Source). IfPlanned (IsRenamableFile n) (changes_of n) (g.T.Target.files c.args.target.now) ss c.loop-index.changes.items) (take_all c.loop-index.index c.args.sources.now c.loop-index-test.false) c.loop-index.invariant
