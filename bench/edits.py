@@ -2,10 +2,14 @@
 """Measures commits of a built document_tool at n and at 2n, beside `open` of the same text. Prints a table.
 
     bench/edits.py [--less K] [--runs R] PROGRAM [ROW..]
+    bench/edits.py --calls [--less K] [--runs R] REWRITE_SPEED [ROW..]
 
 Each row of ROWS makes a text and the changes of one commit. The program runs with these, and again with no command, which opens the
 text alone: user time, the least of R runs (3), and the most memory of these, by wait4. A run counts only if its commit is accepted.
 --less divides all sizes, for builds that check what they do. ROW picks rows by the front of their names.
+
+With --calls the rows are those of CALLS, calls that no request asks for. The program is a built rewrite_speed, which is given n and
+the name of a work, and beside it `open`. It makes its text itself. A work that is refused ends with another status than 0.
 
 The ratio is that of the time at 2n to the time at n, in each the time of `open` taken off. A row may grow as n log n, which
 makes 2 (1 + 1 / log2 n); where each change names an element at a depth that grows with n, as the paths do (d n), which makes 4. A
@@ -13,8 +17,8 @@ quarter more is let pass, since lists that are in a cache at n may not be at 2n:
 machine. A row of n log n with a part that grows as n^2 goes past that if this part takes over a third of its time at n. Times below
 LEAST say nothing: the clock of user time is coarse. Memory, that of `open` taken off, may grow as the time may.
 
-Not measured here, since no request asks for it: `remove_attrs_and_docs` (its place takes the deletion of an attribute of each
-function), annotations, wraps by `map_node` with a change in each, `merge`, `==` of trees, `slice`, keys of hashes.
+Not measured here: `remove_attrs_and_docs` (its place takes the deletion of an attribute of each function), `==` of trees, keys of
+hashes.
 """
 import argparse
 import json
@@ -107,6 +111,15 @@ ROWS = {
     "no change in n structs": (800_000, "n log n", lambda n: (ITEM * n, [])),
 }
 
+# Rows of rewrite_speed: the n, what it may grow as, and the name of the work.
+CALLS = {
+    "n items annotated, finished": (50_000, "n log n", "annotations"),
+    "n items annotated, committed": (50_000, "n log n", "committed_annotations"),
+    "n items wrapped by a mapping, each renamed": (5_000, "n log n", "wraps"),
+    "n editors of one change, merged": (2_000, "n log n", "merges"),
+    "n items compared as slices of the text": (50_000, "n log n", "slices"),
+}
+
 
 def write_request(file, name, size, is_open):
     """Writes the request of a row. Another process does: a program's peak memory counts that of the process that starts it."""
@@ -121,11 +134,11 @@ def write_request(file, name, size, is_open):
         raise SystemExit(f"no request of {name}")
 
 
-def run(program, given):
-    """Runs the program once. Returns its user time in seconds, its peak memory in MB, and its first line."""
+def run(command, given):
+    """Runs a command, whose standard input is the file `given`, once. Returns its user time in seconds and its peak memory in MB."""
     with tempfile.TemporaryFile() as output:
         given.seek(0)
-        with subprocess.Popen([program], stdin=given, stdout=output, stderr=subprocess.DEVNULL) as ran:
+        with subprocess.Popen(command, stdin=given, stdout=output, stderr=subprocess.DEVNULL) as ran:
             _, status, used = os.wait4(ran.pid, 0)
             ran.returncode = os.waitstatus_to_exitcode(status)
         output.seek(0)
@@ -137,10 +150,14 @@ def run(program, given):
 
 
 def measure(program, name, size, is_open, runs):
-    """Returns the least user time and the most memory of a row's commit, or of `open` of its text alone."""
+    """Returns the least user time and the most memory of a row's commit or work, or of `open` of its text alone."""
+    command = [program]
     with tempfile.TemporaryFile() as given:
-        write_request(given, name, size, is_open)
-        times, sizes = zip(*(run(program, given) for _ in range(runs)))
+        if name in CALLS:
+            command += [str(size), "open" if is_open else CALLS[name][2]]
+        else:
+            write_request(given, name, size, is_open)
+        times, sizes = zip(*(run(command, given) for _ in range(runs)))
     return min(times), max(sizes)
 
 
@@ -150,7 +167,7 @@ def allowed(count, growth):
 
 
 def cells(name, count, growth, pairs):
-    """Returns the cells of a row. `pairs` are, at n and at 2n, time and memory of the commit and of `open`."""
+    """Returns the cells of a row. `pairs` are, at n and at 2n, time and memory of the commit or work and of `open`."""
     (small, opened), (large, twice) = pairs
     own = [max(0, whole[0] - alone[0]) for whole, alone in ((small, opened), (large, twice))]
     ratio = own[1] / own[0] if own[0] else 0
@@ -167,7 +184,7 @@ def cells(name, count, growth, pairs):
 
 def measure_row(program, name, less, runs):
     """Returns the cells of one row."""
-    count, growth, _ = ROWS[name]
+    count, growth, _ = {**ROWS, **CALLS}[name]
     count = max(2, count // less)
     pairs = []
     for size in (count, 2 * count):
@@ -178,6 +195,7 @@ def measure_row(program, name, less, runs):
 def main():
     """Measures the rows that are asked for. Returns whether one of them grows faster than it may."""
     parser = argparse.ArgumentParser(usage=__doc__, add_help=False, allow_abbrev=False)
+    parser.add_argument("--calls", action="store_true")
     parser.add_argument("--less", type=int, default=1)
     parser.add_argument("--runs", type=int, default=3)
     parser.add_argument("program")
@@ -186,7 +204,7 @@ def main():
     is_above = False
     print("| row | n | s at n | s at 2n | ratio | may be | `open`, s | MB at n, 2n (`open`) | grows |")
     print("|---|---|---|---|---|---|---|---|---|", flush=True)
-    for name in ROWS:
+    for name in CALLS if asked.calls else ROWS:
         if not asked.rows or name.startswith(tuple(asked.rows)):
             row = measure_row(asked.program, name, asked.less, asked.runs)
             is_above = is_above or row[-1].startswith("above")

@@ -6,10 +6,11 @@ ghost use Rattle.annotated_elements.specs.Found.{AreOrigins};
 ghost use Rattle.annotated_elements.specs.Annotated.{annotated, elements_of, elements_at};
 ghost use Rattle.annotated_elements.specs.Groups.{ends_of, collected};
 
-use crate::following::followed;
+use crate::following::end_of;
 use crate::groups::Groups;
 use std::alloc::{AllocError, Global};
 use syntax_tree::{SyntaxElement, SyntaxMapping, SyntaxNode};
+use tree_rewrite::mapped::MappedNodes;
 
 /// Returns the ends of annotated elements, each with the annotation. An element that leads nowhere
 /// has none.
@@ -22,8 +23,13 @@ fn ends_of<A: Copy>(
         ≡ ends_of mapping.now (elements_of annotations.now)) }
 {
     let mut ends = Vec::new(alloc);
+    // Without annotations an index is of no use.
+    if annotations.is_empty() {
+        return Ok(ends);
+    }
+    let mapped = MappedNodes::new(alloc, mapping)?;
     for (element, annotation) in annotations {
-        let Some(end) = followed(alloc, mapping, element)? else {
+        let Some(end) = end_of(alloc, &mapped, element)? else {
             continue;
         };
         ends.push((end, *annotation))?;

@@ -7,19 +7,21 @@ ghost use Rattle.annotated_elements.specs.Nearest.{lead_by};
 
 use std::alloc::{AllocError, Global};
 use syntax_tree::{SyntaxElement, SyntaxMapping, SyntaxNode};
+use tree_rewrite::mapped::MappedNodes;
 
 /// Returns the image of the nearest mapped node at or above an up-path in the tree of this number,
 /// and the part of the up-path below that node; `None` if no such node is mapped.
 fn nearest<'m, 'w>(
-    mapping: &'m SyntaxMapping,
+    mapping: &MappedNodes<'m>,
     tree: u32,
     way: &'w [usize],
 ) -> Result<Option<(&'m SyntaxNode, &'w [usize])>, AllocError>
     ensures { (t : Tree) → IfOk result (λ r. lead_by r ≡ lead_at mapping.now tree t way.now) }
 {
+    let mut images = mapping.images(tree, way)?;
     let mut below = 0;
     loop {
-        if let Some(image) = mapping.image_at(tree, &way[below..])? {
+        if let Some(image) = images.pop().flatten() {
             return Ok(Some((image, &way[..below])));
         }
         if below == way.len() {
@@ -53,6 +55,18 @@ fn element_below(
 pub fn followed(
     alloc: Global,
     mapping: &SyntaxMapping,
+    element: &SyntaxElement,
+) -> Result<Option<SyntaxElement>, AllocError>
+    ensures { IfOk result (λ r. option_map element_of r ≡ followed mapping.now (element_of element.now)) }
+{
+    let mapped = MappedNodes::new(alloc, mapping)?;
+    end_of(alloc, &mapped, element)
+}
+
+/// Variant of `followed` for a mapping with an index, which serves many elements.
+pub(crate) fn end_of(
+    alloc: Global,
+    mapping: &MappedNodes<'_>,
     element: &SyntaxElement,
 ) -> Result<Option<SyntaxElement>, AllocError>
     ensures { IfOk result (λ r. option_map element_of r ≡ followed mapping.now (element_of element.now)) }

@@ -10,7 +10,7 @@ use Rattle.parser_input.specs.KindTable.{all_kinds}
 use Rattle.parser_events.specs.declared.message.Message.TheVariants as messages
 use Rattle.rust_document.specs.Seen.{fault_of, words_of}
 use Rattle.rust_document.specs.declared.syntax_error.SyntaxMessage.{SyntaxMessage}
-use Rattle.rust_document.specs.declared.syntax_error.SyntaxMessage.TheVariants.{Parser, Lexer}
+use Rattle.rust_document.specs.declared.syntax_error.SyntaxMessage.TheVariants.{Parser}
 use Rattle.document_requests.specs.Lines.{kind_name, name_if_any}
 use Rattle.document_requests.specs.Messages.{fault_words}
 
@@ -39,13 +39,4 @@ unknown-name raw None known none = elim (lt_or_ge raw kind_count) [ inl below �
 pub words-are : (m : SyntaxMessage) → words_of m ≡ fault_words (fault_of m)
 words-are (Parser (messages.Expected kind)) = ap (λ name. codes "expected " ++ name) (sym (name-of-raw kind))
 words-are (Parser (messages.UnexpectedIn kind)) = ap (λ name. codes "unexpected token in " ++ name) (sym (name-of-raw kind))
-words-are (Parser messages.ExpectedType) = refl
-words-are (Parser messages.ExpectedExpression) = refl
-words-are (Parser messages.ExpectedPattern) = refl
-words-are (Parser messages.ExpectedItem) = refl
-words-are (Parser messages.ExpectedStatement) = refl
-words-are (Parser messages.ExpectedMatchArm) = refl
-words-are (Parser messages.ExpectedField) = refl
-words-are (Parser messages.UnexpectedTokens) = refl
-words-are (Parser messages.IllegalFloat) = refl
-words-are (Lexer words) = refl
+words-are m = refl

@@ -11,7 +11,7 @@ use Rattle.document_requests.specs.declared.request.Format.TheVariants.{Single, 
 use Rattle.document_requests.specs.declared.request.Op.{Op}
 use Rattle.document_requests.specs.declared.request.Entry.{Entry}
 use Rattle.document_requests.specs.declared.request.Target.{Target}
-use Rattle.document_requests.specs.Words.{edition_named, grammar_named, op_named, entry_named, kind_named}
+use Rattle.document_requests.specs.Words.{grammar_named, op_named, entry_named, kind_named}
 
 -- what a text is read as comes to a target, or the target goes
 pub data Change : Type 0 where

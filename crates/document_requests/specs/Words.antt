@@ -3,8 +3,6 @@ use Rattle.std.specs.Prelude.{ℕ, Bool, true, not, ◌&&◌, nat_le, List, Opti
 use Rattle.std.specs.Str.{bytes_eq}
 use Rattle.parser_input.specs.Kind.{name_of, raw_of}
 use Rattle.parser_input.specs.Kinds.{EXTERN_CRATE, UNDERSCORE_EXPR}
-use Rattle.parser_input.specs.declared.edition.Edition.{Edition}
-use Rattle.parser_input.specs.declared.edition.Edition.TheVariants.{Edition2015, Edition2018, Edition2021, Edition2024, EditionNext}
 use Rattle.parser_input.specs.declared.syntax_kind.SyntaxKind.{SyntaxKind}
 use Rattle.parser_input.specs.KindTable.{all_kinds}
 use Rattle.ra_parser.specs.declared.grammar.Grammar.{Grammar}
@@ -13,15 +11,6 @@ use Rattle.document_requests.specs.declared.request.Op.{Op}
 use Rattle.document_requests.specs.declared.request.Op.TheVariants.{Replace, Before, After}
 use Rattle.document_requests.specs.declared.request.Entry.{Entry}
 use Rattle.document_requests.specs.declared.request.Entry.TheVariants.{Token, Expr, Ty, Pattern, Item, Stmt}
-
-abbrev pub edition_named : List ℕ → Option Edition
-edition_named word =
-    if bytes_eq word (codes "2015") then Some Edition2015
-    else if bytes_eq word (codes "2018") then Some Edition2018
-    else if bytes_eq word (codes "2021") then Some Edition2021
-    else if bytes_eq word (codes "2024") then Some Edition2024
-    else if bytes_eq word (codes "next") then Some EditionNext
-    else None
 
 abbrev pub grammar_named : List ℕ → Option Grammar
 grammar_named word =

@@ -2,10 +2,11 @@
 ghost use Rattle.std.specs.Prelude.{◌≡◌, ◌+◌, ◌<◌, ◌^◌, [], ◌∷◌, ◌++◌, map, string_bytes, IfOk, OnOk};
 ghost use Rattle.rowan_green.specs.Forest.{tree_text};
 ghost use Rattle.rowan_green.specs.Term.{forest_of, kind_of, term_len};
+ghost use Rattle.rowan_green.specs.Referred.{referred_term};
 ghost use Rattle.document_requests.specs.Lines.{kind_name, line_of, lines_from, tree_lines};
 
 use parser_input::syntax_kind::SyntaxKind;
-use rowan_green::{GreenElement, GreenNode, NodeOrToken};
+use rowan_green::{GreenElementRef, GreenNode, NodeOrToken};
 use std::alloc::{AllocError, Global};
 
 /// The name of the kind that a raw number stands for; a number of no kind is shown as an error.
@@ -23,11 +24,12 @@ fn line(
     alloc: Global,
     margin: &str,
     start: u32,
-    element: &GreenElement,
+    element: GreenElementRef<'_>,
 ) -> Result<String, AllocError>
-    requires fits { start + term_len element.now < 2 ^ 32 }
+    requires fits { start + term_len (referred_term element) < 2 ^ 32 }
     ensures { IfOk result (λ text. string_bytes text
-        ≡ line_of margin.now (kind_of element.now) start (start + term_len element.now)) }
+        ≡ line_of margin.now (kind_of (referred_term element.entry)) start
+        (start + term_len (referred_term element.entry))) }
 {
     let kind = kind_name(element.kind());
     let end = start + u32::from(element.text_len());
@@ -39,12 +41,13 @@ fn push_lines(
     alloc: Global,
     margin: &str,
     start: u32,
-    element: &GreenElement,
+    element: GreenElementRef<'_>,
     lines: &mut Vec<String>,
 ) -> Result<(), AllocError>
-    requires fits { start + term_len element.now < 2 ^ 32 }
+    requires fits { start + term_len (referred_term element) < 2 ^ 32 }
     ensures { OnOk result (map string_bytes lines.new.items
-        ≡ map string_bytes lines.old.items ++ lines_from margin.now start (forest_of (element.now ∷ []))) }
+        ≡ map string_bytes lines.old.items
+        ++ lines_from margin.now start (forest_of (referred_term element.entry ∷ []))) }
 {
     lines.push(line(alloc, margin, start, element)?)?;
     let NodeOrToken::Node(node) = element else {
@@ -64,7 +67,8 @@ pub fn tree_lines(alloc: Global, root: &GreenNode) -> Result<Vec<String>, AllocE
     ensures { IfOk result (λ lines. map string_bytes lines.items ≡ tree_lines root.now) }
 {
     let mut lines = Vec::new(alloc);
-    let root = NodeOrToken::Node(root.clone()?);
-    push_lines(alloc, "", 0, &root, &mut lines)?;
+    // (this shows that the text's length fits)
+    let _fits = root.text_len();
+    push_lines(alloc, "", 0, NodeOrToken::Node(root), &mut lines)?;
     Ok(lines)
 }

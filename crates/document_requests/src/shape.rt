@@ -3,7 +3,7 @@ ghost use Rattle.std.specs.Prelude.{◌≡◌, map, option_and_then, option_map,
 ghost use Rattle.serde_json.specs.Find.{as_array, as_str};
 ghost use Rattle.serde_json.specs.View.{view, items_view};
 ghost use Rattle.parser_input.specs.Kind.{raw_of};
-ghost use Rattle.document_requests.specs.Words.{edition_named, grammar_named, op_named, entry_named, is_known, is_of_whole_language, kind_named};
+ghost use Rattle.document_requests.specs.Words.{grammar_named, op_named, entry_named, is_known, is_of_whole_language, kind_named};
 ghost use Rattle.document_requests.specs.Request.{whole_number, target_in, payload_in, put_named, change_of, all_in, edit_of, commit_of, command_by, grammar_in, grammar_of, request_by, request_of};
 ghost use Rattle.document_requests.specs.Asked.{change, command, request};
 
@@ -18,19 +18,6 @@ use std::alloc::{AllocError, Global};
 const FIRST_OF_WHOLE: u16 = SyntaxKind::EXTERN_CRATE as u16;
 
 const LAST_OF_WHOLE: u16 = SyntaxKind::UNDERSCORE_EXPR as u16;
-
-fn edition_named(word: &str) -> Option<Edition>
-    ensures { result ≡ edition_named word.now }
-{
-    match word {
-        "2015" => Some(Edition::Edition2015),
-        "2018" => Some(Edition::Edition2018),
-        "2021" => Some(Edition::Edition2021),
-        "2024" => Some(Edition::Edition2024),
-        "next" => Some(Edition::EditionNext),
-        _ => None,
-    }
-}
 
 fn grammar_named(word: &str) -> Option<Grammar>
     ensures { result ≡ grammar_named word.now }
@@ -272,7 +259,7 @@ fn request_by(
     ensures { IfOk result (λ found. option_map request found ≡ request_by grammar (view value.now)) }
 {
     let word = value.get("edition").and_then(Value::as_str);
-    let Some(edition) = word.and_then(edition_named) else {
+    let Some(edition) = word.and_then(Edition::from_name) else {
         return Ok(None);
     };
     let Some(text) = value.get("text").and_then(Value::as_str) else {

@@ -148,6 +148,15 @@ fn children_come_from_both_ends(rt: HostRuntime) -> Result<(), Fail> {
     Ok(())
 }
 
+#[test]
+fn lent_children_become_owned(rt: HostRuntime) -> Result<(), Fail> {
+    let node = pair_node(rt.alloc())?;
+    let first = node.child(0).ok_or("no child")?;
+    assert!(rt; first.kind() == SyntaxKind(2) && first.text_len() == TextSize(1));
+    assert!(rt; first.to_owned()? == token(rt.alloc(), 2, "a")?);
+    Ok(())
+}
+
 /// Returns a node with a token for each of `texts`.
 fn row_of(alloc: Global, texts: &[&str]) -> Result<GreenNode, GreenError> {
     let mut children = Vec::new(alloc);

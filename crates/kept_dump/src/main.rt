@@ -45,25 +45,15 @@ fn count_at(list: &Value, index: usize) -> anyhow::Result<usize> {
     Ok(number_at(list, index)? as usize)
 }
 
-fn edition(word: &str) -> anyhow::Result<Edition> {
-    Ok(match word {
-        "2015" => Edition::Edition2015,
-        "2018" => Edition::Edition2018,
-        "2021" => Edition::Edition2021,
-        "2024" => Edition::Edition2024,
-        "next" => Edition::EditionNext,
-        _ => bail!("a case has another edition"),
-    })
-}
-
 /// Returns the edit of a case.
 fn edit_in(case: &Value) -> anyhow::Result<Case<'_>> {
-    let word = case.get("edition").and_then(Value::as_str);
+    let name = case.get("edition").and_then(Value::as_str);
+    let edition = name.and_then(Edition::from_name);
     let text = case.get("text").and_then(Value::as_str);
     let edit = case.get("edit").context("a case lacks an edit")?;
     let put = edit.get(2).and_then(Value::as_str);
     Ok(Case {
-        edition: edition(word.context("a case lacks an edition")?)?,
+        edition: edition.context("a case lacks an edition")?,
         text: text.context("a case lacks a text")?,
         start: number_at(edit, 0)?,
         end: number_at(edit, 1)?,

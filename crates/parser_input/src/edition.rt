@@ -1,7 +1,7 @@
 //! The editions of Rust.
 
 ghost use Rattle.std.specs.Prelude.{◌≡◌};
-ghost use Rattle.parser_input.specs.Edition.{is_from};
+ghost use Rattle.parser_input.specs.Edition.{edition_named, is_from};
 
 /// An edition of Rust. A later edition is greater.
 #[derive(Clone, Copy, PartialEq, Eq, PartialOrd, Ord, Hash, Debug)]
@@ -15,6 +15,20 @@ pub enum Edition {
 }
 
 impl Edition {
+    /// Returns the edition with this name: a year, or `next`.
+    pub fn from_name(name: &str) -> Option<Edition>
+        ensures { result ≡ edition_named name.now }
+    {
+        match name {
+            "2015" => Some(Edition::Edition2015),
+            "2018" => Some(Edition::Edition2018),
+            "2021" => Some(Edition::Edition2021),
+            "2024" => Some(Edition::Edition2024),
+            "next" => Some(Edition::EditionNext),
+            _ => None,
+        }
+    }
+
     /// Whether this is the edition `first` or a later one.
     pub(crate) fn is_from(self, first: Edition) -> bool
         ensures { result ≡ is_from first self }

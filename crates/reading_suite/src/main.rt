@@ -8,6 +8,7 @@
 #![tactic(auto)]
 
 use anyhow::{Context, bail};
+use parser_input::Edition;
 use ra_parser::Grammar;
 use serde_json::Value;
 use std::alloc::Global;
@@ -63,7 +64,7 @@ fn write_expected<W: Write>(out: &mut W, case: &Value) -> anyhow::Result<()> {
 /// Returns `true` if the case on `line` has the expected tree and messages.
 fn is_met(alloc: Global, line: &str) -> anyhow::Result<bool> {
     let case = Value::from_str(alloc, line)?;
-    let edition = names::edition(text_at(&case, "edition")?).context("no such edition")?;
+    let edition = Edition::from_name(text_at(&case, "edition")?).context("no such edition")?;
     let entry_point = names::entry_point(text_at(&case, "entry")?).context("no such entry")?;
     let mut expected = Vec::new(alloc);
     write_expected(&mut expected, &case)?;

@@ -15,8 +15,8 @@ abbrev pub same_place : Place → Place → Bool
 same_place p q = pointwise nat_eq p.up q.up && same_tree p.root q.root
 
 -- what a hash is fed of a node: the start and the end of its text, its index, and its depth
-abbrev pub node_fed : Place → HashWrites
-node_fed p = u32 (start_of p) ++ u32 (end_of p) ++ u32 (index_of p) ++ u32 (depth_of p)
+abbrev pub hashed_node : Place → HashWrites
+hashed_node p = u32 (start_of p) ++ u32 (end_of p) ++ u32 (index_of p) ++ u32 (depth_of p)
 
 -- what a hash is fed of a way: its numbers, the innermost first
 abbrev pub numbers_fed : List ℕ → HashWrites

@@ -1,6 +1,7 @@
 //! Cursors that know their language's kinds.
 ghost use Rattle.std.specs.Prelude.{◌≡◌, ◌≤◌, [], reverse, IfOk, IsSome, Some};
-ghost use Rattle.rowan_green.specs.Forest.{Tree};
+ghost use Rattle.std.specs.Coded.{codes};
+ghost use Rattle.rowan_green.specs.Forest.{Tree, tree_code};
 ghost use Rattle.rowan_green.specs.declared.utility_types.NodeOrToken.TheVariants.{Node, Token};
 ghost use Rattle.rowan.specs.Place.{Place, above, below, term_at, kind_at, text_at, start_of, end_of, index_of, top_of};
 ghost use Rattle.rowan.specs.Ranges.{child_at_range, LeadsTo};
@@ -21,10 +22,6 @@ pub struct SyntaxNode<L> {
 }
 
 impl<L> Model for SyntaxNode<L> {
-    ghost use Rattle.rowan.specs.Place.{Place};
-    ghost use Rattle.rowan_green.specs.Forest.{tree_code};
-    ghost use Rattle.std.specs.Coded.{codes};
-
     ghost Value = { Place };
 
     ghost coded = { Prim.hlevel (codes, tree_code) };
@@ -40,10 +37,6 @@ pub struct SyntaxToken<L> {
 }
 
 impl<L> Model for SyntaxToken<L> {
-    ghost use Rattle.rowan.specs.Place.{Place};
-    ghost use Rattle.rowan_green.specs.Forest.{tree_code};
-    ghost use Rattle.std.specs.Coded.{codes};
-
     ghost Value = { Place };
 
     ghost coded = { Prim.hlevel (codes, tree_code) };
@@ -260,20 +253,14 @@ impl<L: Language> SyntaxNode<L> {
 pub(crate) fn node_of<L: Language>(cursor: Option<cursor::SyntaxNode>) -> Option<SyntaxNode<L>>
     ensures { result ≡ cursor }
 {
-    match cursor {
-        Some(cursor) => Some(SyntaxNode::of(cursor)),
-        None => None,
-    }
+    cursor.map(|cursor| SyntaxNode::of(cursor))
 }
 
 /// The token of a cursor, if there is one.
 pub(crate) fn token_of<L: Language>(cursor: Option<cursor::SyntaxToken>) -> Option<SyntaxToken<L>>
     ensures { result ≡ cursor }
 {
-    match cursor {
-        Some(cursor) => Some(SyntaxToken::of(cursor)),
-        None => None,
-    }
+    cursor.map(|cursor| SyntaxToken::of(cursor))
 }
 
 /// The element of a cursor.
@@ -292,10 +279,7 @@ pub(crate) fn element_of<L: Language>(
 ) -> Option<SyntaxElement<L>>
     ensures { result ≡ cursor }
 {
-    match cursor {
-        Some(cursor) => Some(element(cursor)),
-        None => None,
-    }
+    cursor.map(|cursor| element(cursor))
 }
 
 impl<L: Language> SyntaxToken<L> {
@@ -429,9 +413,6 @@ impl<L: Language> Clone for SyntaxToken<L> {
 }
 
 impl<L: Language> From<SyntaxNode<L>> for NodeOrToken<SyntaxNode<L>, SyntaxToken<L>> {
-    ghost use Rattle.std.specs.Prelude.{◌≡◌};
-    ghost use Rattle.rowan_green.specs.declared.utility_types.NodeOrToken.TheVariants.{Node};
-
     ghost from_gives = { λ node element. element ≡ Node node };
 
     fn from(node: SyntaxNode<L>) -> SyntaxElement<L> {
@@ -440,9 +421,6 @@ impl<L: Language> From<SyntaxNode<L>> for NodeOrToken<SyntaxNode<L>, SyntaxToken
 }
 
 impl<L: Language> From<SyntaxToken<L>> for NodeOrToken<SyntaxNode<L>, SyntaxToken<L>> {
-    ghost use Rattle.std.specs.Prelude.{◌≡◌};
-    ghost use Rattle.rowan_green.specs.declared.utility_types.NodeOrToken.TheVariants.{Token};
-
     ghost from_gives = { λ token element. element ≡ Token token };
 
     fn from(token: SyntaxToken<L>) -> SyntaxElement<L> {

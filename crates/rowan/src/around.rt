@@ -1,9 +1,13 @@
 //! The elements around an element, as iterators: ancestors and siblings.
-ghost use Rattle.std.specs.Prelude.{◌≡◌, ◌∷◌, IfOk};
+ghost use Rattle.std.specs.Prelude.{◌≡◌, ◌∷◌, IfOk, List, length};
+ghost use Rattle.std.specs.Coded.{codes};
+ghost use Rattle.std.specs.Iterator.{at_most};
 ghost use Rattle.rowan_green.specs.declared.utility_types.NodeOrToken.TheVariants.{Node, Token};
-ghost use Rattle.rowan.specs.Place.{above};
-ghost use Rattle.rowan.specs.Around.{ancestors, ancestors_of, siblings, sibling_nodes};
+ghost use Rattle.rowan_green.specs.Forest.{tree_code};
+ghost use Rattle.rowan.specs.Place.{above, Place};
+ghost use Rattle.rowan.specs.Around.{ancestors, ancestors_of, siblings, sibling_nodes, Cursor};
 ghost use Rattle.rowan.specs.Left.{siblings_left, sibling_nodes_left};
+ghost use Rattle.rowan.specs.Yields.{YieldsOrFails};
 
 use crate::api::{SyntaxElement, SyntaxNode, SyntaxToken, element};
 use crate::cursor;
@@ -31,16 +35,9 @@ impl<L> Drop for Ancestors<L> {
 }
 
 impl<L> Model for Ancestors<L> {
-    ghost use Rattle.std.specs.Prelude.{List};
-    ghost use Rattle.std.specs.Coded.{codes};
-    ghost use Rattle.rowan_green.specs.Forest.{tree_code};
-    ghost use Rattle.rowan.specs.Place.{Place};
-
     ghost Value = { List Place };
 
     ghost coded = { Prim.hlevel (codes, tree_code) };
-
-    ghost use Rattle.rowan.specs.Around.{ancestors_of};
 
     ghost view = { λ a. ancestors_of a.next };
 }
@@ -58,10 +55,6 @@ impl<L: Language> Ancestors<L> {
 
 impl<L: Language> Iterator for Ancestors<L> {
     type Item = Result<SyntaxNode<L>, AllocError>;
-
-    ghost use Rattle.std.specs.Prelude.{length};
-    ghost use Rattle.std.specs.Iterator.{at_most};
-    ghost use Rattle.rowan.specs.Yields.{YieldsOrFails};
 
     ghost next_gives = { YieldsOrFails };
 
@@ -100,16 +93,9 @@ impl<L> Drop for SiblingsWithTokens<L> {
 }
 
 impl<L> Model for SiblingsWithTokens<L> {
-    ghost use Rattle.std.specs.Prelude.{List};
-    ghost use Rattle.std.specs.Coded.{codes};
-    ghost use Rattle.rowan_green.specs.Forest.{tree_code};
-    ghost use Rattle.rowan.specs.Around.{Cursor};
-
     ghost Value = { List Cursor };
 
     ghost coded = { Prim.hlevel (codes, tree_code) };
-
-    ghost use Rattle.rowan.specs.Left.{siblings_left};
 
     ghost view = { λ s. siblings_left s.direction s.next };
 }
@@ -133,10 +119,6 @@ impl<L: Language> SiblingsWithTokens<L> {
 
 impl<L: Language> Iterator for SiblingsWithTokens<L> {
     type Item = Result<SyntaxElement<L>, AllocError>;
-
-    ghost use Rattle.std.specs.Prelude.{length};
-    ghost use Rattle.std.specs.Iterator.{at_most};
-    ghost use Rattle.rowan.specs.Yields.{YieldsOrFails};
 
     ghost next_gives = { YieldsOrFails };
 
@@ -190,16 +172,9 @@ impl<L> Drop for Siblings<L> {
 }
 
 impl<L> Model for Siblings<L> {
-    ghost use Rattle.std.specs.Prelude.{List};
-    ghost use Rattle.std.specs.Coded.{codes};
-    ghost use Rattle.rowan_green.specs.Forest.{tree_code};
-    ghost use Rattle.rowan.specs.Place.{Place};
-
     ghost Value = { List Place };
 
     ghost coded = { Prim.hlevel (codes, tree_code) };
-
-    ghost use Rattle.rowan.specs.Left.{sibling_nodes_left};
 
     ghost view = { λ s. sibling_nodes_left s.direction s.next };
 }
@@ -219,10 +194,6 @@ impl<L: Language> Siblings<L> {
 
 impl<L: Language> Iterator for Siblings<L> {
     type Item = Result<SyntaxNode<L>, AllocError>;
-
-    ghost use Rattle.std.specs.Prelude.{length};
-    ghost use Rattle.std.specs.Iterator.{at_most};
-    ghost use Rattle.rowan.specs.Yields.{YieldsOrFails};
 
     ghost next_gives = { YieldsOrFails };
 

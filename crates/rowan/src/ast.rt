@@ -1,6 +1,8 @@
 //! Typed nodes: a wrapper for each kind of node that has a meaning of its own.
-ghost use Rattle.std.specs.Prelude.{◌≡◌, ◌↔◌, ◌<◌, ℕ, [], Bool, true, length, Some, IfOk, IfSome, IsSome};
-ghost use Rattle.rowan_green.specs.Forest.{Tree};
+ghost use Rattle.std.specs.Prelude.{◌≡◌, ◌↔◌, ◌<◌, ℕ, [], Bool, true, length, Some, IfOk, IfSome, IsSome, List};
+ghost use Rattle.std.specs.Coded.{codes};
+ghost use Rattle.std.specs.Iterator.{at_most};
+ghost use Rattle.rowan_green.specs.Forest.{Tree, tree_code};
 ghost use Rattle.rowan_green.specs.declared.utility_types.NodeOrToken.TheVariants.{Node};
 ghost use Rattle.rowan.specs.Place.{Place, term_at, kind_at};
 ghost use Rattle.rowan.specs.Cast.{can, CastsOrFails};
@@ -57,11 +59,6 @@ pub struct AstChildren<N: AstNode> {
 }
 
 impl<N: AstNode> Model for AstChildren<N> {
-    ghost use Rattle.std.specs.Prelude.{List};
-    ghost use Rattle.std.specs.Coded.{codes};
-    ghost use Rattle.rowan_green.specs.Forest.{tree_code};
-    ghost use Rattle.rowan.specs.Place.{Place};
-
     ghost Value = { List Place };
 
     ghost coded = { Prim.hlevel (codes, tree_code) };
@@ -71,10 +68,6 @@ impl<N: AstNode> Model for AstChildren<N> {
 
 impl<N: AstNode> Iterator for AstChildren<N> {
     type Item = Result<N, AllocError>;
-
-    ghost use Rattle.std.specs.Prelude.{length};
-    ghost use Rattle.std.specs.Iterator.{at_most};
-    ghost use Rattle.rowan.specs.Cast.{can, CastsOrFails};
 
     ghost next_gives = { CastsOrFails (can N.Language.from_raw N.casts) N.place };
 

@@ -408,12 +408,12 @@ impl Eq for SyntaxNode {
 /// Hashes the range, the index and the depth, which the node keeps. A node and its first child, even
 /// with one range, have different depths.
 impl Hash for SyntaxNode {
-    ghost use Rattle.rowan.specs.Same.{node_fed, same_place-Decides};
+    ghost use Rattle.rowan.specs.Same.{hashed_node, same_place-Decides};
     ghost use Rattle.std.proofs.Common.{ap};
 
-    ghost hash_input = { node_fed };
+    ghost hash_input = { hashed_node };
 
-    ghost respects_eq = { λ x y p. ap node_fed ((same_place-Decides x y).0 p) };
+    ghost respects_eq = { λ x y p. ap hashed_node ((same_place-Decides x y).0 p) };
 
     fn hash<H: Hasher>(&self, state: &mut H) {
         self.start().hash(state);

@@ -3,13 +3,14 @@ ghost use Rattle.std.specs.Prelude.{◌≡◌, ◌&&◌, ◌≤◌, ◌<◌, nat
 ghost use Rattle.std.specs.List.{filter};
 ghost use Rattle.std.specs.Option.{option_copied};
 ghost use Rattle.rowan_green.specs.Either.{node_part};
+ghost use Rattle.rowan_green.specs.Referred.{referred_term};
 ghost use Rattle.rowan_green.specs.declared.utility_types.NodeOrToken.TheVariants.{Node};
 ghost use Rattle.rowan.specs.Place.{below, start_of, index_of};
 ghost use Rattle.rowan.specs.Around.{children_from, cursor_at, nodes, first};
 ghost use Rattle.rowan.specs.Pointer.{spans};
 
 use crate::cursor::SyntaxNode;
-use rowan_green::{GreenElement, GreenNode, TextRange, TextSize};
+use rowan_green::{GreenElementRef, GreenNode, TextRange, TextSize};
 use std::alloc::{AllocError, Global};
 
 impl SyntaxNode {
@@ -75,12 +76,17 @@ impl SyntaxNode {
 
 /// The node of an element, if it is one and the bytes from `start` to just before `end` contain the
 /// range.
-fn spanning(element: &GreenElement, start: u32, end: u32, range: TextRange) -> Option<&GreenNode>
+fn spanning<'a>(
+    element: GreenElementRef<'a>,
+    start: u32,
+    end: u32,
+    range: TextRange,
+) -> Option<&'a GreenNode>
     ensures { option_copied result ≡ cond (nat_le start range.start.0 && nat_le range.end.0 end)
-        (node_part element.now) None }
+        (node_part (referred_term element.entry)) None }
 {
     if start <= range.start.0 && range.end.0 <= end {
-        return element.as_node();
+        return element.into_node();
     }
     None
 }

@@ -1,8 +1,9 @@
 //! What cursors print as: their texts.
-ghost use Rattle.std.specs.Prelude.{◌+◌, take, drop};
+ghost use Rattle.std.specs.Prelude.{◌+◌, take, drop, Some};
 ghost use Rattle.std.specs.Fmt.{WritesOnOk};
 ghost use Rattle.rowan_green.specs.Forest.{tree_text};
 ghost use Rattle.rowan.specs.Text.{IsPart};
+ghost use Rattle.rowan.specs.Place.{text_at};
 
 use crate::api::{SyntaxNode, SyntaxToken};
 use crate::language::Language;
@@ -11,9 +12,6 @@ use rowan_green::{GreenNode, NodeOrToken};
 use std::fmt;
 
 impl<L: Language> fmt::Display for SyntaxNode<L> {
-    ghost use Rattle.std.specs.Prelude.{Some};
-    ghost use Rattle.rowan.specs.Place.{text_at};
-
     ghost output = { λ p. Some (text_at p) };
 
     fn fmt<W: fmt::Write>(&self, f: &mut fmt::Formatter<W>) -> fmt::Result {
@@ -22,9 +20,6 @@ impl<L: Language> fmt::Display for SyntaxNode<L> {
 }
 
 impl<L: Language> fmt::Display for SyntaxToken<L> {
-    ghost use Rattle.std.specs.Prelude.{Some};
-    ghost use Rattle.rowan.specs.Place.{text_at};
-
     ghost output = { λ p. Some (text_at p) };
 
     fn fmt<W: fmt::Write>(&self, f: &mut fmt::Formatter<W>) -> fmt::Result {
@@ -68,8 +63,6 @@ fn write_part<W: fmt::Write>(
 }
 
 impl fmt::Display for SyntaxText {
-    ghost use Rattle.std.specs.Prelude.{Some};
-
     ghost output = { λ t. Some t };
 
     fn fmt<W: fmt::Write>(&self, f: &mut fmt::Formatter<W>) -> fmt::Result {

@@ -1,14 +1,16 @@
 //! Equality and hashing of cursors that know their language's kinds.
-ghost use Rattle.std.specs.Prelude.{◌≡◌};
+ghost use Rattle.std.specs.Prelude.{◌≡◌, ◌++◌};
+ghost use Rattle.std.specs.Cmp.{partial_equiv_from_equiv};
+ghost use Rattle.std.specs.Hash as fed;
+ghost use Rattle.std.proofs.Common.{ap};
+ghost use Rattle.rowan.specs.Same.{same_place, same_place-equiv, hashed_node, same_place-Decides};
+ghost use Rattle.rowan.specs.Place.{Place, start_of, index_of};
 
 use crate::api::{SyntaxNode, SyntaxToken};
 use crate::language::Language;
 use std::hash::{Hash, Hasher};
 
 impl<L: Language> PartialEq for SyntaxNode<L> {
-    ghost use Rattle.rowan.specs.Same.{same_place, same_place-equiv};
-    ghost use Rattle.std.specs.Cmp.{partial_equiv_from_equiv};
-
     ghost eq = { same_place };
 
     ghost laws = { partial_equiv_from_equiv same_place-equiv };
@@ -20,18 +22,13 @@ impl<L: Language> PartialEq for SyntaxNode<L> {
 }
 
 impl<L: Language> Eq for SyntaxNode<L> {
-    ghost use Rattle.rowan.specs.Same.{same_place-equiv};
-
     ghost laws = { same_place-equiv };
 }
 
 impl<L: Language> Hash for SyntaxNode<L> {
-    ghost use Rattle.rowan.specs.Same.{node_fed, same_place-Decides};
-    ghost use Rattle.std.proofs.Common.{ap};
+    ghost hash_input = { hashed_node };
 
-    ghost hash_input = { node_fed };
-
-    ghost respects_eq = { λ x y p. ap node_fed ((same_place-Decides x y).0 p) };
+    ghost respects_eq = { λ x y p. ap hashed_node ((same_place-Decides x y).0 p) };
 
     fn hash<H: Hasher>(&self, state: &mut H) {
         self.cursor().hash(state);
@@ -39,9 +36,6 @@ impl<L: Language> Hash for SyntaxNode<L> {
 }
 
 impl<L: Language> PartialEq for SyntaxToken<L> {
-    ghost use Rattle.rowan.specs.Same.{same_place, same_place-equiv};
-    ghost use Rattle.std.specs.Cmp.{partial_equiv_from_equiv};
-
     ghost eq = { same_place };
 
     ghost laws = { partial_equiv_from_equiv same_place-equiv };
@@ -53,18 +47,10 @@ impl<L: Language> PartialEq for SyntaxToken<L> {
 }
 
 impl<L: Language> Eq for SyntaxToken<L> {
-    ghost use Rattle.rowan.specs.Same.{same_place-equiv};
-
     ghost laws = { same_place-equiv };
 }
 
 impl<L: Language> Hash for SyntaxToken<L> {
-    ghost use Rattle.rowan.specs.Place.{Place, start_of, index_of};
-    ghost use Rattle.rowan.specs.Same.{same_place-Decides};
-    ghost use Rattle.std.specs.Prelude.{◌++◌};
-    ghost use Rattle.std.specs.Hash as fed;
-    ghost use Rattle.std.proofs.Common.{ap};
-
     ghost hash_input = { λ p. fed.u32 (start_of p) ++ fed.u32 (index_of p) };
 
     ghost respects_eq = { λ x y p. ap (λ (q : Place). fed.u32 (start_of q) ++ fed.u32 (index_of q)) ((same_place-Decides x y).0 p) };

@@ -1,8 +1,12 @@
 //! Walks in preorder.
-ghost use Rattle.std.specs.Prelude.{◌≡◌, ◌<◌, length, IfOk, OnErr, IsSome};
-ghost use Rattle.rowan.specs.Yields.{PicksOrFails};
+ghost use Rattle.std.specs.Prelude.{◌≡◌, ◌<◌, length, IfOk, OnErr, IsSome, List};
+ghost use Rattle.std.specs.Coded.{codes};
+ghost use Rattle.std.specs.Iterator.{at_most};
 ghost use Rattle.rowan_green.specs.declared.utility_types.NodeOrToken.TheVariants.{Node};
-ghost use Rattle.rowan.specs.Walk.{walk, skipped, node_events, entered, entered_nodes};
+ghost use Rattle.rowan_green.specs.Forest.{tree_code};
+ghost use Rattle.rowan.specs.Yields.{PicksOrFails, YieldsOrFails};
+ghost use Rattle.rowan.specs.Walk.{walk, skipped, node_events, entered, entered_nodes, Event};
+ghost use Rattle.rowan.specs.Left.{left_by};
 
 use crate::api::{SyntaxElement, SyntaxNode, element};
 use crate::cursor;
@@ -33,16 +37,9 @@ impl<L> Drop for PreorderWithTokens<L> {
 }
 
 impl<L> Model for PreorderWithTokens<L> {
-    ghost use Rattle.std.specs.Prelude.{List};
-    ghost use Rattle.std.specs.Coded.{codes};
-    ghost use Rattle.rowan_green.specs.Forest.{tree_code};
-    ghost use Rattle.rowan.specs.Walk.{Event};
-
     ghost Value = { List Event };
 
     ghost coded = { Prim.hlevel (codes, tree_code) };
-
-    ghost use Rattle.rowan.specs.Left.{left_by};
 
     ghost view = { λ w. left_by w.next };
 }
@@ -80,10 +77,6 @@ impl<L: Language> PreorderWithTokens<L> {
 
 impl<L: Language> Iterator for PreorderWithTokens<L> {
     type Item = Result<WalkEvent<SyntaxElement<L>>, AllocError>;
-
-    ghost use Rattle.std.specs.Prelude.{length};
-    ghost use Rattle.std.specs.Iterator.{at_most};
-    ghost use Rattle.rowan.specs.Yields.{YieldsOrFails};
 
     ghost next_gives = { YieldsOrFails };
 
@@ -169,11 +162,6 @@ pub struct Preorder<L> {
 }
 
 impl<L> Model for Preorder<L> {
-    ghost use Rattle.std.specs.Prelude.{List};
-    ghost use Rattle.std.specs.Coded.{codes};
-    ghost use Rattle.rowan_green.specs.Forest.{tree_code};
-    ghost use Rattle.rowan.specs.Walk.{Event};
-
     ghost Value = { List Event };
 
     ghost coded = { Prim.hlevel (codes, tree_code) };
@@ -194,11 +182,6 @@ impl<L: Language> Preorder<L> {
 impl<L: Language> Iterator for Preorder<L> {
     type Item = Result<WalkEvent<SyntaxNode<L>>, AllocError>;
 
-    ghost use Rattle.std.specs.Prelude.{length};
-    ghost use Rattle.std.specs.Iterator.{at_most};
-    ghost use Rattle.rowan.specs.Yields.{PicksOrFails};
-    ghost use Rattle.rowan.specs.Walk.{node_events};
-
     ghost next_gives = { PicksOrFails node_events };
 
     ghost remaining = { λ s. at_most (length s) };
@@ -216,11 +199,6 @@ pub struct Descendants<L> {
 }
 
 impl<L> Model for Descendants<L> {
-    ghost use Rattle.std.specs.Prelude.{List};
-    ghost use Rattle.std.specs.Coded.{codes};
-    ghost use Rattle.rowan_green.specs.Forest.{tree_code};
-    ghost use Rattle.rowan.specs.Walk.{Event};
-
     ghost Value = { List Event };
 
     ghost coded = { Prim.hlevel (codes, tree_code) };
@@ -230,11 +208,6 @@ impl<L> Model for Descendants<L> {
 
 impl<L: Language> Iterator for Descendants<L> {
     type Item = Result<SyntaxNode<L>, AllocError>;
-
-    ghost use Rattle.std.specs.Prelude.{length};
-    ghost use Rattle.std.specs.Iterator.{at_most};
-    ghost use Rattle.rowan.specs.Yields.{PicksOrFails};
-    ghost use Rattle.rowan.specs.Walk.{entered_nodes};
 
     ghost next_gives = { PicksOrFails entered_nodes };
 
@@ -253,11 +226,6 @@ pub struct DescendantsWithTokens<L> {
 }
 
 impl<L> Model for DescendantsWithTokens<L> {
-    ghost use Rattle.std.specs.Prelude.{List};
-    ghost use Rattle.std.specs.Coded.{codes};
-    ghost use Rattle.rowan_green.specs.Forest.{tree_code};
-    ghost use Rattle.rowan.specs.Walk.{Event};
-
     ghost Value = { List Event };
 
     ghost coded = { Prim.hlevel (codes, tree_code) };
@@ -267,11 +235,6 @@ impl<L> Model for DescendantsWithTokens<L> {
 
 impl<L: Language> Iterator for DescendantsWithTokens<L> {
     type Item = Result<SyntaxElement<L>, AllocError>;
-
-    ghost use Rattle.std.specs.Prelude.{length};
-    ghost use Rattle.std.specs.Iterator.{at_most};
-    ghost use Rattle.rowan.specs.Yields.{PicksOrFails};
-    ghost use Rattle.rowan.specs.Walk.{entered};
 
     ghost next_gives = { PicksOrFails entered };
 

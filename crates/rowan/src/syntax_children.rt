@@ -1,6 +1,12 @@
 //! The children of a node, as iterators.
-ghost use Rattle.std.specs.Prelude.{◌≡◌, IfOk};
-ghost use Rattle.rowan.specs.Around.{children, nodes};
+ghost use Rattle.std.specs.Prelude.{◌≡◌, IfOk, List, length};
+ghost use Rattle.std.specs.Coded.{codes};
+ghost use Rattle.std.specs.Iterator.{at_most};
+ghost use Rattle.rowan_green.specs.Forest.{tree_code};
+ghost use Rattle.rowan.specs.Around.{children, nodes, Cursor};
+ghost use Rattle.rowan.specs.Place.{below, start_of, Place};
+ghost use Rattle.rowan.specs.Left.{children_left};
+ghost use Rattle.rowan.specs.Yields.{YieldsOrFails};
 
 use crate::api::{SyntaxElement, SyntaxNode, element};
 use crate::cursor;
@@ -21,17 +27,9 @@ pub struct SyntaxElementChildren<L> {
 }
 
 impl<L> Model for SyntaxElementChildren<L> {
-    ghost use Rattle.std.specs.Prelude.{◌≡◌, List};
-    ghost use Rattle.std.specs.Coded.{codes};
-    ghost use Rattle.rowan_green.specs.Forest.{tree_code};
-    ghost use Rattle.rowan.specs.Place.{below, start_of};
-    ghost use Rattle.rowan.specs.Around.{Cursor};
-
     ghost Value = { List Cursor };
 
     ghost coded = { Prim.hlevel (codes, tree_code) };
-
-    ghost use Rattle.rowan.specs.Left.{children_left};
 
     ghost view = { λ c. children_left c.ended c.parent c.index };
 
@@ -56,10 +54,6 @@ impl<L: Language> SyntaxElementChildren<L> {
 
 impl<L: Language> Iterator for SyntaxElementChildren<L> {
     type Item = Result<SyntaxElement<L>, AllocError>;
-
-    ghost use Rattle.std.specs.Prelude.{length};
-    ghost use Rattle.std.specs.Iterator.{at_most};
-    ghost use Rattle.rowan.specs.Yields.{YieldsOrFails};
 
     ghost next_gives = { YieldsOrFails };
 
@@ -99,17 +93,9 @@ pub struct SyntaxNodeChildren<L> {
 }
 
 impl<L> Model for SyntaxNodeChildren<L> {
-    ghost use Rattle.std.specs.Prelude.{◌≡◌, List};
-    ghost use Rattle.std.specs.Coded.{codes};
-    ghost use Rattle.rowan_green.specs.Forest.{tree_code};
-    ghost use Rattle.rowan.specs.Place.{Place, below, start_of};
-    ghost use Rattle.rowan.specs.Around.{nodes};
-
     ghost Value = { List Place };
 
     ghost coded = { Prim.hlevel (codes, tree_code) };
-
-    ghost use Rattle.rowan.specs.Left.{children_left};
 
     ghost view = { λ c. nodes (children_left c.ended c.parent c.index) };
 
@@ -134,10 +120,6 @@ impl<L: Language> SyntaxNodeChildren<L> {
 
 impl<L: Language> Iterator for SyntaxNodeChildren<L> {
     type Item = Result<SyntaxNode<L>, AllocError>;
-
-    ghost use Rattle.std.specs.Prelude.{length};
-    ghost use Rattle.std.specs.Iterator.{at_most};
-    ghost use Rattle.rowan.specs.Yields.{YieldsOrFails};
 
     ghost next_gives = { YieldsOrFails };
 

@@ -3,9 +3,10 @@ ghost use Rattle.std.specs.Prelude.{◌≡◌, ◌+◌, ◌≤◌, ◌&&◌, max
 ghost use Rattle.std.specs.Str.{bytes_eq};
 ghost use Rattle.rowan_green.specs.Forest.{tree_text, tree_count};
 ghost use Rattle.rowan_green.specs.Term.{text_of, texts_of, children_of, term_len, term_count};
+ghost use Rattle.rowan_green.specs.Referred.{referred_term};
 ghost use Rattle.rowan.specs.Matching.{outcome, pending_count};
 
-use rowan_green::{GreenElement, GreenNode, NodeOrToken, TextSize};
+use rowan_green::{GreenElementRef, GreenNode, NodeOrToken, TextSize};
 
 /// A comparison of bytes with a text: the answer, or the node on whose text after an offset it
 /// depends, with the bytes that are to be there.
@@ -98,14 +99,16 @@ fn children_have<'a>(node: &'a GreenNode, skip: usize, bytes: &'a [u8]) -> Match
 #[cycle(has_bytes)]
 fn with_child<'a>(
     matching: Matching<'a>,
-    child: &'a GreenElement,
+    child: GreenElementRef<'a>,
     skip: usize,
     bytes: &'a [u8],
 ) -> Matching<'a>
-    requires { skip + length bytes.now ≤ term_len child.now }
+    requires { skip + length bytes.now ≤ term_len (referred_term child) }
     ensures outcome { outcome result ≡ (outcome matching.entry
-        && bytes_eq (take (length bytes.now) (drop skip (text_of child.now))) bytes.now) }
-    ensures below { pending_count result ≤ max (pending_count matching.entry) (term_count child.now) }
+        && bytes_eq (take (length bytes.now) (drop skip (text_of (referred_term child.entry))))
+        bytes.now) }
+    ensures below { pending_count result
+        ≤ max (pending_count matching.entry) (term_count (referred_term child.entry)) }
 {
     match child {
         NodeOrToken::Node(node) => with_node(matching, node, skip, bytes),

@@ -3,6 +3,7 @@ ghost use Rattle.std.specs.Prelude.{◌≡◌, ◌+◌, ◌^◌, ◌≤◌, ◌<
 ghost use Rattle.std.specs.Bool.{OnTrue};
 ghost use Rattle.std.specs.Str.{bytes_eq};
 ghost use Rattle.rowan_green.specs.Forest.{tree_text};
+ghost use Rattle.rowan_green.specs.Referred.{referred_term};
 ghost use Rattle.rowan_green.specs.declared.utility_types.NodeOrToken.TheVariants.{Node, Token};
 ghost use Rattle.rowan.specs.Text.{IsPart};
 ghost use Rattle.rowan.specs.Comparing.{IsStretch, IsHead, Passes, PassesBoth, Differ, bytes_left};
@@ -10,7 +11,7 @@ ghost use Rattle.rowan.specs.Comparing.{IsStretch, IsHead, Passes, PassesBoth, D
 use crate::chunks::Part;
 use crate::syntax_text::SyntaxText;
 use crate::text_bytes::has_bytes;
-use rowan_green::{GreenElement, GreenNode, GreenToken, NodeOrToken};
+use rowan_green::{GreenElementRef, GreenNode, GreenToken, NodeOrToken};
 
 /// A stretch of a node's text, read from its front: `left` bytes that begin `offset` bytes after
 /// the start of the child of number `index`.
@@ -41,10 +42,11 @@ impl<'a> Stretch<'a> {
 
     /// Skips the elements before the first remaining byte, and returns the element with that byte;
     /// `None` if no byte is left.
-    fn head(&mut self) -> Option<&'a GreenElement>
+    fn head(&mut self) -> Option<GreenElementRef<'a>>
         requires { IsStretch self.old }
         ensures passes { Passes 0 self.old self.new }
-        ensures head { MatchOption result (self.new.left ≡ 0) (λ e. IsHead self.new e.now) }
+        ensures head { MatchOption result (self.new.left ≡ 0)
+            (λ e. IsHead self.new (referred_term e)) }
     {
         let count = self.node.children().len();
         'elements: while self.index < count && self.left > 0 {
@@ -144,13 +146,13 @@ fn same_front(a: &mut Stretch<'_>, b: &mut Stretch<'_>) -> bool
 #[cycle(same)]
 fn same_heads(
     a: &mut Stretch<'_>,
-    here: &GreenElement,
+    here: GreenElementRef<'_>,
     b: &mut Stretch<'_>,
-    there: &GreenElement,
+    there: GreenElementRef<'_>,
 ) -> bool
     requires sound { IsStretch a.old × IsStretch b.old }
-    requires here { IsHead a.old here.now }
-    requires there { IsHead b.old there.now }
+    requires here { IsHead a.old (referred_term here) }
+    requires there { IsHead b.old (referred_term there) }
     ensures same { OnTrue result (PassesBoth a.old b.old a.new b.new × (a.new.left < a.old.left)) }
     ensures differ { result ≡ false → Differ (bytes_left a.old) (bytes_left b.old) }
 {

@@ -3,6 +3,7 @@ pub mod Leaf
 pub mod Forest
 pub mod Same
 pub mod Term
+pub mod Referred
 pub mod Refusal
 pub mod Word
 pub mod Building

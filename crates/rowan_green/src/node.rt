@@ -1,15 +1,17 @@
 //! Nodes: a kind and children, shared by all that hold the node.
-ghost use Rattle.std.specs.Prelude.{ℕ, ◌≡◌, ◌≢◌, [], ◌∷◌, ◌*◌, ◌↔◌, ◌+◌, ◌<◌, ◌≤◌, ◌^◌, length, take, IsSome, IfSome, IfOk, IfErr, OnOk, MatchOption, List, slice_get};
-ghost use Rattle.std.specs.Option.{SomeIff, option_copied};
+ghost use Rattle.std.specs.Prelude.{ℕ, ◌≡◌, ◌≢◌, [], ◌∷◌, ◌*◌, ◌↔◌, ◌+◌, ◌<◌, ◌≤◌, ◌^◌, length, take, IsSome, IfSome, IfOk, IfErr, OnOk, MatchOption, List, slice_get, option_map};
+ghost use Rattle.std.specs.Option.{SomeIff};
 ghost use Rattle.std.specs.Iterator.{IsFinite, Drains};
 ghost use Rattle.rowan_green.specs.Forest.{tree_text};
 ghost use Rattle.rowan_green.specs.Term.{Term, texts_of, tree_of, children_of, FitsNode};
+ghost use Rattle.rowan_green.specs.Referred.{referred_term};
 ghost use Rattle.rowan_green.specs.ChildAt.{IsChildAt};
 ghost use Rattle.rowan_green.specs.Refusal.{RefusesUnless};
 
 use crate::child_at::ChildAt;
 use crate::element::GreenElement;
 use crate::element_list::{ElementList, MOST, Part};
+use crate::element_ref::GreenElementRef;
 use crate::equality::same_node;
 use crate::error::GreenError;
 use crate::fingerprint::{self, Fingerprint, SmallNode};
@@ -287,10 +289,10 @@ impl GreenNode {
     }
 
     /// The child of this number, counted from 0, nodes and tokens alike.
-    pub fn child(&self, index: usize) -> Option<&GreenElement>
-        ensures { option_copied result ≡ slice_get (children_of self.now) index }
+    pub fn child(&self, index: usize) -> Option<GreenElementRef<'_>>
+        ensures { option_map referred_term result ≡ slice_get (children_of self.now) index }
     {
-        self.elements().get(index)
+        self.elements().get(index).map(GreenElementRef::of)
     }
 
     /// Returns the offset of the child's text in the node's text, or `None` if the node has no child
@@ -414,12 +416,12 @@ impl Eq for GreenNode {
 /// [`hash_child`] does.
 impl Hash for GreenNode {
     ghost use Rattle.rowan_green.specs.Same.{same_tree-Decides};
-    ghost use Rattle.rowan_green.specs.Hashing.{node_fed};
+    ghost use Rattle.rowan_green.specs.Hashing.{hashed_node};
     ghost use Rattle.std.proofs.Common.{ap};
 
-    ghost hash_input = { node_fed };
+    ghost hash_input = { hashed_node };
 
-    ghost respects_eq = { λ x y p. ap node_fed ((same_tree-Decides x y).0 p) };
+    ghost respects_eq = { λ x y p. ap hashed_node ((same_tree-Decides x y).0 p) };
 
     fn hash<H: Hasher>(&self, state: &mut H) {
         let children = self.elements();

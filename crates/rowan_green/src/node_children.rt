@@ -3,8 +3,8 @@ ghost use Rattle.std.specs.Prelude.{◌≡◌, length, IfSome};
 ghost use Rattle.std.specs.Iterator.{UpTo, at_most};
 ghost use Rattle.std.specs.Iterator.SizeHint.{IsWithinCount};
 
-use crate::element::GreenElement;
 use crate::element_list::ElementList;
+use crate::element_ref::GreenElementRef;
 use std::iter::{DoubleEndedIterator, ExactSizeIterator, FusedIterator};
 use std::marker::Model;
 
@@ -45,19 +45,20 @@ impl<'a> Children<'a> {
 }
 
 impl<'a> Iterator for Children<'a> {
-    type Item = &'a GreenElement;
+    type Item = GreenElementRef<'a>;
 
-    ghost use Rattle.std.specs.Iterator.{YieldsFirstRef, item_count};
+    ghost use Rattle.std.specs.Iterator.{YieldsFirstBy, item_count};
+    ghost use Rattle.rowan_green.specs.Referred.{referred_term};
 
-    ghost next_gives = { YieldsFirstRef (λ s. s) };
+    ghost next_gives = { YieldsFirstBy referred_term (λ s. s) };
 
     ghost remaining = { item_count (λ s. s) };
 
-    fn next(&mut self) -> Option<&'a GreenElement> {
+    fn next(&mut self) -> Option<GreenElementRef<'a>> {
         if self.start >= self.end {
             return None;
         }
-        let first = self.all.at(self.start);
+        let first = GreenElementRef::of(self.all.at(self.start));
         self.start += 1;
         Some(first)
     }
@@ -73,16 +74,17 @@ impl<'a> Iterator for Children<'a> {
 }
 
 impl<'a> DoubleEndedIterator for Children<'a> {
-    ghost use Rattle.std.specs.Iterator.{YieldsLastRef};
+    ghost use Rattle.std.specs.Iterator.{YieldsLastBy};
+    ghost use Rattle.rowan_green.specs.Referred.{referred_term};
 
-    ghost next_back_gives = { YieldsLastRef (λ s. s) };
+    ghost next_back_gives = { YieldsLastBy referred_term (λ s. s) };
 
-    fn next_back(&mut self) -> Option<&'a GreenElement> {
+    fn next_back(&mut self) -> Option<GreenElementRef<'a>> {
         if self.start >= self.end {
             return None;
         }
         self.end -= 1;
-        Some(self.all.at(self.end))
+        Some(GreenElementRef::of(self.all.at(self.end)))
     }
 }
 

@@ -1,7 +1,7 @@
 //! Hashes of children, without a walk over what lies below them.
 ghost use Rattle.std.specs.Prelude.{◌≡◌, fold};
 ghost use Rattle.std.specs.Option.{option_copied};
-ghost use Rattle.rowan_green.specs.Hashing.{token_fed, child_fed};
+ghost use Rattle.rowan_green.specs.Hashing.{hashed_token, hashed_child};
 
 use crate::element::GreenElement;
 use crate::token::GreenToken;
@@ -13,7 +13,7 @@ const MOST_TEXT: usize = 64;
 
 /// Hashes a child: the kind and the length of a node, and a token as [`hash_token`] does.
 pub(crate) fn hash_child<H: Hasher>(child: Option<&GreenElement>, state: &mut H)
-    ensures { state.new ≡ fold H.write state.old (child_fed (option_copied child.entry)) }
+    ensures { state.new ≡ fold H.write state.old (hashed_child (option_copied child.entry)) }
 {
     match child {
         None => {}
@@ -27,7 +27,7 @@ pub(crate) fn hash_child<H: Hasher>(child: Option<&GreenElement>, state: &mut H)
 
 /// Hashes a token: the kind, and the text if it has at most [`MOST_TEXT`] bytes, else the length.
 fn hash_token<H: Hasher>(token: &GreenToken, state: &mut H)
-    ensures { state.new ≡ fold H.write state.old (token_fed token.now) }
+    ensures { state.new ≡ fold H.write state.old (hashed_token token.now) }
 {
     token.kind().0.hash(state);
     let text = token.text();

@@ -2,17 +2,18 @@
 ghost use Rattle.std.specs.Prelude.{◌≡◌, ◌≤◌, ◌<◌, ◌&&◌, max, MatchOption};
 ghost use Rattle.rowan_green.specs.Forest.{empty, same_tree, tree_count};
 ghost use Rattle.rowan_green.specs.Term.{forest_of, term_count};
+ghost use Rattle.rowan_green.specs.Referred.{referred_term};
 ghost use Rattle.rust_document.specs.Bare.{is_left_out, Steps};
 ghost use Rattle.rust_document.specs.Comparing.{outcome, pending_count, same_bare_term};
 ghost use Rattle.rust_document.specs.Rewrite.{bare};
 ghost use Rattle.rust_document.specs.Step.{bare_tree};
 
 use parser_input::syntax_kind::SyntaxKind;
-use rowan_green::{Children, GreenElement, GreenNode, NodeOrToken};
+use rowan_green::{Children, GreenElementRef, GreenNode, NodeOrToken};
 
 /// Returns `true` if an element is whitespace or a comment.
-pub fn is_left_out(element: &GreenElement) -> bool
-    ensures { result ≡ is_left_out element.now }
+pub fn is_left_out(element: GreenElementRef<'_>) -> bool
+    ensures { result ≡ is_left_out (referred_term element.entry) }
 {
     let NodeOrToken::Token(token) = element else {
         return false;
@@ -22,9 +23,9 @@ pub fn is_left_out(element: &GreenElement) -> bool
 }
 
 /// Returns the next child that is neither whitespace nor a comment.
-fn next_bare<'a>(children: &mut Children<'a>) -> Option<&'a GreenElement>
+fn next_bare<'a>(children: &mut Children<'a>) -> Option<GreenElementRef<'a>>
     ensures { MatchOption result (bare (forest_of children.old) ≡ empty)
-        (λ e. Steps children.old e.now children.new) }
+        (λ e. Steps children.old (referred_term e) children.new) }
 {
     'children: while let Some(child) = children.next() {
         if !is_left_out(child) {
@@ -96,15 +97,23 @@ fn compared<'a>(a: &'a GreenNode, b: &'a GreenNode) -> Comparison<'a>
 #[cycle(same)]
 fn with_pair<'a>(
     comparison: Comparison<'a>,
-    x: &'a GreenElement,
-    y: &'a GreenElement,
+    x: GreenElementRef<'a>,
+    y: GreenElementRef<'a>,
 ) -> Comparison<'a>
-    ensures outcome { outcome result ≡ (outcome comparison.entry && same_bare_term x.now y.now) }
-    ensures below { pending_count result ≤ max (pending_count comparison.entry) (term_count x.now) }
+    ensures outcome { outcome result ≡ (outcome comparison.entry
+        && same_bare_term (referred_term x.entry) (referred_term y.entry)) }
+    ensures below { pending_count result
+        ≤ max (pending_count comparison.entry) (term_count (referred_term x.entry)) }
 {
     match (x, y) {
         (NodeOrToken::Node(x), NodeOrToken::Node(y)) => with_nodes(comparison, x, y),
-        (NodeOrToken::Token(x), NodeOrToken::Token(y)) if x == y => comparison,
+        (NodeOrToken::Token(x), NodeOrToken::Token(y)) => {
+            if x == y {
+                comparison
+            } else {
+                Comparison::Different
+            }
+        }
         _ => Comparison::Different,
     }
 }

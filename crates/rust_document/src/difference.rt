@@ -1,14 +1,15 @@
 //! The first difference between two trees, trivia aside.
 ghost use Rattle.std.specs.Prelude.{◌≡◌, ◌+◌, ◌<◌, ◌≤◌, ◌^◌, length, option_map, IfSome, MatchOption};
 ghost use Rattle.rowan_green.specs.Forest.{tree_text};
-ghost use Rattle.rowan_green.specs.Term.{forest_of, kind_of, term_len, texts_of};
+ghost use Rattle.rowan_green.specs.Term.{forest_of, texts_of};
+ghost use Rattle.rowan_green.specs.Referred.{referred_term};
 ghost use Rattle.syntax_tree.specs.Language.{kind_of_raw};
 ghost use Rattle.rust_document.specs.Difference.{first_apart, nothing, placed, told, told_of, tree_apart, Finds};
 
 use crate::bare::is_left_out;
 use parser_input::SyntaxKind;
 use rowan::Language;
-use rowan_green::{Children, GreenElement, GreenNode, NodeOrToken, TextRange, TextSize};
+use rowan_green::{Children, GreenElementRef, GreenNode, NodeOrToken, TextRange, TextSize};
 use syntax_tree::RustLanguage;
 
 /// The first difference between a rewritten tree and the reading of its text, whitespace and
@@ -35,29 +36,9 @@ pub struct Apart {
 /// A child with its bytes.
 #[derive(Clone, Copy)]
 struct Placed<'a> {
-    element: &'a GreenElement,
+    element: GreenElementRef<'a>,
     start: u32,
     end: u32,
-}
-
-/// Returns the raw kind of an element.
-fn kind_of(element: &GreenElement) -> u16
-    ensures { result ≡ kind_of element.now }
-{
-    match element {
-        NodeOrToken::Node(node) => node.kind().0,
-        NodeOrToken::Token(token) => token.kind().0,
-    }
-}
-
-/// Returns the number of bytes of an element.
-fn len_of(element: &GreenElement) -> u32
-    ensures { result ≡ term_len element.now }
-{
-    match element {
-        NodeOrToken::Node(node) => node.text_len().0,
-        NodeOrToken::Token(token) => token.text_len().0,
-    }
 }
 
 /// Returns the next child that is no trivia, with its bytes. `at` is the offset
@@ -65,11 +46,12 @@ fn len_of(element: &GreenElement) -> u32
 fn next_placed<'a>(children: &mut Children<'a>, at: &mut u32) -> Option<Placed<'a>>
     requires { at.old + length (texts_of children.old) < 2 ^ 32 }
     ensures { MatchOption result (placed at.old (forest_of children.old) ≡ nothing)
-        (λ x. Finds at.old children.old x.element.now x.start x.end children.new × (at.new ≡ x.end)) }
+        (λ x. Finds at.old children.old (referred_term x.element) x.start x.end children.new
+        × (at.new ≡ x.end)) }
 {
     'children: while let Some(element) = children.next() {
         let start = *at;
-        let end = start + len_of(element);
+        let end = start + element.text_len().0;
         *at = end;
         if !is_left_out(element) {
             return Some(Placed {
@@ -99,11 +81,11 @@ fn apart_below(wanted: &GreenNode, read: &GreenNode, wanted_at: u32, read_at: u3
             return Some(Apart {
                 start: x.start,
                 end: x.end,
-                wanted: Some(kind_of(x.element)),
+                wanted: Some(x.element.kind().0),
                 read: None,
             });
         };
-        let apart = match (x.element, y.element) {
+        let apart = match (&x.element, &y.element) {
             (NodeOrToken::Node(a), NodeOrToken::Node(b)) if a.kind() == b.kind() => {
                 apart_below(a, b, x.start, y.start)
             }
@@ -111,8 +93,8 @@ fn apart_below(wanted: &GreenNode, read: &GreenNode, wanted_at: u32, read_at: u3
             _ => Some(Apart {
                 start: x.start,
                 end: x.end,
-                wanted: Some(kind_of(x.element)),
-                read: Some(kind_of(y.element)),
+                wanted: Some(x.element.kind().0),
+                read: Some(y.element.kind().0),
             }),
         };
         if apart.is_some() {
@@ -124,7 +106,7 @@ fn apart_below(wanted: &GreenNode, read: &GreenNode, wanted_at: u32, read_at: u3
             start: y.start,
             end: y.end,
             wanted: None,
-            read: Some(kind_of(y.element)),
+            read: Some(y.element.kind().0),
         }),
         None => None,
     }

@@ -46,6 +46,13 @@ use syntax_tree::{SyntaxElement, SyntaxNode, TreeError, TreeIds};
 /// The most bytes that a text may have.
 pub const MAX_TEXT: usize = 16_777_216;
 
+/// The text that a commit would make, and the rewritten tree.
+#[derive(Drop)]
+pub struct RewrittenText {
+    pub text: String,
+    pub tree: tree_rewrite::plan::Rewritten,
+}
+
 /// What an accepted commit tells.
 #[derive(Debug, Drop)]
 pub struct Committed {

@@ -27,7 +27,7 @@ mod tree_sink;
 mod tree_text;
 
 pub use difference::Difference;
-pub use document::{Committed, Document, Edited, MAX_TEXT};
+pub use document::{Committed, Document, Edited, MAX_TEXT, RewrittenText};
 pub use error::{CommitError, EditError, OpenError, PayloadError, WithoutMessagesError};
 pub use parser_input::edition::Edition;
 pub use parser_input::syntax_kind::SyntaxKind;

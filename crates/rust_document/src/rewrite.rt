@@ -28,13 +28,15 @@ use syntax_tree::{SyntaxElement, SyntaxNode, TreeIds};
 use tree_rewrite::origins::origins_of;
 use tree_rewrite::piece::Piece;
 
-/// The text of a rewritten tree, with its reading, the ranges of it that were inserted, and those
-/// of annotated elements.
+/// The text of a rewritten tree, with its reading, the tree and the pieces that it was built from,
+/// the ranges that were inserted, and those of annotated elements.
 #[derive(Drop)]
 pub struct Rewritten {
     pub text: String,
     pub reading: NextReading,
+    pub green: GreenNode,
     pub changed: Vec<TextRange>,
+    pub pieces: Vec<Piece>,
     pub annotated: Vec<(TextRange, SyntaxAnnotation)>,
 }
 
@@ -135,16 +137,21 @@ pub fn rewrite(
     requires { IsOwnParse before.now }
     ensures ok { IfOk result (λ r. IsRewritten grammar edition editor.now before.now.input
         (string_bytes r.text) r.reading r.changed.items) }
+    ensures green { IfOk result (λ r. IsNode (rewriting editor.now) r.green) }
+    ensures says { IfOk result (λ r. Say r.pieces.items (rewriting editor.now)) }
     ensures annotated { IfOk result (λ r. map annotated_ends r.annotated.items ≡ annotated editor.now) }
     ensures refused { IfErr result (RefusesRewritten grammar edition editor.now) }
 {
     let rewritten = editor.rewritten(alloc)?;
     let ReadBack { text, reading } = read_back(alloc, grammar, edition, &rewritten.green, before)?;
-    let annotated = annotated_ranges(alloc, editor, rewritten.green, &rewritten.pieces)?;
+    let tree = rewritten.green.clone()?;
+    let annotated = annotated_ranges(alloc, editor, tree, &rewritten.pieces)?;
     Ok(Rewritten {
         text,
         reading,
+        green: rewritten.green,
         changed: rewritten.changed,
+        pieces: rewritten.pieces,
         annotated,
     })
 }

@@ -9,7 +9,7 @@ ghost use Rattle.syntax_editor.specs.Rewriting.{rewriting};
 
 use crate::changed_ranges::{ChangedRange, changed_ranges};
 use crate::source::Source;
-use rust_document::{CommitError, SyntaxEditor};
+use rust_document::{CommitError, RewrittenText, SyntaxEditor};
 
 /// What [`Source::commit`] of an editor would change.
 #[derive(Debug, Drop)]
@@ -38,12 +38,8 @@ impl Source {
         ensures refused { IfErr result (λ error. (number : ℕ)
             → RefusesCommit (verdict self.now.document editor.now) number error) }
     {
-        let text = self.try_commit(editor)?;
-        // (the verdict is known: only memory can refuse the rewritten tree now)
-        let Ok(made) = editor.rewritten(self.alloc) else {
-            return Err(CommitError::NoMemory);
-        };
-        let changed = changed_ranges(self.alloc, self.text(), text.as_str(), &made)?;
+        let RewrittenText { text, tree } = self.document.try_rewrite(self.alloc, editor)?;
+        let changed = changed_ranges(self.alloc, self.text(), text.as_str(), &tree)?;
         Ok(Preview { text, changed })
     }
 }

@@ -45,7 +45,7 @@ use syntax_tree::{SyntaxElement, SyntaxNode, TreeIds};
 pub struct Source {
     pub(crate) alloc: Global,
     pub(crate) ids: TreeIds,
-    document: Document,
+    pub(crate) document: Document,
 }
 
 // Not derived: a derived drop is opened field by field in each function that drops one.

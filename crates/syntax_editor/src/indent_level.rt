@@ -62,6 +62,7 @@ impl IndentLevel {
 fn after_line_feed(text: &str) -> Option<usize>
     ensures { result ≡ after_line_feed (chars text.now) }
 {
+    // (the length of a text fits, so the count does)
     let _size = text.len();
     let mut found = false;
     let mut count = 0usize;

@@ -109,10 +109,12 @@ pub(crate) fn gap(
     let way = position.parent.way(alloc)?;
     match root.element_at(alloc, &way)? {
         Some(SyntaxElement::Node(parent)) => {
+            // (the contract of `green`: the element is in its tree)
             let _stands = parent.cursor().green();
             Ok(Some(parent))
         }
         Some(SyntaxElement::Token(token)) => {
+            // (the contract of `green`: it is a leaf, which is no parent of a gap)
             let _leaf = token.cursor().green();
             Ok(None)
         }

@@ -4,7 +4,6 @@ pub mod Handle
 pub mod Mapping
 pub mod Position
 pub mod Refusal
-pub mod Referred
 pub mod Search
 pub mod Same
 pub mod Nodes

@@ -6,30 +6,17 @@ ghost use Rattle.rowan.specs.Place.{text_at};
 ghost use Rattle.syntax_tree.specs.Handle.{element_of, with_cursor, with_number, with_place};
 
 use crate::element::SyntaxElement;
-use crate::handle::{SyntaxNode, SyntaxToken};
+use crate::handle::{SyntaxNode, SyntaxToken, node_if};
 use crate::iter::numbered_if;
 use crate::language::RustLanguage;
 use rowan::SyntaxText;
 use std::alloc::{AllocError, Global};
 
-/// Returns the node at `cursor`, if any, in the tree with number `tree`.
-fn node_if(tree: u32, cursor: Option<rowan::SyntaxNode<RustLanguage>>) -> Option<SyntaxNode>
-    ensures { result ≡ option_map (with_number tree) cursor }
-{
-    match cursor {
-        Some(cursor) => Some(SyntaxNode::of(tree, cursor)),
-        None => None,
-    }
-}
-
 /// Returns the token at `cursor`, if any, in the tree with number `tree`.
 fn token_if(tree: u32, cursor: Option<rowan::SyntaxToken<RustLanguage>>) -> Option<SyntaxToken>
     ensures { result ≡ option_map (with_number tree) cursor }
 {
-    match cursor {
-        Some(cursor) => Some(SyntaxToken::of(tree, cursor)),
-        None => None,
-    }
+    cursor.map(|cursor| SyntaxToken::of(tree, cursor))
 }
 
 impl SyntaxNode {

@@ -1,12 +1,13 @@
 //! Elements: a node or a token.
 ghost use Rattle.std.specs.Prelude.{◌≡◌, ◌+◌, ◌<◌, ◌^◌, length, reverse, IfOk, Some};
 ghost use Rattle.std.specs.Option.{option_copied};
+ghost use Rattle.rowan_green.specs.Forest.{Tree};
 ghost use Rattle.rowan.specs.Place.{kind_at, start_of, end_of, index_of, terms_below};
 ghost use Rattle.syntax_tree.specs.Language.{kind_of_raw};
-ghost use Rattle.rowan_green.specs.Forest.{Tree};
 ghost use Rattle.syntax_tree.specs.Element.{term_of, element_at, is_node, same_element};
 ghost use Rattle.syntax_tree.specs.declared.element.SyntaxElement.{SyntaxElement};
 ghost use Rattle.syntax_tree.specs.Handle.{element_of, node_of, token_of, parent_of};
+ghost use Rattle.syntax_tree.specs.declared.element.SyntaxElement.TheVariants.{Node, Token};
 
 use crate::handle::{SyntaxNode, SyntaxToken};
 use parser_input::SyntaxKind;
@@ -225,9 +226,6 @@ impl Clone for SyntaxElement {
 }
 
 impl From<SyntaxNode> for SyntaxElement {
-    ghost use Rattle.std.specs.Prelude.{◌≡◌};
-    ghost use Rattle.syntax_tree.specs.declared.element.SyntaxElement.TheVariants.{Node};
-
     ghost from_gives = { λ node element. element ≡ Node node };
 
     fn from(node: SyntaxNode) -> SyntaxElement {
@@ -236,9 +234,6 @@ impl From<SyntaxNode> for SyntaxElement {
 }
 
 impl From<SyntaxToken> for SyntaxElement {
-    ghost use Rattle.std.specs.Prelude.{◌≡◌};
-    ghost use Rattle.syntax_tree.specs.declared.element.SyntaxElement.TheVariants.{Token};
-
     ghost from_gives = { λ token element. element ≡ Token token };
 
     fn from(token: SyntaxToken) -> SyntaxElement {
@@ -261,8 +256,6 @@ pub trait Element: Sized {
 }
 
 impl Element for SyntaxNode {
-    ghost use Rattle.syntax_tree.specs.declared.element.SyntaxElement.TheVariants.{Node};
-
     ghost element = { Node };
 
     fn syntax_element(self) -> Result<SyntaxElement, AllocError> {
@@ -271,8 +264,6 @@ impl Element for SyntaxNode {
 }
 
 impl Element for &SyntaxNode {
-    ghost use Rattle.syntax_tree.specs.declared.element.SyntaxElement.TheVariants.{Node};
-
     ghost element = { λ e. Node e.now };
 
     fn syntax_element(self) -> Result<SyntaxElement, AllocError> {
@@ -281,8 +272,6 @@ impl Element for &SyntaxNode {
 }
 
 impl Element for SyntaxToken {
-    ghost use Rattle.syntax_tree.specs.declared.element.SyntaxElement.TheVariants.{Token};
-
     ghost element = { Token };
 
     fn syntax_element(self) -> Result<SyntaxElement, AllocError> {
@@ -291,8 +280,6 @@ impl Element for SyntaxToken {
 }
 
 impl Element for &SyntaxToken {
-    ghost use Rattle.syntax_tree.specs.declared.element.SyntaxElement.TheVariants.{Token};
-
     ghost element = { λ e. Token e.now };
 
     fn syntax_element(self) -> Result<SyntaxElement, AllocError> {

@@ -1,5 +1,5 @@
 //! Nodes and tokens of numbered trees.
-ghost use Rattle.std.specs.Prelude.{◌≡◌, ◌+◌, [], ◌∷◌, reverse, IfOk, IfErr, OnOk, Some};
+ghost use Rattle.std.specs.Prelude.{◌≡◌, ◌+◌, [], ◌∷◌, reverse, IfOk, IfErr, OnOk, Some, option_map};
 ghost use Rattle.parser_input.specs.Kinds.{TOMBSTONE};
 ghost use Rattle.rowan_green.specs.Forest.{Tree};
 ghost use Rattle.rowan_green.specs.Term.{tree_of};
@@ -102,10 +102,7 @@ impl SyntaxNode {
         ensures kept { IfErr result (λ _. ids.new ≡ ids.old) }
     {
         let cursor = rowan::SyntaxNode::new_root(alloc, green)?;
-        Ok(SyntaxNode {
-            tree: ids.next()?,
-            cursor,
-        })
+        Ok(SyntaxNode::of(ids.next()?, cursor))
     }
 
     /// Returns a copy of this node as the root of a new tree, with the next number of `ids`.
@@ -195,13 +192,7 @@ impl SyntaxNode {
     pub fn parent(&self) -> Result<Option<SyntaxNode>, AllocError>
         ensures { IfOk result (λ r. r ≡ parent_of self.now) }
     {
-        match self.cursor.parent()? {
-            Some(cursor) => Ok(Some(SyntaxNode {
-                tree: self.tree,
-                cursor,
-            })),
-            None => Ok(None),
-        }
+        Ok(node_if(self.tree, self.cursor.parent()?))
     }
 }
 
@@ -214,11 +205,7 @@ impl Clone for SyntaxNode {
     ///
     /// Returns an error only if the reference count overflows.
     fn clone(&self) -> Result<SyntaxNode, AllocError> {
-        let cursor = self.cursor.clone()?;
-        Ok(SyntaxNode {
-            tree: self.tree,
-            cursor,
-        })
+        Ok(SyntaxNode::of(self.tree, self.cursor.clone()?))
     }
 }
 
@@ -254,10 +241,7 @@ impl SyntaxToken {
         let Some(NodeOrToken::Token(cursor)) = root.first_child_or_token(alloc)? else {
             unreachable!()
         };
-        Ok(SyntaxToken {
-            tree: ids.next()?,
-            cursor,
-        })
+        Ok(SyntaxToken::of(ids.next()?, cursor))
     }
 
     /// Returns the number of its tree.
@@ -338,13 +322,7 @@ impl SyntaxToken {
     pub fn parent(&self) -> Result<Option<SyntaxNode>, AllocError>
         ensures { IfOk result (λ r. r ≡ parent_of self.now) }
     {
-        match self.cursor.parent()? {
-            Some(cursor) => Ok(Some(SyntaxNode {
-                tree: self.tree,
-                cursor,
-            })),
-            None => Ok(None),
-        }
+        Ok(node_if(self.tree, self.cursor.parent()?))
     }
 }
 
@@ -367,12 +345,18 @@ impl Clone for SyntaxToken {
     ///
     /// Returns an error only if the reference count overflows.
     fn clone(&self) -> Result<SyntaxToken, AllocError> {
-        let cursor = self.cursor.clone()?;
-        Ok(SyntaxToken {
-            tree: self.tree,
-            cursor,
-        })
+        Ok(SyntaxToken::of(self.tree, self.cursor.clone()?))
     }
+}
+
+/// Returns the node at `cursor`, if any, in the tree with number `tree`.
+pub(crate) fn node_if(
+    tree: u32,
+    cursor: Option<rowan::SyntaxNode<RustLanguage>>,
+) -> Option<SyntaxNode>
+    ensures { result ≡ option_map (with_number tree) cursor }
+{
+    cursor.map(|cursor| SyntaxNode::of(tree, cursor))
 }
 
 /// Returns the up-path of `node`: the child indices from it up to the root, innermost first.

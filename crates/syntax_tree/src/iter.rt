@@ -1,10 +1,16 @@
 //! Iterators over ancestors, children and descendants.
-ghost use Rattle.std.specs.Prelude.{◌≡◌, map, option_map, IfOk};
+ghost use Rattle.std.specs.Prelude.{◌≡◌, map, option_map, IfOk, List, length};
+ghost use Rattle.std.specs.Coded.{codes};
+ghost use Rattle.std.specs.Iterator.{at_most};
 ghost use Rattle.rowan_green.specs.declared.utility_types.NodeOrToken.TheVariants.{Node};
+ghost use Rattle.rowan_green.specs.Forest.{tree_code};
 ghost use Rattle.rowan.specs.Place.{below};
 ghost use Rattle.rowan.specs.Around.{ancestors, cursor_at, element_ancestors, children, nodes};
 ghost use Rattle.rowan.specs.Walk.{walk};
-ghost use Rattle.syntax_tree.specs.Handle.{element_of, cursor_of, with_place, with_number, with_cursor};
+ghost use Rattle.rowan.specs.Yields.{YieldsOrFails};
+ghost use Rattle.syntax_tree.specs.Handle.{element_of, cursor_of, with_place, with_number, with_cursor, Walk, elements_left};
+ghost use Rattle.syntax_tree.specs.Element.{Element};
+ghost use Rattle.syntax_tree.specs.declared.element.SyntaxElement.{SyntaxElement};
 
 use crate::element::SyntaxElement;
 use crate::handle::{SyntaxNode, SyntaxToken};
@@ -30,10 +36,7 @@ pub(crate) fn numbered_if(
 ) -> Option<SyntaxElement>
     ensures { result ≡ option_map (with_cursor tree) cursor }
 {
-    match cursor {
-        Some(cursor) => Some(numbered(tree, cursor)),
-        None => None,
-    }
+    cursor.map(|cursor| numbered(tree, cursor))
 }
 
 /// An iterator over a node and its ancestors, up to the root. Model: the remaining nodes.
@@ -53,12 +56,6 @@ impl Drop for Ancestors {
 }
 
 impl Model for Ancestors {
-    ghost use Rattle.std.specs.Prelude.{List, map};
-    ghost use Rattle.std.specs.Coded.{codes};
-    ghost use Rattle.rowan_green.specs.Forest.{tree_code};
-    ghost use Rattle.syntax_tree.specs.Element.{Element};
-    ghost use Rattle.syntax_tree.specs.Handle.{with_number};
-
     ghost Value = { List Element };
 
     ghost coded = { Prim.hlevel (codes, tree_code) };
@@ -69,19 +66,13 @@ impl Model for Ancestors {
 impl Iterator for Ancestors {
     type Item = Result<SyntaxNode, AllocError>;
 
-    ghost use Rattle.std.specs.Prelude.{length};
-    ghost use Rattle.std.specs.Iterator.{at_most};
-    ghost use Rattle.rowan.specs.Yields.{YieldsOrFails};
-
     ghost next_gives = { YieldsOrFails };
 
     ghost remaining = { λ s. at_most (length s) };
 
     fn next(&mut self) -> Option<Result<SyntaxNode, AllocError>> {
-        match self.cursors.next()? {
-            Ok(cursor) => Some(Ok(SyntaxNode::of(self.tree, cursor))),
-            Err(e) => Some(Err(e)),
-        }
+        let node = self.cursors.next()?;
+        Some(node.map(|cursor| SyntaxNode::of(self.tree, cursor)))
     }
 }
 
@@ -102,12 +93,6 @@ impl Drop for SyntaxNodeChildren {
 }
 
 impl Model for SyntaxNodeChildren {
-    ghost use Rattle.std.specs.Prelude.{List, map};
-    ghost use Rattle.std.specs.Coded.{codes};
-    ghost use Rattle.rowan_green.specs.Forest.{tree_code};
-    ghost use Rattle.syntax_tree.specs.Element.{Element};
-    ghost use Rattle.syntax_tree.specs.Handle.{with_number};
-
     ghost Value = { List Element };
 
     ghost coded = { Prim.hlevel (codes, tree_code) };
@@ -118,19 +103,13 @@ impl Model for SyntaxNodeChildren {
 impl Iterator for SyntaxNodeChildren {
     type Item = Result<SyntaxNode, AllocError>;
 
-    ghost use Rattle.std.specs.Prelude.{length};
-    ghost use Rattle.std.specs.Iterator.{at_most};
-    ghost use Rattle.rowan.specs.Yields.{YieldsOrFails};
-
     ghost next_gives = { YieldsOrFails };
 
     ghost remaining = { λ s. at_most (length s) };
 
     fn next(&mut self) -> Option<Result<SyntaxNode, AllocError>> {
-        match self.cursors.next()? {
-            Ok(cursor) => Some(Ok(SyntaxNode::of(self.tree, cursor))),
-            Err(e) => Some(Err(e)),
-        }
+        let node = self.cursors.next()?;
+        Some(node.map(|cursor| SyntaxNode::of(self.tree, cursor)))
     }
 }
 
@@ -151,12 +130,6 @@ impl Drop for SyntaxElementChildren {
 }
 
 impl Model for SyntaxElementChildren {
-    ghost use Rattle.std.specs.Prelude.{List, map};
-    ghost use Rattle.std.specs.Coded.{codes};
-    ghost use Rattle.rowan_green.specs.Forest.{tree_code};
-    ghost use Rattle.syntax_tree.specs.declared.element.SyntaxElement.{SyntaxElement};
-    ghost use Rattle.syntax_tree.specs.Handle.{with_cursor};
-
     ghost Value = { List SyntaxElement };
 
     ghost coded = { Prim.hlevel (codes, tree_code) };
@@ -167,19 +140,13 @@ impl Model for SyntaxElementChildren {
 impl Iterator for SyntaxElementChildren {
     type Item = Result<SyntaxElement, AllocError>;
 
-    ghost use Rattle.std.specs.Prelude.{length};
-    ghost use Rattle.std.specs.Iterator.{at_most};
-    ghost use Rattle.rowan.specs.Yields.{YieldsOrFails};
-
     ghost next_gives = { YieldsOrFails };
 
     ghost remaining = { λ s. at_most (length s) };
 
     fn next(&mut self) -> Option<Result<SyntaxElement, AllocError>> {
-        match self.cursors.next()? {
-            Ok(cursor) => Some(Ok(numbered(self.tree, cursor))),
-            Err(e) => Some(Err(e)),
-        }
+        let element = self.cursors.next()?;
+        Some(element.map(|cursor| numbered(self.tree, cursor)))
     }
 }
 
@@ -201,10 +168,6 @@ impl Drop for DescendantsWithTokens {
 }
 
 impl Model for DescendantsWithTokens {
-    ghost use Rattle.std.specs.Coded.{codes};
-    ghost use Rattle.rowan_green.specs.Forest.{tree_code};
-    ghost use Rattle.syntax_tree.specs.Handle.{Walk};
-
     ghost Value = { Walk };
 
     ghost coded = { Prim.hlevel (codes, tree_code) };
@@ -215,20 +178,13 @@ impl Model for DescendantsWithTokens {
 impl Iterator for DescendantsWithTokens {
     type Item = Result<SyntaxElement, AllocError>;
 
-    ghost use Rattle.std.specs.Prelude.{length};
-    ghost use Rattle.std.specs.Iterator.{at_most};
-    ghost use Rattle.rowan.specs.Yields.{YieldsOrFails};
-    ghost use Rattle.syntax_tree.specs.Handle.{elements_left};
-
     ghost next_gives = { λ s r t. YieldsOrFails (elements_left s) r (elements_left t) };
 
     ghost remaining = { λ s. at_most (length s.events) };
 
     fn next(&mut self) -> Option<Result<SyntaxElement, AllocError>> {
-        match self.cursors.next()? {
-            Ok(cursor) => Some(Ok(numbered(self.tree, cursor))),
-            Err(e) => Some(Err(e)),
-        }
+        let element = self.cursors.next()?;
+        Some(element.map(|cursor| numbered(self.tree, cursor)))
     }
 }
 

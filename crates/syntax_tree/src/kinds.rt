@@ -1,12 +1,16 @@
 //! Children of one kind, and all nodes below a node.
 ghost use Rattle.std.specs.Prelude.{◌≡◌, ◌<◌, length, IfOk, IsSome};
 ghost use Rattle.std.specs.List.{filter};
-ghost use Rattle.rowan_green.specs.declared.utility_types.NodeOrToken.TheVariants.{Node};
+ghost use Rattle.std.specs.Coded.{codes};
+ghost use Rattle.std.specs.Iterator.{at_most};
 ghost use Rattle.parser_input.specs.Kind.{raw_of};
+ghost use Rattle.rowan_green.specs.declared.utility_types.NodeOrToken.TheVariants.{Node};
+ghost use Rattle.rowan_green.specs.Forest.{tree_code};
 ghost use Rattle.rowan.specs.Around.{first};
 ghost use Rattle.rowan.specs.Walk.{walk};
 ghost use Rattle.rowan.specs.Yields.{YieldsOrFails};
-ghost use Rattle.syntax_tree.specs.Nodes.{child_nodes, child_tokens, is_of_kind};
+ghost use Rattle.syntax_tree.specs.Nodes.{child_nodes, child_tokens, is_of_kind, Wanted, wanted_nodes, nodes_left};
+ghost use Rattle.syntax_tree.specs.Handle.{Walk};
 
 use crate::element::SyntaxElement;
 use crate::handle::{SyntaxNode, SyntaxToken};
@@ -34,10 +38,6 @@ impl Drop for ChildrenOfKind {
 }
 
 impl Model for ChildrenOfKind {
-    ghost use Rattle.std.specs.Coded.{codes};
-    ghost use Rattle.rowan_green.specs.Forest.{tree_code};
-    ghost use Rattle.syntax_tree.specs.Nodes.{Wanted};
-
     ghost Value = { Wanted };
 
     ghost coded = { Prim.hlevel (codes, tree_code) };
@@ -47,11 +47,6 @@ impl Model for ChildrenOfKind {
 
 impl Iterator for ChildrenOfKind {
     type Item = Result<SyntaxNode, AllocError>;
-
-    ghost use Rattle.std.specs.Prelude.{length};
-    ghost use Rattle.std.specs.Iterator.{at_most};
-    ghost use Rattle.rowan.specs.Yields.{YieldsOrFails};
-    ghost use Rattle.syntax_tree.specs.Nodes.{wanted_nodes};
 
     ghost next_gives = { λ s r t. YieldsOrFails (wanted_nodes s) r (wanted_nodes t) };
 
@@ -99,10 +94,6 @@ impl Drop for Descendants {
 }
 
 impl Model for Descendants {
-    ghost use Rattle.std.specs.Coded.{codes};
-    ghost use Rattle.rowan_green.specs.Forest.{tree_code};
-    ghost use Rattle.syntax_tree.specs.Handle.{Walk};
-
     ghost Value = { Walk };
 
     ghost coded = { Prim.hlevel (codes, tree_code) };
@@ -113,20 +104,13 @@ impl Model for Descendants {
 impl Iterator for Descendants {
     type Item = Result<SyntaxNode, AllocError>;
 
-    ghost use Rattle.std.specs.Prelude.{length};
-    ghost use Rattle.std.specs.Iterator.{at_most};
-    ghost use Rattle.rowan.specs.Yields.{YieldsOrFails};
-    ghost use Rattle.syntax_tree.specs.Nodes.{nodes_left};
-
     ghost next_gives = { λ s r t. YieldsOrFails (nodes_left s) r (nodes_left t) };
 
     ghost remaining = { λ s. at_most (length s.events) };
 
     fn next(&mut self) -> Option<Result<SyntaxNode, AllocError>> {
-        match self.cursors.next()? {
-            Ok(cursor) => Some(Ok(SyntaxNode::of(self.tree, cursor))),
-            Err(error) => Some(Err(error)),
-        }
+        let node = self.cursors.next()?;
+        Some(node.map(|cursor| SyntaxNode::of(self.tree, cursor)))
     }
 }
 
@@ -166,11 +150,7 @@ impl SyntaxNode {
             (λ n. n ≡ first (filter (is_of_kind (raw_of kind)) (child_nodes self.now))) }
     {
         let mut found = self.children_of(alloc, kind)?;
-        match found.next() {
-            Some(Ok(child)) => Ok(Some(child)),
-            Some(Err(error)) => Err(error),
-            None => Ok(None),
-        }
+        found.next().transpose()
     }
 
     /// Returns the first child token of kind `kind`.

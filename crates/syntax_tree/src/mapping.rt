@@ -1,10 +1,11 @@
 //! Mappings from nodes to the corresponding nodes of other trees.
-ghost use Rattle.std.specs.Prelude.{◌≡◌, ◌∷◌, ◌++◌, [], length, IfOk, IfErr, OnOk, OnErr};
+ghost use Rattle.std.specs.Prelude.{◌≡◌, ◌∷◌, ◌++◌, [], length, slice_get, option_map, IfOk, IfErr, OnOk, OnErr};
 ghost use Rattle.std.specs.List.{zip};
 ghost use Rattle.std.specs.Option.{option_copied};
-ghost use Rattle.rowan_green.specs.Forest.{Tree};
+ghost use Rattle.std.specs.Coded.{codes};
+ghost use Rattle.rowan_green.specs.Forest.{Tree, tree_code};
 ghost use Rattle.syntax_tree.specs.Element.{element_at};
-ghost use Rattle.syntax_tree.specs.Mapping.{AcceptsNode, RefusesNode, AcceptsNodes, RefusesNodes, is_child, are_children, are_ordered, image_of};
+ghost use Rattle.syntax_tree.specs.Mapping.{AcceptsNode, RefusesNode, AcceptsNodes, RefusesNodes, is_child, are_children, are_ordered, image_of, Mapping, Building};
 
 use crate::error::MappingError;
 use crate::handle::SyntaxNode;
@@ -21,10 +22,6 @@ pub struct SyntaxMapping {
 }
 
 impl Model for SyntaxMapping {
-    ghost use Rattle.std.specs.Coded.{codes};
-    ghost use Rattle.rowan_green.specs.Forest.{tree_code};
-    ghost use Rattle.syntax_tree.specs.Mapping.{Mapping};
-
     ghost Value = { Mapping };
 
     ghost coded = { Prim.hlevel (codes, tree_code) };
@@ -57,6 +54,15 @@ impl SyntaxMapping {
             }
         }
         Ok(None)
+    }
+
+    /// Returns the input and the output of the entry at `index`, in the order in which they were
+    /// recorded; `None` if there are no more entries.
+    pub fn entry(&self, index: usize) -> Option<(&SyntaxNode, &SyntaxNode)>
+        ensures { option_map (λ e. (e.0.now, e.1.now)) result ≡ slice_get self.now index }
+    {
+        let (input, output) = self.entries.get(index)?;
+        Some((input, output))
     }
 
     /// Returns the number of entries.
@@ -105,11 +111,6 @@ pub struct SyntaxMappingBuilder {
 }
 
 impl Model for SyntaxMappingBuilder {
-    ghost use Rattle.std.specs.Prelude.{◌≡◌};
-    ghost use Rattle.std.specs.Coded.{codes};
-    ghost use Rattle.rowan_green.specs.Forest.{tree_code};
-    ghost use Rattle.syntax_tree.specs.Mapping.{Building};
-
     ghost Value = { Building };
 
     ghost coded = { Prim.hlevel (codes, tree_code) };

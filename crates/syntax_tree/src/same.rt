@@ -1,13 +1,12 @@
 //! Equality and hashing of nodes and tokens by tree number and up-path. Neither allocates.
+ghost use Rattle.std.specs.Cmp.{partial_equiv_from_equiv};
+ghost use Rattle.syntax_tree.specs.Element.{same_element};
+ghost use Rattle.syntax_tree.specs.Same.{same_element-equiv, element_fed, fed_alike};
 
 use crate::handle::{SyntaxNode, SyntaxToken};
 use std::hash::{Hash, Hasher};
 
 impl PartialEq for SyntaxNode {
-    ghost use Rattle.std.specs.Cmp.{partial_equiv_from_equiv};
-    ghost use Rattle.syntax_tree.specs.Element.{same_element};
-    ghost use Rattle.syntax_tree.specs.Same.{same_element-equiv};
-
     ghost eq = { same_element };
 
     ghost laws = { partial_equiv_from_equiv same_element-equiv };
@@ -19,14 +18,10 @@ impl PartialEq for SyntaxNode {
 }
 
 impl Eq for SyntaxNode {
-    ghost use Rattle.syntax_tree.specs.Same.{same_element-equiv};
-
     ghost laws = { same_element-equiv };
 }
 
 impl Hash for SyntaxNode {
-    ghost use Rattle.syntax_tree.specs.Same.{element_fed, fed_alike};
-
     ghost hash_input = { element_fed };
 
     ghost respects_eq = { fed_alike };
@@ -39,10 +34,6 @@ impl Hash for SyntaxNode {
 }
 
 impl PartialEq for SyntaxToken {
-    ghost use Rattle.std.specs.Cmp.{partial_equiv_from_equiv};
-    ghost use Rattle.syntax_tree.specs.Element.{same_element};
-    ghost use Rattle.syntax_tree.specs.Same.{same_element-equiv};
-
     ghost eq = { same_element };
 
     ghost laws = { partial_equiv_from_equiv same_element-equiv };
@@ -54,14 +45,10 @@ impl PartialEq for SyntaxToken {
 }
 
 impl Eq for SyntaxToken {
-    ghost use Rattle.syntax_tree.specs.Same.{same_element-equiv};
-
     ghost laws = { same_element-equiv };
 }
 
 impl Hash for SyntaxToken {
-    ghost use Rattle.syntax_tree.specs.Same.{element_fed, fed_alike};
-
     ghost hash_input = { element_fed };
 
     ghost respects_eq = { fed_alike };

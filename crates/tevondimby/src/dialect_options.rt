@@ -1,6 +1,6 @@
 //! The Rust that the files of a command are read as.
 
-use crate::edition_of::{edition_named, edition_of};
+use crate::edition_of::edition_of;
 use clap::ArgMatches;
 use parser_input::Edition;
 use rust_document::Grammar;
@@ -17,7 +17,7 @@ impl DialectOptions {
     /// Returns what a command line says.
     pub(crate) fn new(matches: &ArgMatches<'_>) -> DialectOptions {
         DialectOptions {
-            edition: matches.get_str("edition").and_then(edition_named),
+            edition: matches.get_str("edition").and_then(Edition::from_name),
             grammar: match matches.get_str("grammar") {
                 Some("profile") => Grammar::Profile,
                 _ => Grammar::Whole,

@@ -9,18 +9,6 @@ use toml::{Table, Value};
 /// The most directories that are looked into for one file.
 const MAX_DEPTH: usize = 4096;
 
-/// Returns the edition with this name.
-pub(crate) fn edition_named(name: &str) -> Option<Edition> {
-    match name {
-        "2015" => Some(Edition::Edition2015),
-        "2018" => Some(Edition::Edition2018),
-        "2021" => Some(Edition::Edition2021),
-        "2024" => Some(Edition::Edition2024),
-        "next" => Some(Edition::EditionNext),
-        _ => None,
-    }
-}
-
 /// What a manifest says of the edition.
 #[derive(Drop)]
 enum Said {
@@ -35,7 +23,7 @@ fn said_by(value: Option<&Value>) -> Said {
     match value {
         None => Said::Edition(Edition::Edition2015),
         Some(value) => match value.as_str() {
-            Some(name) => match edition_named(name) {
+            Some(name) => match Edition::from_name(name) {
                 Some(edition) => Said::Edition(edition),
                 None => Said::Nothing,
             },

@@ -43,7 +43,7 @@ fn dump_record<W: Write>(alloc: Global, out: &mut W, record: &str) -> anyhow::Re
         Some(name) => (name, Grammar::Whole),
         None => (words, Grammar::Profile),
     };
-    let edition = names::edition(year).context("no such edition")?;
+    let edition = Edition::from_name(year).context("no such edition")?;
     let entry_point = names::entry_point(name).context("no such entry")?;
     dump(alloc, out, edition, grammar, entry_point, text)
 }

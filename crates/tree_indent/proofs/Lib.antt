@@ -1,3 +1,4 @@
 pub mod Shifting
 pub mod SetOut
+pub mod Replacing
 pub mod ChildPairs

@@ -12,15 +12,15 @@ no-true : (b : Bool) → (b ≡ true → ⊥) → b ≡ false
 no-true true h = absurd (h refl)
 no-true false h = refl
 
-and-parts : (a b : Bool) → (a && b) ≡ true → (a ≡ true) × (b ≡ true)
+pub and-parts : (a b : Bool) → (a && b) ≡ true → (a ≡ true) × (b ≡ true)
 and-parts true b h = (refl, h)
 and-parts false b h = absurd (cc)
 
-front_is : (n : ℕ) (cs : List ℕ)
+pub front_is : (n : ℕ) (cs : List ℕ)
     → (starts_with eqb cs (spaces n) ≡ true → cs ≡ spaces n ++ drop (length (spaces n)) cs) × ((rest : List ℕ) → cs ≡ spaces n ++ rest → starts_with eqb cs (spaces n) ≡ true)
 front_is n cs = starts_is Decides-eqb cs (spaces n) (starts_with eqb cs (spaces n)) refl
 
-ten : (c : ℕ) → eqb c 10 ≡ true → c ≡ 10
+pub ten : (c : ℕ) → eqb c 10 ≡ true → c ≡ 10
 ten c h = (Decides-eqb c 10).0 h
 
 -- if no line feed is followed by the spaces, the character stays

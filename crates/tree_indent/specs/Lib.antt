@@ -1,3 +1,4 @@
 pub mod Shifted
+pub mod Laws
 pub mod Indented
 pub mod Mapped

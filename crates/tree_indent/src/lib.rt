@@ -4,6 +4,7 @@
 pub mod ast_node_edit;
 pub mod edit;
 pub mod error;
+pub mod laws;
 pub mod mapped;
 pub mod shift;
 pub mod trees;

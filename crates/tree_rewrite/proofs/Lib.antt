@@ -27,4 +27,5 @@ pub mod WayMapLemmas
 pub mod TrieLemmas
 pub mod TrieStepLemmas
 pub mod HeldLemmas
+pub mod MappedLemmas
 pub mod ListedLemmas

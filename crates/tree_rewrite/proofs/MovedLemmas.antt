@@ -1,12 +1,15 @@
 -- What the code of moved changes goes by.
-use Rattle.std.proofs.Common.{◌≡◌, ℕ, zero, suc, ◌+◌, ◌≤◌, List, [], ◌∷◌, ◌++◌, length, Option, Some, None, Bool, true, false, ◌&&◌, cond, refl, ap, sym, ◌∙◌, arith, slice_get}
+use Rattle.std.proofs.Common.{◌≡◌, ℕ, zero, suc, ◌+◌, ◌≤◌, List, [], ◌∷◌, ◌++◌, length, Option, Some, None, Result, IfOk, Bool, true, false, ◌&&◌, cond, refl, ap, sym, subst, ◌∙◌, arith, slice_get, option_map}
+use Rattle.std.specs.Bool.{then_some}
 use Rattle.rowan_green.specs.Forest.{Tree}
 use Rattle.rowan_green.specs.Term.{Term}
 use Rattle.rowan_green.specs.declared.utility_types.NodeOrToken.TheVariants.{Node}
 use Rattle.rowan.specs.Place.{term_by, children_in, first_number}
 use Rattle.syntax_tree.specs.Element.{Way, Element}
-use Rattle.tree_rewrite.specs.Change.{insert, replace}
+use Rattle.tree_rewrite.specs.Change.{Change, insert, replace}
 use Rattle.tree_rewrite.specs.Moved.{same_kind, same_kinds, has_gap, way_above, carried, change_below}
+use Rattle.tree_rewrite.specs.Recorded.{change_of}
+use Rattle.tree_rewrite.specs.declared.tree_change.Target.{Target}
 
 -- an element below a node of a tree
 pub term_by-below : (t g : Tree) (up q : Way) → term_by t up ≡ Some (Node g) → term_by t (q ++ up) ≡ term_by g q
@@ -52,3 +55,14 @@ replace_below t u b g w f n new single s h e =
     let moved = replace (first_number f ∷ carried u w (way_above f)) n new single in
     ap (λ o. cond (same_kinds (children_in (term_by t (way_above f))) (children_in o) (first_number f) (n + 1)) (Some moved) None) (term_by-below b.place.root g b.place.up (carried u w (way_above f)) h)
     ∙ ap (λ x. cond x (Some moved) None) (sym e)
+
+moved_by_test : (s : Bool) (x : Target) (es : List Element) → option_map (λ t. change_of t es) (then_some s x) ≡ cond s (Some (change_of x es)) None
+moved_by_test true x es = refl
+moved_by_test false x es = refl
+
+-- a change that moves to a target if a test holds
+pub moved_if : {E : Type 0} (r : Result (Option Change) E) (s : Bool) (x : Target) (es : List Element) (o : Option Target) (m : Change) (a : Option Change)
+    → IfOk r (λ v. v ≡ option_map (λ t. change_of t es) o) → o ≡ then_some s x → change_of x es ≡ m → a ≡ cond s (Some m) None
+    → IfOk r (λ v. v ≡ a)
+moved_if r s x es o m a h e made below =
+    subst (λ (z : Option Change). IfOk r (λ v. v ≡ z)) (ap (option_map (λ t. change_of t es)) e ∙ moved_by_test s x es ∙ ap (λ y. cond s (Some y) None) made ∙ sym below) h

@@ -16,6 +16,11 @@ abbrev pub OrdersAgree : Type 0
 OrdersAgree = (top : Element) (cs : List Change) (ms : Mapping) (os : List ℕ) → is_placeable top cs ms ≡ true → is_order (or_no_jobs (jobs top cs ms)) os ≡ true
     → put_in_order top (or_no_jobs (jobs top cs ms)) os ≡ rewrite top cs ms
 
+-- there is an admitted order of changes that have a place each and do not collide
+abbrev pub OrderExists : Type 0
+OrderExists = (top : Element) (cs : List Change) (ms : Mapping) → is_placeable top cs ms ≡ true
+    → (os : List ℕ) × (is_order (or_no_jobs (jobs top cs ms)) os ≡ true)
+
 -- two recordings on one tree are equivalent: both or neither have a collision, both or neither have a place for each change, and the trees with all changes applied are equal
 pub record AreAlike (top : Element) (cs ds : List Change) (ms : Mapping) : Type 0 where
   pub colliding : has_collision cs ≡ has_collision ds

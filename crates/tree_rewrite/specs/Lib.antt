@@ -6,6 +6,7 @@ pub mod Orders
 pub mod Recorded
 pub mod Laws
 pub mod Climbing
+pub mod Mapped
 pub mod Plan
 pub mod Reach
 pub mod Pieces

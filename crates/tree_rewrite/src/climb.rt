@@ -3,10 +3,18 @@ ghost use Rattle.std.specs.Prelude.{◌≡◌, ◌+◌, length, Option, option_m
 ghost use Rattle.rowan_green.specs.Forest.{Tree};
 ghost use Rattle.syntax_tree.specs.Element.{Way, Element, same_element, element_at};
 ghost use Rattle.tree_rewrite.specs.Moved.{way_up, way_to};
-ghost use Rattle.tree_rewrite.specs.Climbing.{after_numbers, way_left};
+ghost use Rattle.tree_rewrite.specs.Climbing.{StandsAt, after_numbers, way_left};
 
+use crate::mapped::MappedNodes;
 use std::alloc::{AllocError, Global};
-use syntax_tree::{SyntaxMapping, SyntaxNode};
+use syntax_tree::SyntaxNode;
+
+/// The payload that a climb looks for, by the number of its tree and its up-path.
+#[derive(Clone, Copy)]
+struct Goal<'a> {
+    tree: u32,
+    way: &'a [usize],
+}
 
 /// The end of a climb.
 enum ClimbEnd<'a> {
@@ -18,35 +26,36 @@ enum ClimbEnd<'a> {
     Mapped(&'a SyntaxNode),
 }
 
-/// Returns `true` if `node` is at up-path `way` in the tree with number `tree`.
-fn is_at(node: &SyntaxNode, tree: u32, way: &[usize]) -> Result<bool, AllocError>
-    ensures { (t : Tree) → IfOk result (λ b. b ≡ same_element node.now (element_at tree t way.now)) }
+/// Returns `true` if the payload `goal` is at up-path `way` in the tree with number `tree`. Up-paths
+/// of other lengths are not examined.
+fn is_at(goal: Goal<'_>, tree: u32, way: &[usize]) -> bool
+    ensures { (b : Element) (t : Tree) → StandsAt b goal.entry.tree goal.entry.way.now
+        → result ≡ same_element b (element_at tree t way.now) }
 {
-    if node.tree() != tree {
-        return Ok(false);
-    }
-    node.stands_at(way)
+    goal.tree == tree && goal.way == way
 }
 
 /// Walks up from the element at `way` until it reaches the payload, a mapped node or the root.
 /// Appends the indices of the elements that it leaves to `numbers`.
 fn climb<'m>(
-    mapping: &'m SyntaxMapping,
-    payload: &SyntaxNode,
+    mapping: &MappedNodes<'m>,
+    goal: Goal<'_>,
     tree: u32,
     way: &[usize],
     numbers: &mut Vec<usize>,
 ) -> Result<ClimbEnd<'m>, AllocError>
-    ensures { (on : Element → Option Way) (t : Tree) → IfOk result (λ end.
-        after_numbers numbers.old.items (way_up on mapping.now payload.now tree t way.now)
-        ≡ after_numbers numbers.new.items (way_left on payload.now end)) }
+    ensures { (on : Element → Option Way) (b : Element) (t : Tree)
+        → StandsAt b goal.entry.tree goal.entry.way.now → IfOk result (λ end.
+        after_numbers numbers.old.items (way_up on mapping.now b tree t way.now)
+        ≡ after_numbers numbers.new.items (way_left on b end)) }
 {
+    let mut images = mapping.images(tree, way)?;
     let mut rest = way;
     loop {
-        if is_at(payload, tree, rest)? {
+        if is_at(goal, tree, rest) {
             return Ok(ClimbEnd::Payload);
         }
-        if let Some(output) = mapping.image_at(tree, rest)? {
+        if let Some(output) = images.pop().flatten() {
             return Ok(ClimbEnd::Mapped(output));
         }
         let Some((number, up)) = rest.split_first() else {
@@ -57,12 +66,13 @@ fn climb<'m>(
     }
 }
 
-/// Returns `true` if both nodes are the same.
-fn is_same(alloc: Global, node: &SyntaxNode, other: &SyntaxNode) -> Result<bool, AllocError>
-    ensures { IfOk result (λ b. b ≡ same_element node.now other.now) }
+/// Returns `true` if the payload `goal` is `other`.
+fn is_same(alloc: Global, goal: Goal<'_>, other: &SyntaxNode) -> Result<bool, AllocError>
+    ensures { (b : Element) → StandsAt b goal.entry.tree goal.entry.way.now
+        → IfOk result (λ r. r ≡ same_element b other.now) }
 {
     let way = other.way(alloc)?;
-    is_at(node, other.tree(), &way)
+    Ok(is_at(goal, other.tree(), &way))
 }
 
 /// Returns the up-path to `payload` from the element at up-path `way` in the tree with number
@@ -70,7 +80,7 @@ fn is_same(alloc: Global, node: &SyntaxNode, other: &SyntaxNode) -> Result<bool,
 /// mapping. Returns `None` if `payload` is not reached.
 pub fn way_to(
     alloc: Global,
-    mapping: &SyntaxMapping,
+    mapping: &MappedNodes<'_>,
     payload: &SyntaxNode,
     tree: u32,
     way: &[usize],
@@ -78,17 +88,22 @@ pub fn way_to(
     ensures { (t : Tree) → IfOk result (λ r. option_map (λ v. v.items) r
         ≡ way_to (length mapping.now + 1) mapping.now payload.now (element_at tree t way.now)) }
 {
+    let place = payload.way(alloc)?;
+    let goal = Goal {
+        tree: payload.tree(),
+        way: &place,
+    };
     let mut numbers = Vec::new(alloc);
     let mut at = tree;
     let mut rest = Vec::from_slice(alloc, way)?;
     let mut left = mapping.len();
     loop {
-        let output = match climb(mapping, payload, at, &rest, &mut numbers)? {
+        let output = match climb(mapping, goal, at, &rest, &mut numbers)? {
             ClimbEnd::Payload => return Ok(Some(numbers)),
             ClimbEnd::Root => return Ok(None),
             ClimbEnd::Mapped(output) => output,
         };
-        if is_same(alloc, payload, output)? {
+        if is_same(alloc, goal, output)? {
             return Ok(Some(numbers));
         }
         let Some(parent) = output.parent()? else {

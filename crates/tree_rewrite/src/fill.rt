@@ -125,12 +125,14 @@ impl Overlay<'_> {
         }
         match element {
             SyntaxElement::Token(token) => {
+                // (the contract of `green`: the element is in its tree)
                 let _stands = token.cursor().green();
                 leave(path);
                 push_whole(SyntaxElement::Token(token), pieces)?;
                 Ok(None)
             }
             SyntaxElement::Node(node) => {
+                // (the contract of `green`: the element is in its tree)
                 let _stands = node.cursor().green();
                 if !is_touched(self, numbers, path.len()) {
                     leave(path);

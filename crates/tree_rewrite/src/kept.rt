@@ -8,13 +8,14 @@ ghost use Rattle.tree_rewrite.specs.Rewrite.{payload_at, own_of, job_of, jobs};
 ghost use Rattle.tree_rewrite.specs.Recorded.{way_of};
 
 use crate::job::Job;
+use crate::mapped::MappedNodes;
 use crate::moved::{Replacement, change_in};
 use crate::nesting::{change_at, is_dropped, is_node_by_node, owner_of};
 use crate::tree_change::{Target, TreeChange};
 use crate::way_trie::WayTrie;
 use rowan_green::GreenNode;
 use std::alloc::{AllocError, Global};
-use syntax_tree::{SyntaxElement, SyntaxMapping, SyntaxNode};
+use syntax_tree::{SyntaxElement, SyntaxNode};
 
 /// Returns the payload that replaces the element at up-path `way`, if any.
 fn payload_at<'a>(
@@ -54,7 +55,7 @@ struct Recording<'a> {
     root: &'a SyntaxNode,
     changes: &'a [TreeChange],
     held: &'a WayTrie,
-    mapping: &'a SyntaxMapping,
+    mapping: &'a MappedNodes<'a>,
 }
 
 /// Returns the planned change of `change`, which is not discarded; `None` if it has no place in the
@@ -111,7 +112,7 @@ pub fn jobs_of(
     root: &SyntaxNode,
     changes: &[TreeChange],
     held: &WayTrie,
-    mapping: &SyntaxMapping,
+    mapping: &MappedNodes<'_>,
 ) -> Result<Option<Vec<Job>>, AllocError>
     requires top { root.now.place.up ≡ [] }
     requires apart { has_collision changes.now ≡ false }

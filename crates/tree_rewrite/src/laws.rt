@@ -1,10 +1,15 @@
 //! Laws of the definitions. Each is the contract of a function with an empty body.
-ghost use Rattle.tree_rewrite.specs.Laws.{OrdersAgree, SwapsAgree, RootStays, RangesAgree};
+ghost use Rattle.tree_rewrite.specs.Laws.{OrderExists, OrdersAgree, SwapsAgree, RootStays, RangesAgree};
 
 /// Changes that are applied one at a time, in any admitted order, lead to the tree with all of them
 /// applied atomically.
 pub fn orders_agree()
     ensures { OrdersAgree }
+{}
+
+/// Changes that have a place each and do not collide have an admitted order.
+pub fn order_exists()
+    ensures { OrderExists }
 {}
 
 /// Two adjacent changes that do not both insert into the same gap may be recorded in either order:

@@ -4,6 +4,14 @@
 //! changes of a list are recorded on one tree and applied to it as it was. The contents of a
 //! replaced element are discarded with it. But if a node is replaced by a node, the changes inside
 //! it are applied to that payload, at the place that a mapping names.
+//!
+//! - A *payload*: the elements that a change inserts, or by which it replaces others.
+//! - A *target tree* (`sheet`) is the recorded tree, or a payload with changes inside the node that
+//!   it replaces.
+//! - A *planned change* (`Job`) is a change of a target tree: those inside a payload come first.
+//! - An *up-path* (`way`) leads from an element to its root: child indices, the innermost first.
+//! - A *gap* is the place before a child, or after the last one; a *slot* is that of a child.
+//! - *Pieces* are the rewritten tree in preorder; those of a payload are in a *group*.
 #![tactic(auto)]
 
 pub mod change;
@@ -19,6 +27,7 @@ pub mod job;
 mod kept;
 pub mod laws;
 mod lists;
+pub mod mapped;
 mod moved;
 mod nesting;
 mod on_payloads;

@@ -1,17 +1,19 @@
 //! The places, in a payload that replaces a node by a node, of the changes inside that node.
 ghost use Rattle.std.specs.Prelude.{◌≡◌, ◌+◌, [], ◌∷◌, option_map, IfOk};
-ghost use Rattle.std.specs.Option.{option_copied};
-ghost use Rattle.syntax_tree.specs.Referred.{referred_term};
-ghost use Rattle.rowan_green.specs.Term.{children_of, kind_of};
+ghost use Rattle.rowan_green.specs.Referred.{referred_term};
+ghost use Rattle.rowan_green.specs.Term.{children_of};
 ghost use Rattle.rowan.specs.Place.{term_by, children_in, first_number};
+ghost use Rattle.tree_rewrite.specs.Recorded.{change_of};
+ghost use Rattle.tree_rewrite.specs.Rewrite.{payload_of};
 ghost use Rattle.tree_rewrite.specs.Moved.{carried, same_kind, same_kinds, has_gap, way_above, change_below, change_in};
 
 use crate::climb::way_to;
+use crate::mapped::MappedNodes;
 use crate::nesting::element_by;
 use crate::tree_change::{Target, TreeChange};
-use rowan_green::{GreenElement, GreenNode, GreenToken, NodeOrToken, SyntaxKind};
+use rowan_green::{GreenElementRef, GreenNode, NodeOrToken};
 use std::alloc::{AllocError, Global};
-use syntax_tree::{SyntaxMapping, SyntaxNode};
+use syntax_tree::SyntaxNode;
 
 /// Returns `way`, which ends with the up-path `replaced`, with that end replaced by `to`.
 fn carried(
@@ -28,22 +30,8 @@ fn carried(
     Ok(moved)
 }
 
-/// Returns the kind of a borrowed element.
-fn kind_of(element: NodeOrToken<&GreenNode, &GreenToken>) -> SyntaxKind
-    ensures { result.0 ≡ kind_of (referred_term element.entry) }
-{
-    match element {
-        NodeOrToken::Node(node) => node.kind(),
-        NodeOrToken::Token(token) => token.kind(),
-    }
-}
-
 /// Returns `true` if `new` is a node of the kind of `old` that has a gap `index`.
-fn has_gap(
-    old: Option<NodeOrToken<&GreenNode, &GreenToken>>,
-    new: Option<NodeOrToken<&GreenNode, &GreenToken>>,
-    index: usize,
-) -> bool
+fn has_gap(old: Option<GreenElementRef<'_>>, new: Option<GreenElementRef<'_>>, index: usize) -> bool
     ensures { result ≡ has_gap (option_map referred_term old.entry)
         (option_map referred_term new.entry) index }
 {
@@ -53,12 +41,13 @@ fn has_gap(
     let Some(old) = old else {
         return false;
     };
-    kind_of(old) == node.kind() && index <= node.children().len()
+    old.kind() == node.kind() && index <= node.children().len()
 }
 
 /// Returns `true` if both children exist and have the same kind.
-fn same_kind(old: Option<&GreenElement>, new: Option<&GreenElement>) -> bool
-    ensures { result ≡ same_kind (option_copied old.entry) (option_copied new.entry) }
+fn same_kind(old: Option<GreenElementRef<'_>>, new: Option<GreenElementRef<'_>>) -> bool
+    ensures { result ≡ same_kind (option_map referred_term old.entry)
+        (option_map referred_term new.entry) }
 {
     match (old, new) {
         (Some(old), Some(new)) => old.kind() == new.kind(),
@@ -101,8 +90,8 @@ fn number_and_parent(way: &[usize]) -> (usize, &[usize])
 
 /// Variant of `same_kinds` for optional elements. Tokens have no children.
 fn same_children(
-    old: Option<NodeOrToken<&GreenNode, &GreenToken>>,
-    new: Option<NodeOrToken<&GreenNode, &GreenToken>>,
+    old: Option<GreenElementRef<'_>>,
+    new: Option<GreenElementRef<'_>>,
     start: usize,
     more: usize,
 ) -> bool
@@ -140,14 +129,12 @@ fn change_below(
     match change.target() {
         Target::Gap { parent, index } => {
             let way = carried(alloc, replacement.way, to, parent)?;
-            if !has_gap(element_by(root, parent), element_by(green, &way), *index) {
-                return Ok(None);
-            }
+            let exists = has_gap(element_by(root, parent), element_by(green, &way), *index);
             let target = Target::Gap {
                 parent: way,
                 index: *index,
             };
-            Ok(Some(change.moved_to(alloc, target)?))
+            moved_if(alloc, change, exists.then_some(target))
         }
         Target::Slots {
             first,
@@ -156,22 +143,34 @@ fn change_below(
         } => {
             let (number, above) = number_and_parent(first);
             let way = carried(alloc, replacement.way, to, above)?;
-            if !same_children(
+            let exist = same_children(
                 element_by(root, above),
                 element_by(green, &way),
                 number,
                 *more,
-            ) {
-                return Ok(None);
-            }
+            );
             let target = Target::Slots {
                 first: with_number(alloc, number, &way)?,
                 more: *more,
                 single: *single,
             };
-            Ok(Some(change.moved_to(alloc, target)?))
+            moved_if(alloc, change, exist.then_some(target))
         }
     }
+}
+
+/// Returns a change of `target`, if any, with the inserted elements of `change`.
+fn moved_if(
+    alloc: Global,
+    change: &TreeChange,
+    target: Option<Target>,
+) -> Result<Option<TreeChange>, AllocError>
+    ensures { IfOk result (λ r. r ≡ option_map (λ t. change_of t (payload_of change.now)) target) }
+{
+    let Some(target) = target else {
+        return Ok(None);
+    };
+    Ok(Some(change.moved_to(alloc, target)?))
 }
 
 /// Returns the up-path of child `number` of the node at up-path `way`.
@@ -188,7 +187,7 @@ fn with_number(alloc: Global, number: usize, way: &[usize]) -> Result<Vec<usize>
 pub fn change_in(
     alloc: Global,
     root: &SyntaxNode,
-    mapping: &SyntaxMapping,
+    mapping: &MappedNodes<'_>,
     replacement: Replacement<'_>,
     change: &TreeChange,
 ) -> Result<Option<TreeChange>, AllocError>

@@ -3,8 +3,8 @@ ghost use Rattle.std.specs.Prelude.{◌≡◌, ◌∷◌, ◌&&◌, ℕ, Some, t
 ghost use Rattle.std.specs.List.{list_any};
 ghost use Rattle.std.specs.Option.{option_copied};
 ghost use Rattle.rowan_green.specs.Forest.{Tree};
+ghost use Rattle.rowan_green.specs.Referred.{referred_term};
 ghost use Rattle.syntax_tree.specs.Element.{Way, is_node};
-ghost use Rattle.syntax_tree.specs.Referred.{referred_term};
 ghost use Rattle.rowan.specs.Place.{term_by};
 ghost use Rattle.tree_rewrite.specs.Change.{replaces, is_node_by_node, is_dropped, holder_of, owner_of, has_collision};
 ghost use Rattle.tree_rewrite.specs.Held.{Holds, replacing, leads_through, splits};
@@ -15,7 +15,7 @@ ghost use Rattle.tree_rewrite.specs.WayTrie.{node_at};
 use crate::tree_change::{Target, TreeChange};
 use crate::way_trie::WayTrie;
 use crate::ways::{covers, is_between};
-use rowan_green::{GreenNode, GreenToken, NodeOrToken};
+use rowan_green::{GreenElementRef, GreenNode, NodeOrToken};
 use std::alloc::{AllocError, Global};
 
 impl TreeChange {
@@ -148,19 +148,13 @@ fn node_by<'a>(root: &'a GreenNode, way: &[usize]) -> Option<&'a GreenNode>
 }
 
 /// Returns the element at up-path `way`, borrowed from the tree.
-pub fn element_by<'a>(
-    root: &'a GreenNode,
-    way: &[usize],
-) -> Option<NodeOrToken<&'a GreenNode, &'a GreenToken>>
+pub fn element_by<'a>(root: &'a GreenNode, way: &[usize]) -> Option<GreenElementRef<'a>>
     ensures { option_map referred_term result ≡ term_by root.now way.now }
 {
     let Some((index, up)) = way.split_first() else {
         return Some(NodeOrToken::Node(root));
     };
-    match node_by(root, up)?.child(*index)? {
-        NodeOrToken::Node(node) => Some(NodeOrToken::Node(node)),
-        NodeOrToken::Token(token) => Some(NodeOrToken::Token(token)),
-    }
+    node_by(root, up)?.child(*index)
 }
 
 /// Returns `true` if `change` names a single element, which is a node of the tree, and replaces it

@@ -26,6 +26,7 @@ fn push_walk(
     ensures { OnOk result (map element_of to.new.items
         ≡ map element_of to.old.items ++ origins (reading_of blank node.now)) }
 {
+    // (the contract of `green`: the element is in its tree)
     let _stands = node.cursor().green();
     let mut left = node.descendants_with_tokens(alloc)?;
     while let Some(element) = left.next() {
@@ -40,6 +41,7 @@ fn push_token(token: &SyntaxToken, to: &mut Vec<SyntaxElement>) -> Result<(), Al
     ensures { OnOk result (map element_of to.new.items
         ≡ map element_of to.old.items ++ origins (reading_of blank token.now)) }
 {
+    // (the contract of `green`: the element is in its tree)
     let _stands = token.cursor().green();
     to.push(SyntaxElement::Token(token.clone()?))?;
     Ok(())

@@ -24,6 +24,7 @@ use crate::held_ways::held_ways;
 use crate::job::{Job, is_order};
 use crate::kept::jobs_of;
 use crate::lists::on_sheet;
+use crate::mapped::MappedNodes;
 use crate::overlay::Overlay;
 use crate::piece::Piece;
 use crate::tree_change::TreeChange;
@@ -108,7 +109,8 @@ impl Plan {
             return Err(PlanError::Intersecting);
         };
         let top = root.clone()?;
-        match jobs_of(alloc, root, &changes, &held, mapping)? {
+        let mapped = MappedNodes::new(alloc, mapping)?;
+        match jobs_of(alloc, root, &changes, &held, &mapped)? {
             Some(jobs) => Ok(Plan { top, jobs }),
             None => Err(PlanError::MissingMapping),
         }

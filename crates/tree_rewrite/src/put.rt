@@ -61,6 +61,7 @@ impl Puts {
         ensures { (s : Stand) → MarksPuts self.old s
             → OnOk result (MarksPuts self.new (after_piece (Whole element.now) s)) }
     {
+        // (the contract of `green`: the element is in its tree)
         let _stands = element.green()?;
         push_marks(is_put(self.told), brought, &mut self.marks)
     }

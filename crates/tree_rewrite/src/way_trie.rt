@@ -1,6 +1,6 @@
 //! A trie from up-paths to numbers. One walk down an up-path finds the numbers of all elements on
 //! it.
-ghost use Rattle.std.specs.Prelude.{◌≡◌, ◌∷◌, ℕ, Some, None, option_and_then, IfOk, OnOk};
+ghost use Rattle.std.specs.Prelude.{◌≡◌, ◌∷◌, ℕ, Some, None, false, option_and_then, IfOk, OnOk};
 ghost use Rattle.syntax_tree.specs.Element.{Way, same_way};
 ghost use Rattle.tree_rewrite.specs.WayTrie.{child_in, number_of, node_at, number_at, IsSound, HasNode};
 ghost use Rattle.tree_rewrite.specs.Held.{IsPutOrTaken};
@@ -112,6 +112,7 @@ impl WayTrie {
             → IsPutOrTaken (same_way v) number t self.new result }
         ensures sound { IsSound self.new }
         ensures nodes { (w : Way) → node_at self.new w ≡ node_at self.old w }
+        ensures kept { result ≡ false → (w : Way) → number_at self.new w ≡ number_at self.old w }
     {
         if self.number(Some(node)).is_some() {
             return false;
@@ -125,6 +126,8 @@ impl WayTrie {
     pub fn put_free(&mut self, way: &[usize], number: usize) -> Result<bool, AllocError>
         requires sound { IsSound self.old }
         ensures put { IfOk result (IsPutOrTaken (same_way way.now) number self.old self.new) }
+        ensures kept { IfOk result (λ b. b ≡ false → (w : Way) → number_at self.new w
+            ≡ number_at self.old w) }
         ensures sound { OnOk result (IsSound self.new) }
     {
         let node = self.enter_way(way)?;

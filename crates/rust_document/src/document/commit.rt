@@ -2,6 +2,9 @@
 ghost use Rattle.std.specs.Prelude.{◌≡◌, ◌≤◌, ◌+◌, ℕ, not, nat_lt, chars, length, map, option_map, string_bytes, IfOk, IfErr, MatchOption, OnOk};
 ghost use Rattle.rowan_green.specs.Forest.{tree_text};
 ghost use Rattle.syntax_tree.specs.Refusal.{RefusesTree};
+ghost use Rattle.tree_rewrite.specs.Fits.{IsNode};
+ghost use Rattle.tree_rewrite.specs.Pieces.{Say};
+ghost use Rattle.syntax_editor.specs.Rewriting.{rewriting};
 ghost use Rattle.rust_document.specs.Commit.{RefusesCommit};
 ghost use Rattle.rust_document.specs.CommitWithoutMessages.{HaveNoMessages, RefusesRoom, RefusesWithoutMessages};
 ghost use Rattle.rust_document.specs.Committed.{annotated_ends, ends_of};
@@ -17,7 +20,7 @@ ghost use Rattle.rust_document.specs.Step.{MAX_TEXT, is_foreign, verdict, Accept
 ghost use Rattle.rust_document.specs.WellSpaced.{IsWellSpacedRewrite};
 ghost use Rattle.rust_document.specs.WithoutMessages.{HasNoMessages, HasPairedBrackets, HasPlacedOperators};
 
-use super::{Committed, Document};
+use super::{Committed, Document, RewrittenText};
 use crate::difference::Difference;
 use crate::error::{CommitError, WithoutMessagesError};
 use crate::rewrite::{Rewritten, rewrite, rewritten_difference};
@@ -177,6 +180,39 @@ impl Document {
         Ok(rewritten.text)
     }
 
+    /// Returns the text that [`Document::commit`] would make, as [`Document::try_commit`] does, with
+    /// the rewritten tree.
+    ///
+    /// # Errors
+    ///
+    /// As of [`Document::try_commit`].
+    pub fn try_rewrite(
+        &self,
+        alloc: Global,
+        editor: &SyntaxEditor,
+    ) -> Result<RewrittenText, CommitError>
+        ensures accepted { OnOk result (verdict self.now editor.now ≡ Accepted) }
+        ensures text { IfOk result (λ r. string_bytes r.text ≡ tree_text (rewritten editor.now)) }
+        ensures green { IfOk result (λ r. IsNode (rewriting editor.now) r.tree.green) }
+        ensures says { IfOk result (λ r. Say r.tree.pieces.items (rewriting editor.now)) }
+        ensures refused { IfErr result (λ error. (number : ℕ)
+            → RefusesCommit (verdict self.now editor.now) number error) }
+    {
+        let Rewritten {
+            text,
+            green,
+            changed,
+            pieces,
+            ..
+        } = self.rewritten(alloc, editor)?;
+        let tree = tree_rewrite::plan::Rewritten {
+            green,
+            changed,
+            pieces,
+        };
+        Ok(RewrittenText { text, tree })
+    }
+
     /// Returns the first difference between the rewritten tree of `editor` and the reading of its
     /// text, whitespace and comments aside; `None` exactly if `commit` would find the new text to
     /// read as the rewritten tree. Nodes are compared by kind, then their children; tokens by kind and
@@ -213,6 +249,8 @@ impl Document {
         ensures rewritten { IfOk result (λ r. IsRewritten self.now.grammar self.now.edition editor.now
             (tokens_in self.now.grammar self.now.edition (chars self.now.text))
             (string_bytes r.text) r.reading r.changed.items) }
+        ensures green { IfOk result (λ r. IsNode (rewriting editor.now) r.green) }
+        ensures says { IfOk result (λ r. Say r.pieces.items (rewriting editor.now)) }
         ensures annotated { IfOk result (λ r. map annotated_ends r.annotated.items
             ≡ annotated editor.now) }
         ensures refused { IfErr result (λ error. (number : ℕ)
@@ -267,6 +305,7 @@ impl Document {
             reading,
             changed,
             annotated,
+            ..
         } = rewritten;
         let steps = reading.steps;
         self.renew(alloc, text, reading, ids)?;

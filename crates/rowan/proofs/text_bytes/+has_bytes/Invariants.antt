@@ -2,6 +2,7 @@ use Rattle.std.proofs.Common.{◌≡◌, ◌+◌, ◌*◌, ◌≤◌, ◌&&◌, 
 use Rattle.std.specs.Str.{bytes_eq}
 use Rattle.rowan_green.specs.Forest.{tree_count, tree_text, forest_count}
 use Rattle.rowan_green.specs.Term.{texts_of, children_of, term_count}
+use Rattle.rowan_green.specs.Referred.{referred_term}
 use Rattle.rowan.specs.Matching.{outcome, pending_count}
 use Rattle.rowan.proofs.text_bytes.+has_bytes.Given as goal
 
@@ -12,7 +13,7 @@ abbrev pub decreases-children_have : goal.decreases-children_have
 decreases-children_have l = 4 * forest_count l.node.now.forest + 3
 
 abbrev pub decreases-with_child : goal.decreases-with_child
-decreases-with_child l = 4 * max (pending_count l.matching) (term_count l.child.now) + 2
+decreases-with_child l = 4 * max (pending_count l.matching) (term_count (referred_term l.child)) + 2
 
 abbrev pub decreases-with_node : goal.decreases-with_node
 decreases-with_node l = 4 * max (pending_count l.matching) (tree_count l.node.now) + 1

@@ -2,6 +2,7 @@
 use Rattle.std.proofs.Common.{◌≡◌, ◌≤◌, ◌+◌, ◌*◌, ◌&&◌, max}
 use Rattle.rowan_green.specs.Forest.{forest_count, tree_count, same_forest, same_tree}
 use Rattle.rowan_green.specs.Term.{forest_of, term_count}
+use Rattle.rowan_green.specs.Referred.{referred_term}
 use Rattle.rust_document.specs.Comparing.{outcome, pending_count}
 use Rattle.rust_document.specs.Rewrite.{bare}
 use Rattle.rust_document.specs.Step.{bare_tree}
@@ -14,7 +15,7 @@ abbrev pub decreases-compared : goal.decreases-compared
 decreases-compared l = 4 * forest_count l.a.now.forest + 3
 
 abbrev pub decreases-with_pair : goal.decreases-with_pair
-decreases-with_pair l = 4 * max (pending_count l.comparison) (term_count l.x.now) + 2
+decreases-with_pair l = 4 * max (pending_count l.comparison) (term_count (referred_term l.x)) + 2
 
 abbrev pub decreases-with_nodes : goal.decreases-with_nodes
 decreases-with_nodes l = 4 * max (pending_count l.comparison) (tree_count l.a.now) + 1

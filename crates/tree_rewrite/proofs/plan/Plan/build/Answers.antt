@@ -21,7 +21,7 @@ pub invariant_of-result : goal.invariant_of-result
 invariant_of-result c =
     let cs = c.deref-2.result.now in
     let js = c.in-Some-2.jobs.items in
-    let of : jobs c.args.root.now cs c.args.mapping.now ≡ Some js = sym c.in_ok-jobs.ensures ∙ ap (λ o. option_map (λ v. v.items) o) c.in-Some-2.is in
+    let of : jobs c.args.root.now cs c.args.mapping.now ≡ Some js = ap (λ ms. jobs c.args.root.now cs ms) (sym c.in_ok-mapped.ensures) ∙ sym c.in_ok-jobs.ensures ∙ ap (λ o. option_map (λ v. v.items) o) c.in-Some-2.is in
     let apart : has_collision cs ≡ false = ap has_collision (c.deref-2.ensures.value ∙ sym c.deref.ensures.value) ∙ sym c.in_ok-held.ensures.collision ∙ ap is_none c.in-Some.is in
     let keep = subst (λ l. All KeepsRoot l) (sym (c.deref-2.ensures.value ∙ c.in_ok-changes.ensures.changes)) (recorded_keep c.args.changes.items c.requires.root) in
     (jobs_deeper c.args.root.now cs c.args.mapping.now js of, (jobs_are_plan c.args.root.now cs c.args.mapping.now js apart of).apart, jobs_keep c.args.root.now cs c.args.mapping.now js of keep)
