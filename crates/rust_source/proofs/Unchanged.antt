@@ -10,7 +10,7 @@ use Rattle.rowan.proofs.Places.{next_start}
 use Rattle.syntax_tree.specs.Element.{Way, Element, term_of}
 use Rattle.syntax_tree.specs.Handle.{element_of}
 use Rattle.tree_rewrite.specs.Marked.{Marked, nothing, inner, token, join, forest_in, with_put, filled, blank, read_from, reading_of}
-use Rattle.tree_rewrite.specs.Pieces.{Around, outside, in_node, in_group, Stand, start, closed, after_piece, after, Say}
+use Rattle.tree_rewrite.specs.Pieces.{Around, outside, in_node, in_group, is_outermost, Stand, start, closed, after_piece, after, Say}
 use Rattle.tree_rewrite.specs.Changed.{text_len}
 use Rattle.tree_rewrite.specs.Tracking.{is_put, or_told, told_in, as_told, before_in}
 use Rattle.tree_rewrite.specs.declared.piece.Piece.{Piece}
@@ -303,13 +303,14 @@ by-piece (Open e ∷ ps) s =
     let at : place_of s ≡ place_of s + 0 = omega arith in
     let same : so_far d a ≡ so_far nothing (in_node d e a) = sym (ap (λ l. so_far d a ++ l) (nothing-here (level_of a).is_inserted None (before_in a + text_len d)) ∙ append-nil (so_far d a)) in
     so _ _ _ (equal _ _ (λ j. same j ++ standing (in_a_node (level_of a)) (level_of a ∷ levels_of a) (at j) ps)) (by-piece ps (after_piece (Open e) s))
-by-piece (Group b ∷ ps) s =
+by-piece (Group n ∷ ps) s =
     let a = s.around in
     let d = s.done in
+    let b = is_outermost n in
     let at : place_of s ≡ place_of s + 0 = omega arith in
     let same : so_far d a ≡ so_far nothing (in_group d b a) =
     sym (ap (λ l. so_far d a ++ l) (nothing-here (in_a_group b (level_of a)).is_inserted (Some (or_told (told_in a) b)) (before_in a + text_len d)) ∙ append-nil (so_far d a)) in
-    so _ _ _ (equal _ _ (λ j. same j ++ standing (in_a_group b (level_of a)) (level_of a ∷ levels_of a) (at j) ps)) (by-piece ps (after_piece (Group b) s))
+    so _ _ _ (equal _ _ (λ j. same j ++ standing (in_a_group b (level_of a)) (level_of a ∷ levels_of a) (at j) ps)) (by-piece ps (after_piece (Group n) s))
 by-piece (Close ∷ ps) s = so _ _ _ (equal _ _ (closes s.around s.done ps)) (by-piece ps (after_piece Close s))
 
 -- the tokens of the pieces are those of the tree

@@ -6,6 +6,7 @@ use Rattle.syntax_tree.specs.Handle.{element_of}
 use Rattle.syntax_tree.specs.declared.element.SyntaxElement.{SyntaxElement}
 use Rattle.tree_rewrite.specs.Changed.{text_len}
 use Rattle.tree_rewrite.specs.Marked.{Marked, nothing, inner, token}
+use Rattle.tree_rewrite.specs.Pieces.{is_outermost}
 use Rattle.tree_rewrite.specs.declared.piece.Piece.{Piece}
 use Rattle.tree_rewrite.specs.declared.piece.Piece.TheVariants.{Whole, Open, Group, Close}
 use Rattle.rust_document.specs.Edit.{can_edit}
@@ -163,7 +164,7 @@ standing l around place [] = []
 standing l around place (Whole e ∷ ps) =
     (if l.is_inserted then [] else standing_at (start_of (element_of e).place) place (bytes_of e)) ++ standing l around (place + bytes_of e) ps
 standing l around place (Open e ∷ ps) = standing (in_a_node l) (l ∷ around) place ps
-standing l around place (Group b ∷ ps) = standing (in_a_group b l) (l ∷ around) place ps
+standing l around place (Group n ∷ ps) = standing (in_a_group (is_outermost n) l) (l ∷ around) place ps
 standing l [] place (Close ∷ ps) = standing l [] place ps
 standing l (outer ∷ around) place (Close ∷ ps) = standing outer around place ps
 

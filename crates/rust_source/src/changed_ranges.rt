@@ -273,7 +273,7 @@ impl Walk<'_> {
         match piece {
             Piece::Whole(element) => self.pass(element)?,
             Piece::Open(_) => self.enter(self.level.in_a_node())?,
-            Piece::Group(is_top) => self.enter(self.level.in_a_group(*is_top))?,
+            Piece::Group(nesting) => self.enter(self.level.in_a_group(nesting.is_outermost()))?,
             Piece::Close => self.leave(),
         }
         Ok(())

@@ -77,7 +77,7 @@ origins-piece (Whole x) s =
     ap (λ l. origins_around s.around ++ l) (origins-join s.done (reading_of blank (element_of x)))
     ∙ sym (append_assoc (origins_around s.around) (origins s.done) (origins (reading_of blank (element_of x))))
 origins-piece (Open x) s = append-nil _ ∙ sym (append_assoc (origins_around s.around) (origins s.done) (x ∷ []))
-origins-piece (Group b) s = refl
+origins-piece (Group n) s = refl
 origins-piece Close s = origins-closed s.done s.around ∙ sym (append-nil (origins_in s))
 
 origins-after : (ps : List Piece) (s : Stand) → origins_in (after ps s) ≡ origins_in s ++ all_origins ps

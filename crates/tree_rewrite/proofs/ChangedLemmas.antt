@@ -9,7 +9,8 @@ use Rattle.syntax_tree.specs.Element.{Way, Element, term_of}
 use Rattle.syntax_tree.specs.Handle.{element_of}
 use Rattle.syntax_tree.specs.declared.element.SyntaxElement.{SyntaxElement}
 use Rattle.tree_rewrite.specs.Marked.{Marked, nothing, inner, token, join, forest_in, with_put, filled, blank, read_from, reading_of}
-use Rattle.tree_rewrite.specs.Pieces.{Around, outside, in_node, in_group, Stand, start, closed, after_piece, after, Say}
+use Rattle.tree_rewrite.specs.Pieces.{Around, outside, in_node, in_group, is_outermost, Stand, start, closed, after_piece, after, Say}
+use Rattle.tree_rewrite.specs.declared.piece.Nesting.{Nesting}
 use Rattle.tree_rewrite.specs.Fits.{IsNode}
 use Rattle.tree_rewrite.specs.Changed.{text_len, if_changed, changed_at, bounds}
 use Rattle.tree_rewrite.specs.Tracking.{is_put, or_told, told_in, as_told, before_in, changed_in, IsEntered, Tracks, bytes_by, all_bytes}
@@ -144,13 +145,13 @@ tracks-open t u g x s r o k a n w f b old = record {
   around = entered_more t.around.items u.around.items g (in_node s.done x s.around) a (n, w ∙ old.offset, f ∙ old.told, ap (map bounds) b ∙ old.ranges, old.around);
 }
 
-pub tracks-group : (t u : Tracker) (g : Entered) (b : Bool) (s : Stand) → u.ranges.items ≡ [] → u.offset ≡ t.offset → u.told ≡ Some (or_told t.told b) → u.around.items ≡ t.around.items ++ g ∷ []
-    → g.is_node ≡ false → g.told ≡ t.told → g.before.items ≡ t.ranges.items → Tracks t s → Tracks u (after_piece (Group b) s)
-tracks-group t u g b s r o k a n f w old = record {
+pub tracks-group : (t u : Tracker) (g : Entered) (n : Nesting) (s : Stand) → u.ranges.items ≡ [] → u.offset ≡ t.offset → u.told ≡ Some (or_told t.told (is_outermost n)) → u.around.items ≡ t.around.items ++ g ∷ []
+    → g.is_node ≡ false → g.told ≡ t.told → g.before.items ≡ t.ranges.items → Tracks t s → Tracks u (after_piece (Group n) s)
+tracks-group t u g n s r o k a p f w old = record {
   ranges = ap (map bounds) r;
   offset = omega (arith, o, old.offset);
-  told = k ∙ ap (λ y. Some (or_told y b)) old.told;
-  around = entered_more t.around.items u.around.items g (in_group s.done b s.around) a (n, f ∙ old.told, ap (map bounds) w ∙ old.ranges, old.around);
+  told = k ∙ ap (λ y. Some (or_told y (is_outermost n))) old.told;
+  around = entered_more t.around.items u.around.items g (in_group s.done (is_outermost n) s.around) a (p, f ∙ old.told, ap (map bounds) w ∙ old.ranges, old.around);
 }
 
 and-true : (b : Bool) → (true && b) ≡ b
@@ -232,7 +233,7 @@ bytes-closed d (in_group before b a) = omega (arith, len-join before (with_put b
 bytes-piece : (p : Piece) (s : Stand) → bytes_in (after_piece p s) ≡ bytes_in s + bytes_by p
 bytes-piece (Whole x) s = omega (arith, len-join s.done (reading_of blank (element_of x)), bytes-whole (element_of x) (term_of (element_of x)) refl)
 bytes-piece (Open x) s = refl
-bytes-piece (Group b) s = refl
+bytes-piece (Group n) s = refl
 bytes-piece Close s = bytes-closed s.done s.around ∙ omega arith
 
 bytes-after : (ps : List Piece) (s : Stand) → bytes_in (after ps s) ≡ bytes_in s + all_bytes ps

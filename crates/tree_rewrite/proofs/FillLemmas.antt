@@ -16,7 +16,8 @@ use Rattle.tree_rewrite.specs.Marked.{Marked, nothing, inner, token, join, with_
 use Rattle.tree_rewrite.specs.Below.{AgreeBelow, AgreeChild}
 use Rattle.tree_rewrite.specs.Filling.{size_of, sizes_of, ChildrenLeft}
 use Rattle.tree_rewrite.specs.Fill.{Given, laid, at_gap, IsBlankBelow, inside, node_in, standing}
-use Rattle.tree_rewrite.specs.Pieces.{added, after, after_piece, in_group, Adds}
+use Rattle.tree_rewrite.specs.Pieces.{added, after, after_piece, in_group, is_outermost, Adds}
+use Rattle.tree_rewrite.specs.declared.piece.Nesting.{Nesting}
 use Rattle.tree_rewrite.specs.declared.piece.Piece.{Piece}
 use Rattle.tree_rewrite.specs.declared.piece.Piece.TheVariants.{Whole, Group, Close}
 use Rattle.tree_rewrite.proofs.MarkedLemmas.{filled_agree, agree_from}
@@ -107,10 +108,10 @@ pub adds-whole : (ps qs : List Piece) (x : SyntaxElement) → qs ≡ ps ++ Whole
 adds-whole ps qs x e = record { says = λ s. ap (λ l. after l s) e ∙ after-append ps (Whole x ∷ []) s }
 
 -- ---- the terms of a group of inserted elements, after its contents
-pub adds-group : (ps opened qs rs : List Piece) (b : Bool) (f : Marked) → opened ≡ ps ++ Group b ∷ [] → Adds opened qs f → rs ≡ qs ++ Close ∷ [] → Adds ps rs (with_put b f)
-adds-group ps opened qs rs b f o a e = record {
+pub adds-group : (ps opened qs rs : List Piece) (n : Nesting) (f : Marked) → opened ≡ ps ++ Group n ∷ [] → Adds opened qs f → rs ≡ qs ++ Close ∷ [] → Adds ps rs (with_put (is_outermost n) f)
+adds-group ps opened qs rs n f o a e = record {
   says = λ s.
-      let here : after opened s ≡ record { done = nothing; around = in_group (after ps s).done b (after ps s).around } = ap (λ l. after l s) o ∙ after-append ps (Group b ∷ []) s in
+      let here : after opened s ≡ record { done = nothing; around = in_group (after ps s).done (is_outermost n) (after ps s).around } = ap (λ l. after l s) o ∙ after-append ps (Group n ∷ []) s in
       ap (λ l. after l s) e ∙ after-append qs (Close ∷ []) s ∙ ap (after_piece Close) (a.says s ∙ ap (added f) here);
 }
 

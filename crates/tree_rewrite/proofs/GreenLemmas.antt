@@ -10,7 +10,8 @@ use Rattle.syntax_tree.specs.Element.{Way, Element, term_of}
 use Rattle.syntax_tree.specs.Handle.{element_of}
 use Rattle.syntax_tree.specs.declared.element.SyntaxElement.{SyntaxElement}
 use Rattle.tree_rewrite.specs.Marked.{Marked, nothing, inner, token, join, forest_in, with_put, origin_at, blank, filled, read_from, reading_of}
-use Rattle.tree_rewrite.specs.Pieces.{Around, outside, in_node, in_group, Stand, closed, after_piece, after}
+use Rattle.tree_rewrite.specs.Pieces.{Around, outside, in_node, in_group, is_outermost, Stand, closed, after_piece, after}
+use Rattle.tree_rewrite.specs.declared.piece.Nesting.{Nesting}
 use Rattle.tree_rewrite.specs.declared.piece.Piece.{Piece}
 use Rattle.tree_rewrite.specs.declared.piece.Piece.TheVariants.{Whole, Open, Group, Close}
 use Rattle.tree_rewrite.specs.Fits.{IsNode, RefusesRewrite}
@@ -101,10 +102,10 @@ pub made-open : (es fs : List Term) (gs hs : List Begun) (g : Begun) (k : Syntax
 made-open es fs gs hs g k x s e is same own b f h =
     record { done = f; around = around_more gs hs g (in_node s.done x s.around) e ((k, is, same), own, b ∙ h.done, h.around) }
 
-pub made-group : (es fs : List Term) (gs hs : List Begun) (g : Begun) (b : Bool) (s : Stand) → hs ≡ gs ++ g ∷ [] → g.kind ≡ None → g.before.items ≡ es → fs ≡ [] → IsMade es gs s
-    → IsMade fs hs (after_piece (Group b) s)
-made-group es fs gs hs g b s e is same f h =
-    record { done = f; around = around_more gs hs g (in_group s.done b s.around) e (is, same ∙ h.done, h.around) }
+pub made-group : (es fs : List Term) (gs hs : List Begun) (g : Begun) (n : Nesting) (s : Stand) → hs ≡ gs ++ g ∷ [] → g.kind ≡ None → g.before.items ≡ es → fs ≡ [] → IsMade es gs s
+    → IsMade fs hs (after_piece (Group n) s)
+made-group es fs gs hs g n s e is same f h =
+    record { done = f; around = around_more gs hs g (in_group s.done (is_outermost n) s.around) e (is, same ∙ h.done, h.around) }
 
 -- ---- the end of a node or group
 around_less : (gs hs : List Begun) (g : Begun) (a : Around) → gs ≡ hs ++ g ∷ [] → IsAround (reverse gs) a → IsAround (g ∷ reverse hs) a
@@ -206,7 +207,7 @@ new-closed d (in_group before b a) h =
 new-before : (p : Piece) (s : Stand) → NewFitIn (after_piece p s) → NewFitIn s
 new-before (Whole x) s h = ((new-split s.done (reading_of blank (element_of x)) h.0).0, h.1)
 new-before (Open x) s h = h.1
-new-before (Group b) s h = h.1
+new-before (Group n) s h = h.1
 new-before Close s h = new-closed s.done s.around h
 
 pub new-start : (ps : List Piece) (s : Stand) → NewFitIn (after ps s) → NewFitIn s

@@ -10,7 +10,8 @@ use Rattle.syntax_tree.specs.Element.{Way, Element, term_of}
 use Rattle.syntax_tree.specs.Handle.{element_of}
 use Rattle.syntax_tree.specs.declared.element.SyntaxElement.{SyntaxElement}
 use Rattle.tree_rewrite.specs.Marked.{Marked, nothing, inner, token, join, origins, put_marks, with_put, filled, blank, read_from, reading_of}
-use Rattle.tree_rewrite.specs.Pieces.{Around, outside, in_node, in_group, Stand, start, closed, after_piece, after, Say}
+use Rattle.tree_rewrite.specs.Pieces.{Around, outside, in_node, in_group, is_outermost, Stand, start, closed, after_piece, after, Say}
+use Rattle.tree_rewrite.specs.declared.piece.Nesting.{Nesting}
 use Rattle.tree_rewrite.specs.Puts.{none_put, first_put, marks_of, marks_before, told_around, MarksPuts}
 use Rattle.tree_rewrite.specs.Tracking.{is_put, or_told, told_in, as_told}
 use Rattle.tree_rewrite.specs.declared.piece.Piece.{Piece}
@@ -107,11 +108,11 @@ marks-more-open p q x brought s is more told around old = record {
   around = entered p q s.around around old.told old.around;
 }
 
-pub marks-more-group : (p q : Puts) (b : Bool) (s : Stand) → q.marks.items ≡ p.marks.items → q.told ≡ Some (or_told p.told b) → q.around.items ≡ p.around.items ++ p.told ∷ []
-    → MarksPuts p s → MarksPuts q (after_piece (Group b) s)
-marks-more-group p q b s same told around old = record {
-  marks = same ∙ old.marks ∙ sym (append-nil (marks_before (in_group s.done b s.around)));
-  told = told ∙ ap (λ y. Some (or_told y b)) old.told;
+pub marks-more-group : (p q : Puts) (n : Nesting) (s : Stand) → q.marks.items ≡ p.marks.items → q.told ≡ Some (or_told p.told (is_outermost n)) → q.around.items ≡ p.around.items ++ p.told ∷ []
+    → MarksPuts p s → MarksPuts q (after_piece (Group n) s)
+marks-more-group p q n s same told around old = record {
+  marks = same ∙ old.marks ∙ sym (append-nil (marks_before (in_group s.done (is_outermost n) s.around)));
+  told = told ∙ ap (λ y. Some (or_told y (is_outermost n))) old.told;
   around = entered p q s.around around old.told old.around;
 }
 

@@ -10,7 +10,7 @@ use Rattle.tree_rewrite.specs.declared.piece.Piece.TheVariants.{Whole, Open, Gro
 abbrev pub origins_by : Piece → List Element
 origins_by (Whole e) = origins (reading_of blank (element_of e))
 origins_by (Open e) = e ∷ []
-origins_by (Group b) = []
+origins_by (Group n) = []
 origins_by Close = []
 
 -- the origins of the elements of all pieces, one piece after another

@@ -1,9 +1,11 @@
 -- The terms of a list of pieces.
-use Rattle.std.specs.Prelude.{◌≡◌, List, [], ◌∷◌, Bool, false}
+use Rattle.std.specs.Prelude.{◌≡◌, List, [], ◌∷◌, Bool, false, true}
 use Rattle.rowan.specs.Place.{kind_at}
 use Rattle.syntax_tree.specs.Element.{Element}
 use Rattle.syntax_tree.specs.Handle.{element_of}
 use Rattle.tree_rewrite.specs.Marked.{Marked, nothing, inner, join, with_put, blank, reading_of}
+use Rattle.tree_rewrite.specs.declared.piece.Nesting.{Nesting}
+use Rattle.tree_rewrite.specs.declared.piece.Nesting.TheVariants.{Outermost, Nested}
 use Rattle.tree_rewrite.specs.declared.piece.Piece.{Piece}
 use Rattle.tree_rewrite.specs.declared.piece.Piece.TheVariants.{Whole, Open, Group, Close}
 
@@ -33,10 +35,15 @@ closed d (in_node before e a) =
     record { done = join before (inner (record { origin = e; put = false }) (kind_at e.place) d nothing); around = a }
 closed d (in_group before b a) = record { done = join before (with_put b d); around = a }
 
+-- true for a change of the tree itself
+abbrev pub is_outermost : Nesting → Bool
+is_outermost Outermost = true
+is_outermost Nested = false
+
 abbrev pub after_piece : Piece → Stand → Stand
 after_piece (Whole e) s = added (reading_of blank (element_of e)) s
 after_piece (Open e) s = record { done = nothing; around = in_node s.done e s.around }
-after_piece (Group b) s = record { done = nothing; around = in_group s.done b s.around }
+after_piece (Group n) s = record { done = nothing; around = in_group s.done (is_outermost n) s.around }
 after_piece Close s = closed s.done s.around
 
 abbrev pub after : List Piece → Stand → Stand

@@ -60,7 +60,7 @@ pub record Tracks (t : Tracker) (s : Stand) : Type 0 where
 abbrev pub bytes_by : Piece → ℕ
 bytes_by (Whole e) = length (text_at (element_of e).place)
 bytes_by (Open e) = 0
-bytes_by (Group b) = 0
+bytes_by (Group n) = 0
 bytes_by Close = 0
 
 abbrev pub all_bytes : List Piece → ℕ

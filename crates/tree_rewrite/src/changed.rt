@@ -148,8 +148,8 @@ impl Tracker {
         match piece {
             Piece::Whole(element) => self.pass(element)?,
             Piece::Open(_) => self.enter(alloc, true, None)?,
-            Piece::Group(is_top) => {
-                let told = Some(self.told.unwrap_or(*is_top));
+            Piece::Group(nesting) => {
+                let told = Some(self.told.unwrap_or(nesting.is_outermost()));
                 self.enter(alloc, false, told)?;
             }
             Piece::Close => self.leave()?,

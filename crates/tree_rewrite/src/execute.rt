@@ -61,7 +61,7 @@ fn content_of(
         sheet: job.own(),
     };
     let mut pieces = Vec::new(alloc);
-    pieces.push(Piece::Group(job.is_outer()))?;
+    pieces.push(Piece::Group(job.nesting()))?;
     for element in job.payload() {
         push_payload(&overlay, listed, element, &mut pieces)?;
     }

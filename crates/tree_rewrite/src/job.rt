@@ -10,7 +10,9 @@ ghost use Rattle.tree_rewrite.specs.Orders.{is_owned, same_gap, may_follow, in_o
 ghost use Rattle.tree_rewrite.specs.Recorded.{way_of, level_of};
 ghost use Rattle.tree_rewrite.specs.Plan.{depth_of};
 ghost use Rattle.tree_rewrite.specs.Below.{IsBeyond, LeavesChild};
+ghost use Rattle.tree_rewrite.specs.Pieces.{is_outermost};
 
+use crate::piece::Nesting;
 use crate::tree_change::TreeChange;
 use std::marker::Model;
 use syntax_tree::SyntaxElement;
@@ -91,11 +93,14 @@ impl Job {
         &self.own
     }
 
-    /// Returns `true` if its target tree is the tree itself.
-    pub(crate) fn is_outer(&self) -> bool
-        ensures { result ≡ is_none self.now.sheet }
+    /// Returns whether its target tree is the tree itself or a payload.
+    pub(crate) fn nesting(&self) -> Nesting
+        ensures { is_outermost result ≡ is_none self.now.sheet }
     {
-        self.sheet.is_none()
+        match self.sheet {
+            None => Nesting::Outermost,
+            Some(_) => Nesting::Nested,
+        }
     }
 
     /// Returns the length of the up-path of its target tree, or `None` for the tree itself.

@@ -1,9 +1,31 @@
 //! The output of changes as a list of pieces. No green node is created at this stage, so only nodes
 //! of the complete tree can be too long.
 ghost use Rattle.std.specs.Prelude.{◌≡◌, ◌++◌, IfOk, OnOk};
+ghost use Rattle.tree_rewrite.specs.Pieces.{is_outermost};
 
 use std::alloc::AllocError;
 use syntax_tree::{SyntaxElement, SyntaxNode};
+
+/// Whether a planned change is one of the tree itself, or one of a payload.
+#[derive(Clone, Copy)]
+pub enum Nesting {
+    /// Its target tree is the tree itself.
+    Outermost,
+    /// Its target tree is a payload.
+    Nested,
+}
+
+impl Nesting {
+    /// Returns `true` for a change of the tree itself.
+    pub fn is_outermost(self) -> bool
+        ensures { result ≡ is_outermost self }
+    {
+        match self {
+            Nesting::Outermost => true,
+            Nesting::Nested => false,
+        }
+    }
+}
 
 /// A piece of a list of elements.
 #[derive(Drop)]
@@ -12,9 +34,8 @@ pub enum Piece {
     Whole(SyntaxElement),
     /// The start of a node. Its children follow, up to the matching `Close`.
     Open(SyntaxNode),
-    /// The start of the elements that a planned change inserts, up to the matching `Close`. The
-    /// flag is `true` if the target tree of the change is the tree itself.
-    Group(bool),
+    /// The start of the elements that a planned change inserts, up to the matching `Close`.
+    Group(Nesting),
     /// The end of the last node or group that is still open.
     Close,
 }
@@ -34,7 +55,7 @@ impl Piece {
         match self {
             Piece::Whole(element) => Ok(Piece::Whole(element.clone()?)),
             Piece::Open(node) => Ok(Piece::Open(node.clone()?)),
-            Piece::Group(is_top) => Ok(Piece::Group(*is_top)),
+            Piece::Group(nesting) => Ok(Piece::Group(*nesting)),
             Piece::Close => Ok(Piece::Close),
         }
     }

@@ -102,8 +102,8 @@ impl Puts {
                 push_marks(is_put(self.told), brought, &mut self.marks)?;
                 self.enter(None)?;
             }
-            Piece::Group(is_top) => {
-                let told = Some(self.told.unwrap_or(*is_top));
+            Piece::Group(nesting) => {
+                let told = Some(self.told.unwrap_or(nesting.is_outermost()));
                 self.enter(told)?;
             }
             Piece::Close => self.leave(),

@@ -32,6 +32,6 @@ returns c = λ js h.
     let whole = readings_of s (payload_of c.args.job.now.change) in
     let none = drop_all i items c.loop-element-test.false in
     let all = sym (old.2 ∙ ap (λ l. join old.0 (readings_of s (map element_of l))) none ∙ join-nothing old.0) ∙ ap (readings_of s) c.payload-element-items.ensures in
-    let began = c.in_ok-push.ensures.items ∙ ap (λ l. l ++ Group c.is_outer.result ∷ []) c.new-pieces.ensures.items in
-    adds-same _ _ _ (with_put (is_none c.args.job.now.sheet) whole) (ap (λ b. with_put b whole) c.is_outer.ensures)
-    (adds-group [] _ _ _ c.is_outer.result whole began (adds-same _ _ old.0 whole all old.1) c.in_ok-push-2.ensures.items)
+    let began = c.in_ok-push.ensures.items ∙ ap (λ l. l ++ Group c.nesting.result ∷ []) c.new-pieces.ensures.items in
+    adds-same _ _ _ (with_put (is_none c.args.job.now.sheet) whole) (ap (λ b. with_put b whole) c.nesting.ensures)
+    (adds-group [] _ _ _ c.nesting.result whole began (adds-same _ _ old.0 whole all old.1) c.in_ok-push-2.ensures.items)
