@@ -1,5 +1,5 @@
 -- Lemmas about the elements of target trees.
-use Rattle.std.proofs.Common.{◌≡◌, ℕ, ◌+◌, ◌<◌, List, [], ◌∷◌, ◌++◌, length, length-drop, get_or, map, drop, Option, Some, None, is_some, Bool, true, false, Result, Ok, Err, MatchResult, OnOk, refl, ap, sym, ◌∙◌, arith, subst, append_assoc, slice_get}
+use Rattle.std.proofs.Common.{◌≡◌, ℕ, ◌+◌, ◌<◌, List, [], ◌∷◌, ◌++◌, length, length-drop, get_or, map, drop, Option, Some, None, is_some, true, false, Result, Ok, Err, MatchResult, OnOk, refl, ap, sym, ◌∙◌, arith, subst, append_assoc, slice_get}
 use Rattle.std.proofs.lemmas.List.{drop_more}
 use Rattle.std.proofs.lemmas.Option.{slice_get-get_or}
 use Rattle.rowan_green.specs.Forest.{Forest, empty, node, leaf, Tree, forest_count}
