@@ -7,6 +7,8 @@ use Rattle.syntax_tree.specs.Handle.{element_of}
 use Rattle.tree_rewrite.specs.Change.{Change, insert, replace, KeepsRoot}
 use Rattle.tree_rewrite.specs.declared.change.Change as declared
 use Rattle.tree_rewrite.specs.declared.change.Change.TheVariants.{Insert, Replace}
+use Rattle.tree_rewrite.specs.declared.target_tree.TargetTree.{TargetTree}
+use Rattle.tree_rewrite.specs.declared.target_tree.TargetTree.TheVariants.{Tree, Payload}
 use Rattle.tree_rewrite.specs.declared.tree_change.Target.{Target}
 use Rattle.tree_rewrite.specs.declared.tree_change.Target.TheVariants.{Gap, Slots}
 
@@ -18,6 +20,11 @@ change_of (Slots first n single) new = replace first.items n new single
 -- the up-path of a vector, if any
 abbrev pub way_of : Option (Vec ℕ) → Option Way
 way_of w = option_map (λ v. v.items) w
+
+-- a target tree by the up-path of the node whose payload it is; none for the tree itself
+abbrev pub target_of : TargetTree → Option Way
+target_of Tree = None
+target_of (Payload way) = Some way.now
 
 -- the depth of a target tree whose up-path has this length, or of the tree itself
 abbrev pub level_of : Option ℕ → ℕ

@@ -2,11 +2,11 @@
 ghost use Rattle.std.specs.Prelude.{◌≡◌, List, [], map, slice_get, IfOk, OnOk};
 ghost use Rattle.std.specs.Option.{option_copied};
 ghost use Rattle.syntax_tree.specs.Handle.{element_of};
-ghost use Rattle.tree_rewrite.specs.Marked.{reading_of};
-ghost use Rattle.tree_rewrite.specs.Rewrite.{Job, puts, sheet_of, terms_of};
+ghost use Rattle.tree_rewrite.specs.Marked.{blank, readings_of};
+ghost use Rattle.tree_rewrite.specs.Rewrite.{Job, puts, terms_of};
 ghost use Rattle.tree_rewrite.specs.Orders.{with_picked, picked};
-ghost use Rattle.tree_rewrite.specs.Recorded.{way_of};
-ghost use Rattle.tree_rewrite.specs.Fill.{HavePut};
+ghost use Rattle.tree_rewrite.specs.Recorded.{target_of};
+ghost use Rattle.tree_rewrite.specs.Fill.{Given, laid, HaveGiven, HavePut};
 ghost use Rattle.tree_rewrite.specs.Listed.{IsListed};
 ghost use Rattle.tree_rewrite.specs.Pieces.{Adds, Say};
 
@@ -15,34 +15,42 @@ use crate::job::Job;
 use crate::on_payloads::OnPayloads;
 use crate::overlay::Overlay;
 use crate::piece::{Piece, Put};
+use crate::target_tree::TargetTree;
 use std::alloc::{AllocError, Global};
 use syntax_tree::SyntaxElement;
 
-/// Appends an element of a payload, with the executed changes of that payload if it is a target
-/// tree (`overlay.sheet` is not `None`).
-fn push_payload(
-    overlay: &Overlay<'_>,
-    listed: &OnPayloads,
-    element: &SyntaxElement,
-    pieces: &mut Vec<Piece>,
-) -> Result<(), AllocError>
-    requires { IsListed overlay.now.jobs.now overlay.now.made.now listed.now }
-    ensures { (js : List Job) → HavePut overlay.now.jobs.now overlay.now.made.now js → OnOk result
-        (Adds pieces.old.items pieces.new.items
-        (reading_of (sheet_of (puts js) (way_of overlay.now.sheet.now)) (element_of element.now))) }
+/// Appends the elements of a payload, unchanged.
+fn push_wholes(elements: &[SyntaxElement], pieces: &mut Vec<Piece>) -> Result<(), AllocError>
+    ensures { OnOk result (Adds pieces.old.items pieces.new.items
+        (readings_of blank (map element_of elements.now))) }
 {
-    let copy = element.clone()?;
-    match overlay.sheet {
-        None => push_whole(copy, pieces)?,
-        Some(way) => {
-            let numbers = listed.numbers(overlay.alloc, way)?;
-            push_standing(overlay, &numbers, copy, pieces)?;
-        }
+    for element in elements {
+        push_whole(element.clone()?, pieces)?;
     }
     Ok(())
 }
 
-/// Returns the pieces that the planned change `job` inserts after the executed changes `made`.
+/// Appends the elements of the payload that is the target tree, with the executed changes at
+/// `numbers`.
+fn push_all(
+    overlay: &Overlay<'_>,
+    numbers: &[usize],
+    elements: &[SyntaxElement],
+    pieces: &mut Vec<Piece>,
+) -> Result<(), AllocError>
+    ensures { (gs : List Given)
+        → HaveGiven overlay.now.jobs.now overlay.now.made.now numbers.now gs → OnOk result
+        (Adds pieces.old.items pieces.new.items
+        (readings_of (laid gs (target_of overlay.now.target)) (map element_of elements.now))) }
+{
+    for element in elements {
+        push_standing(overlay, numbers, element.clone()?, pieces)?;
+    }
+    Ok(())
+}
+
+/// Returns the pieces that the planned change `job` inserts after the executed changes `made`. If it
+/// replaces a node by a node, its payload is a target tree, and has its executed changes.
 fn content_of(
     alloc: Global,
     jobs: &[Job],
@@ -54,16 +62,20 @@ fn content_of(
     ensures { (js : List Job) → HavePut jobs.now made.now js
         → IfOk result (λ v. Say v.items (terms_of (puts js) job.now)) }
 {
-    let overlay = Overlay {
-        alloc,
-        jobs,
-        made,
-        sheet: job.own(),
-    };
     let mut pieces = Vec::new(alloc);
-    pieces.push(Piece::Group(job.nesting()))?;
-    for element in job.payload() {
-        push_payload(&overlay, listed, element, &mut pieces)?;
+    pieces.push(Piece::Group(job.target().nesting()))?;
+    match job.own() {
+        None => push_wholes(job.payload(), &mut pieces)?,
+        Some(way) => {
+            let overlay = Overlay {
+                alloc,
+                jobs,
+                made,
+                target: TargetTree::Payload(way),
+            };
+            let numbers = listed.numbers(alloc, way)?;
+            push_all(&overlay, &numbers, job.payload(), &mut pieces)?;
+        }
     }
     pieces.push(Piece::Close)?;
     Ok(pieces)

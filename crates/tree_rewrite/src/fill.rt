@@ -6,7 +6,7 @@ ghost use Rattle.syntax_tree.specs.Element.{Way, Element, term_of};
 ghost use Rattle.syntax_tree.specs.Handle.{element_of};
 ghost use Rattle.tree_rewrite.specs.Marked.{origin_at, blank, reading_of};
 ghost use Rattle.tree_rewrite.specs.Moved.{way_above};
-ghost use Rattle.tree_rewrite.specs.Recorded.{way_of};
+ghost use Rattle.tree_rewrite.specs.Recorded.{target_of};
 ghost use Rattle.tree_rewrite.specs.Fill.{Given, laid, HaveGiven, at_gap, standing};
 ghost use Rattle.tree_rewrite.specs.Filling.{size_of, IsNew, child_in, Closes, AreOpen, LeadTo, with_opened, level_size, level_sizes};
 ghost use Rattle.tree_rewrite.specs.Below.{lists_of, AreLists};
@@ -15,6 +15,7 @@ ghost use Rattle.tree_rewrite.specs.declared.fill.Level.{Level};
 
 use crate::lists::{list_at, lists_below};
 use crate::overlay::Overlay;
+use crate::path::Path;
 use crate::piece::Piece;
 use crate::sheet::{is_touched, push_gap, push_slot};
 use std::alloc::AllocError;
@@ -60,13 +61,6 @@ fn push_opened(opened: Option<Level>, levels: &mut Vec<Level>) -> Result<(), All
     Ok(())
 }
 
-/// Removes the last index of `path`, if there is one.
-fn leave(path: &mut Vec<usize>)
-    ensures { reverse path.new.items ≡ way_above (reverse path.old.items) }
-{
-    path.pop();
-}
-
 impl Overlay<'_> {
     /// Opens `node`, which is at depth `depth`. None of its children is appended.
     fn open_node(
@@ -80,7 +74,7 @@ impl Overlay<'_> {
         ensures lists { (gs : List Given) (w : Way)
             → HaveGiven self.now.jobs.now self.now.made.now numbers.now gs → length w ≡ depth
             → IfOk result (λ l. AreLists self.now.jobs.now self.now.made.now
-            (lists_of l.lists.items) (way_of self.now.sheet.now) w gs) }
+            (lists_of l.lists.items) (target_of self.now.target) w gs) }
         ensures size { IfOk result (λ l. level_size l < 2 * size_of node.now) }
     {
         let count = node.cursor().green().children().len();
@@ -99,47 +93,47 @@ impl Overlay<'_> {
         &self,
         numbers: &[usize],
         element: SyntaxElement,
-        path: &mut Vec<usize>,
+        path: &mut Path,
         pieces: &mut Vec<Piece>,
     ) -> Result<Option<Level>, AllocError>
         ensures opened { (e : Element) (ls : List Level)
-            → element_of element ≡ (origin_at e (reverse path.old.items)).origin
-            → AreOpen e (way_above (reverse path.old.items)) ls
-            → IfOk result (λ o. AreOpen e (reverse path.new.items) (with_opened o ls)) }
+            → element_of element ≡ (origin_at e path.old).origin
+            → AreOpen e (way_above path.old) ls
+            → IfOk result (λ o. AreOpen e path.new (with_opened o ls)) }
         ensures terms { (gs : List Given) (e : Element) (ls : List Level) (s t : Stand)
             → HaveGiven self.now.jobs.now self.now.made.now numbers.now gs
-            → element_of element ≡ (origin_at e (reverse path.old.items)).origin
-            → LeadTo self.now.jobs.now self.now.made.now (way_of self.now.sheet.now) e
-            (way_above (reverse path.old.items)) ls
-            (added (standing (laid gs (way_of self.now.sheet.now)) e (reverse path.old.items)
+            → element_of element ≡ (origin_at e path.old).origin
+            → LeadTo self.now.jobs.now self.now.made.now (target_of self.now.target) e
+            (way_above path.old) ls
+            (added (standing (laid gs (target_of self.now.target)) e path.old
             (term_of (element_of element))) (after pieces.old.items s)) t
             → IfOk result (λ o. LeadTo self.now.jobs.now self.now.made.now
-            (way_of self.now.sheet.now) e (reverse path.new.items) (with_opened o ls)
+            (target_of self.now.target) e path.new (with_opened o ls)
             (after pieces.new.items s) t) }
         ensures size { IfOk result (λ o. level_sizes (with_opened o [])
             < 2 * size_of (element_of element)) }
     {
         if push_slot(self, numbers, path, pieces)? {
-            leave(path);
+            path.pop();
             return Ok(None);
         }
         match element {
             SyntaxElement::Token(token) => {
                 // (the contract of `green`: the element is in its tree)
                 let _stands = token.cursor().green();
-                leave(path);
+                path.pop();
                 push_whole(SyntaxElement::Token(token), pieces)?;
                 Ok(None)
             }
             SyntaxElement::Node(node) => {
                 // (the contract of `green`: the element is in its tree)
                 let _stands = node.cursor().green();
-                if !is_touched(self, numbers, path.len()) {
-                    leave(path);
+                if !is_touched(self, numbers, path.depth()) {
+                    path.pop();
                     push_whole(SyntaxElement::Node(node), pieces)?;
                     return Ok(None);
                 }
-                let level = self.open_node(numbers, &node, path.len())?;
+                let level = self.open_node(numbers, &node, path.depth())?;
                 pieces.push(Piece::Open(node))?;
                 Ok(Some(level))
             }
@@ -152,24 +146,24 @@ impl Overlay<'_> {
         &self,
         level: &Level,
         child: SyntaxElement,
-        path: &mut Vec<usize>,
+        path: &mut Path,
         pieces: &mut Vec<Piece>,
     ) -> Result<Option<Level>, AllocError>
         requires { level.now.index < length level.now.lists.items }
         ensures opened { (e : Element) (ls : List Level)
-            → element_of child ≡ (origin_at e (level.now.index ∷ reverse path.old.items)).origin
-            → AreOpen e (reverse path.old.items) ls
-            → IfOk result (λ o. AreOpen e (reverse path.new.items) (with_opened o ls)) }
+            → element_of child ≡ (origin_at e (level.now.index ∷ path.old)).origin
+            → AreOpen e path.old ls
+            → IfOk result (λ o. AreOpen e path.new (with_opened o ls)) }
         ensures terms { (gs : List Given) (e : Element) (ls : List Level) (s t : Stand)
             → AreLists self.now.jobs.now self.now.made.now (lists_of level.now.lists.items)
-            (way_of self.now.sheet.now) (reverse path.old.items) gs
-            → element_of child ≡ (origin_at e (level.now.index ∷ reverse path.old.items)).origin
-            → LeadTo self.now.jobs.now self.now.made.now (way_of self.now.sheet.now) e
-            (reverse path.old.items) ls
-            (added (child_in gs (way_of self.now.sheet.now) e (reverse path.old.items)
+            (target_of self.now.target) path.old gs
+            → element_of child ≡ (origin_at e (level.now.index ∷ path.old)).origin
+            → LeadTo self.now.jobs.now self.now.made.now (target_of self.now.target) e
+            path.old ls
+            (added (child_in gs (target_of self.now.target) e path.old
             level.now.index (element_of child)) (after pieces.old.items s)) t
             → IfOk result (λ o. LeadTo self.now.jobs.now self.now.made.now
-            (way_of self.now.sheet.now) e (reverse path.new.items) (with_opened o ls)
+            (target_of self.now.target) e path.new (with_opened o ls)
             (after pieces.new.items s) t) }
         ensures size { IfOk result (λ o. level_sizes (with_opened o [])
             < 2 * size_of (element_of child)) }
@@ -189,22 +183,22 @@ impl Overlay<'_> {
     fn close(
         &self,
         level: &Level,
-        path: &mut Vec<usize>,
+        path: &mut Path,
         pieces: &mut Vec<Piece>,
     ) -> Result<(), AllocError>
         requires { level.now.index < length level.now.lists.items }
         ensures terms { (gs : List Given)
             → AreLists self.now.jobs.now self.now.made.now (lists_of level.now.lists.items)
-            (way_of self.now.sheet.now) (reverse path.old.items) gs
+            (target_of self.now.target) path.old gs
             → OnOk result (Closes pieces.old.items pieces.new.items
-            (at_gap gs (way_of self.now.sheet.now) (reverse path.old.items) level.now.index)) }
+            (at_gap gs (target_of self.now.target) path.old level.now.index)) }
         ensures path { OnOk result
-            (reverse path.new.items ≡ way_above (reverse path.old.items)) }
+            (path.new ≡ way_above path.old) }
     {
         let last = list_at(&level.lists, level.index);
         push_gap(self, last, path, level.index, pieces)?;
         pieces.push(Piece::Close)?;
-        leave(path);
+        path.pop();
         Ok(())
     }
 
@@ -215,19 +209,19 @@ impl Overlay<'_> {
         &self,
         level: Level,
         levels: &mut Vec<Level>,
-        path: &mut Vec<usize>,
+        path: &mut Path,
         pieces: &mut Vec<Piece>,
     ) -> Result<(), AllocError>
         requires { level.index < length level.lists.items }
         ensures opened { (e : Element)
-            → AreOpen e (reverse path.old.items) (level ∷ reverse levels.old.items)
-            → OnOk result (AreOpen e (reverse path.new.items) (reverse levels.new.items)) }
+            → AreOpen e path.old (level ∷ reverse levels.old.items)
+            → OnOk result (AreOpen e path.new (reverse levels.new.items)) }
         ensures terms { (e : Element) (s t : Stand)
-            → LeadTo self.now.jobs.now self.now.made.now (way_of self.now.sheet.now) e
-            (reverse path.old.items) (level ∷ reverse levels.old.items)
+            → LeadTo self.now.jobs.now self.now.made.now (target_of self.now.target) e
+            path.old (level ∷ reverse levels.old.items)
             (after pieces.old.items s) t
-            → OnOk result (LeadTo self.now.jobs.now self.now.made.now (way_of self.now.sheet.now) e
-            (reverse path.new.items) (reverse levels.new.items) (after pieces.new.items s) t) }
+            → OnOk result (LeadTo self.now.jobs.now self.now.made.now (target_of self.now.target) e
+            path.new (reverse levels.new.items) (after pieces.new.items s) t) }
         ensures size { OnOk result (level_sizes (reverse levels.new.items)
             < level_sizes (level ∷ reverse levels.old.items)) }
     {
@@ -256,9 +250,9 @@ pub fn push_standing(
     ensures { (gs : List Given)
         → HaveGiven overlay.now.jobs.now overlay.now.made.now numbers.now gs → OnOk result
         (Adds pieces.old.items pieces.new.items
-        (reading_of (laid gs (way_of overlay.now.sheet.now)) (element_of element))) }
+        (reading_of (laid gs (target_of overlay.now.target)) (element_of element))) }
 {
-    let mut path = Vec::new(overlay.alloc);
+    let mut path = Path::new(overlay.alloc);
     let mut levels = Vec::new(overlay.alloc);
     let opened = overlay.enter(numbers, element, &mut path, pieces)?;
     push_opened(opened, &mut levels)?;

@@ -1,27 +1,27 @@
 //! Planned changes, and the orders in which they may be executed one at a time.
-ghost use Rattle.std.specs.Prelude.{◌≡◌, ◌&&◌, Some, ℕ, length, reverse, is_none, map};
+ghost use Rattle.std.specs.Prelude.{◌≡◌, ◌&&◌, Some, ℕ, length, map};
 ghost use Rattle.std.specs.List.{list_all};
+ghost use Rattle.std.specs.Option.{option_copied};
 ghost use Rattle.tree_rewrite.specs.Rewrite.{same_sheet, sets, first_way, payload_of};
 ghost use Rattle.tree_rewrite.specs.Marked.{gap, slot};
 ghost use Rattle.tree_rewrite.specs.Reach.{is_deep};
 ghost use Rattle.syntax_tree.specs.Element.{Way, same_way};
 ghost use Rattle.syntax_tree.specs.Handle.{element_of};
 ghost use Rattle.tree_rewrite.specs.Orders.{is_owned, same_gap, may_follow, in_order, is_order};
-ghost use Rattle.tree_rewrite.specs.Recorded.{way_of, level_of};
+ghost use Rattle.tree_rewrite.specs.Recorded.{way_of, target_of, level_of};
 ghost use Rattle.tree_rewrite.specs.Plan.{depth_of};
 ghost use Rattle.tree_rewrite.specs.Below.{IsBeyond, LeavesChild};
-ghost use Rattle.tree_rewrite.specs.Pieces.{is_outermost};
 
-use crate::piece::Nesting;
+use crate::path::Path;
+use crate::target_tree::TargetTree;
 use crate::tree_change::TreeChange;
 use std::marker::Model;
 use syntax_tree::SyntaxElement;
 
 /// A planned change: a change that is not discarded, with its target tree.
 pub struct Job {
-    /// The target tree: the up-path of the replaced node whose payload is changed, or `None` for
-    /// the tree itself.
-    sheet: Option<Vec<usize>>,
+    /// The up-path of the replaced node whose payload is its target tree; `None` for the tree itself.
+    holder: Option<Vec<usize>>,
     change: TreeChange,
     /// The up-path of the node that it replaces by a node, if it does.
     own: Option<Vec<usize>>,
@@ -31,7 +31,7 @@ pub struct Job {
 impl Drop for Job {
     fn drop(self) {
         let Job {
-            sheet: _sheet,
+            holder: _holder,
             change: _change,
             own: _own,
         } = self;
@@ -48,35 +48,30 @@ impl Model for Job {
 
     ghost coded = { Prim.hlevel (codes, tree_code) };
 
-    ghost view = { λ j. record { sheet = way_of j.sheet; change = j.change; own = way_of j.own } };
-}
-
-/// Returns `true` if both target trees are the same.
-fn same_sheet(a: &Option<Vec<usize>>, b: &Option<Vec<usize>>) -> bool
-    ensures { result ≡ same_sheet (way_of a.now) (way_of b.now) }
-{
-    match (a, b) {
-        (None, None) => true,
-        (Some(a), Some(b)) => a.as_slice() == b.as_slice(),
-        _ => false,
-    }
+    ghost view = { λ j. record { sheet = way_of j.holder; change = j.change; own = way_of j.own } };
 }
 
 impl Job {
-    /// Creates a planned change of the target tree `sheet`; `own` is the node that it replaces by a
-    /// node. Both name a payload by the up-path of the node that it replaces.
-    pub fn new(sheet: Option<Vec<usize>>, change: TreeChange, own: Option<Vec<usize>>) -> Job
-        ensures { result ≡ record { sheet = way_of sheet; change = change; own = way_of own } }
+    /// Creates a planned change of the payload of the replaced node at up-path `holder`, or of the
+    /// tree itself; `own` is the up-path of the node that it replaces by a node.
+    pub fn new(holder: Option<Vec<usize>>, change: TreeChange, own: Option<Vec<usize>>) -> Job
+        ensures { result ≡ record { sheet = way_of holder; change = change; own = way_of own } }
     {
-        Job { sheet, change, own }
+        Job {
+            holder,
+            change,
+            own,
+        }
     }
 
-    /// Returns its target tree: the up-path of the replaced node whose payload is changed, or
-    /// `None` for the tree itself.
-    pub(crate) fn sheet(&self) -> &Option<Vec<usize>>
-        ensures { way_of result.now ≡ self.now.sheet }
+    /// Returns its target tree.
+    pub(crate) fn target(&self) -> TargetTree<'_>
+        ensures { target_of result ≡ self.now.sheet }
     {
-        &self.sheet
+        match &self.holder {
+            Some(way) => TargetTree::Payload(way),
+            None => TargetTree::Tree,
+        }
     }
 
     /// Returns the elements that it inserts.
@@ -87,19 +82,12 @@ impl Job {
     }
 
     /// Returns the up-path of the node that it replaces by a node, if it does.
-    pub(crate) fn own(&self) -> &Option<Vec<usize>>
-        ensures { way_of result.now ≡ self.now.own }
+    pub(crate) fn own(&self) -> Option<&[usize]>
+        ensures { option_copied result ≡ self.now.own }
     {
-        &self.own
-    }
-
-    /// Returns whether its target tree is the tree itself or a payload.
-    pub(crate) fn nesting(&self) -> Nesting
-        ensures { is_outermost result ≡ is_none self.now.sheet }
-    {
-        match self.sheet {
-            None => Nesting::Outermost,
-            Some(_) => Nesting::Nested,
+        match &self.own {
+            Some(way) => Some(way),
+            None => None,
         }
     }
 
@@ -107,50 +95,50 @@ impl Job {
     pub(crate) fn level(&self) -> Option<usize>
         ensures { level_of result ≡ depth_of self.now.sheet }
     {
-        match &self.sheet {
-            Some(way) => Some(way.len()),
-            None => None,
+        match self.target() {
+            TargetTree::Payload(way) => Some(way.len()),
+            TargetTree::Tree => None,
         }
     }
 
-    /// Returns `true` if it inserts into gap `index` of the node at `path` in target tree `sheet`.
-    pub(crate) fn sets_gap(&self, sheet: &Option<Vec<usize>>, path: &[usize], index: usize) -> bool
-        ensures { result ≡ (same_sheet self.now.sheet (way_of sheet.now)
-            && sets self.now.change (gap (reverse path.now) index)) }
+    /// Returns `true` if it inserts into gap `index` of the node at `path` in `target`.
+    pub(crate) fn sets_gap(&self, target: TargetTree<'_>, path: &Path, index: usize) -> bool
+        ensures { result ≡ (same_sheet self.now.sheet (target_of target.entry)
+            && sets self.now.change (gap path.now index)) }
     {
-        same_sheet(&self.sheet, sheet) && self.change.sets_gap(path, index)
+        self.target().is_same(target) && self.change.sets_gap(path, index)
     }
 
-    /// Returns `true` if it replaces the element at `path` in target tree `sheet`.
-    pub(crate) fn sets_slot(&self, sheet: &Option<Vec<usize>>, path: &[usize]) -> bool
-        ensures { result ≡ (same_sheet self.now.sheet (way_of sheet.now)
-            && sets self.now.change (slot (reverse path.now))) }
+    /// Returns `true` if it replaces the element at `path` in `target`.
+    pub(crate) fn sets_slot(&self, target: TargetTree<'_>, path: &Path) -> bool
+        ensures { result ≡ (same_sheet self.now.sheet (target_of target.entry)
+            && sets self.now.change (slot path.now)) }
     {
-        same_sheet(&self.sheet, sheet) && self.change.sets_slot(path)
+        self.target().is_same(target) && self.change.sets_slot(path)
     }
 
-    /// Returns `true` if it affects, in target tree `sheet`, children of an element at depth
+    /// Returns `true` if it affects, in `target`, children of an element at depth
     /// `depth`, or elements below these.
-    pub(crate) fn is_deep(&self, sheet: &Option<Vec<usize>>, depth: usize) -> bool
-        ensures { result ≡ (same_sheet self.now.sheet (way_of sheet.now)
+    pub(crate) fn is_deep(&self, target: TargetTree<'_>, depth: usize) -> bool
+        ensures { result ≡ (same_sheet self.now.sheet (target_of target.entry)
             && is_deep depth self.now.change) }
     {
-        same_sheet(&self.sheet, sheet) && self.change.is_deep(depth)
+        self.target().is_same(target) && self.change.is_deep(depth)
     }
 
     /// Returns `true` if `path` leads to the first element that it replaces; for an insertion, if
     /// `path` leads to the root.
-    pub(crate) fn begins_at(&self, path: &[usize]) -> bool
-        ensures { result ≡ same_way (first_way self.now.change) (reverse path.now) }
+    pub(crate) fn begins_at(&self, path: &Path) -> bool
+        ensures { result ≡ same_way (first_way self.now.change) path.now }
     {
         self.change.begins_at(path)
     }
 
-    /// Returns `true` if it applies to target tree `sheet`.
-    pub(crate) fn is_on(&self, sheet: &Option<Vec<usize>>) -> bool
-        ensures { result ≡ same_sheet self.now.sheet (way_of sheet.now) }
+    /// Returns `true` if it applies to `target`.
+    pub(crate) fn is_on(&self, target: TargetTree<'_>) -> bool
+        ensures { result ≡ same_sheet self.now.sheet (target_of target.entry) }
     {
-        same_sheet(&self.sheet, sheet)
+        self.target().is_same(target)
     }
 
     /// Returns the children that it may affect in a node at depth `depth`: the index of the first,
@@ -166,14 +154,17 @@ impl Job {
     fn owns(&self, other: &Job) -> bool
         ensures { result ≡ is_owned self.now.own other.now }
     {
-        self.own.is_some() && same_sheet(&other.sheet, &self.own)
+        match self.own() {
+            Some(way) => other.is_on(TargetTree::Payload(way)),
+            None => false,
+        }
     }
 
     /// Returns `true` if both insert into the same gap.
     fn has_gap_of(&self, other: &Job) -> bool
         ensures { result ≡ same_gap (Some self.now) (Some other.now) }
     {
-        same_sheet(&self.sheet, &other.sheet) && self.change.has_gap_of(&other.change)
+        self.is_on(other.target()) && self.change.has_gap_of(&other.change)
     }
 }
 

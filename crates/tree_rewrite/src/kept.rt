@@ -97,8 +97,8 @@ fn job_of(
     };
     match change_in(alloc, root, mapping, replacement, change)? {
         Some(moved) => {
-            let sheet = Vec::from_slice(alloc, holder)?;
-            Ok(Some(Job::new(Some(sheet), moved, own)))
+            let holder = Vec::from_slice(alloc, holder)?;
+            Ok(Some(Job::new(Some(holder), moved, own)))
         }
         None => Ok(None),
     }

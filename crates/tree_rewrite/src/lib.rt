@@ -6,7 +6,7 @@
 //! it are applied to that payload, at the place that a mapping names.
 //!
 //! - A *payload*: the elements that a change inserts, or by which it replaces others.
-//! - A *target tree* (`sheet`) is the recorded tree, or a payload with changes inside the node that
+//! - A *target tree* (`sheet` in definitions) is the recorded tree, or a payload with changes inside the node that
 //!   it replaces.
 //! - A *planned change* (`Job`) is a change of a target tree: those inside a payload come first.
 //! - An *up-path* (`way`) leads from an element to its root: child indices, the innermost first.
@@ -33,10 +33,12 @@ mod nesting;
 mod on_payloads;
 pub mod origins;
 mod overlay;
+mod path;
 pub mod piece;
 pub mod plan;
 mod put;
 mod sheet;
+mod target_tree;
 pub mod tree_change;
 pub mod way_map;
 mod way_trie;

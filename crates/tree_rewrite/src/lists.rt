@@ -5,7 +5,7 @@ ghost use Rattle.std.specs.List.{All};
 ghost use Rattle.std.specs.Global.{Vec};
 ghost use Rattle.syntax_tree.specs.Element.{Way};
 ghost use Rattle.tree_rewrite.specs.Rewrite.{Job, same_sheet, puts, terms_of};
-ghost use Rattle.tree_rewrite.specs.Recorded.{way_of};
+ghost use Rattle.tree_rewrite.specs.Recorded.{target_of};
 ghost use Rattle.tree_rewrite.specs.Fill.{Given, IsGiven, HaveGiven, HavePut};
 ghost use Rattle.tree_rewrite.specs.Below.{IsBeyond, LeavesChild, with_row, lists_of, AreLists, OnSheet};
 
@@ -113,10 +113,10 @@ pub fn list_at(lists: &[Vec<usize>], index: usize) -> &[usize]
 /// Returns `true` if the executed change at index `number` applies to the target tree.
 fn is_on(overlay: &Overlay<'_>, number: usize) -> bool
     ensures { (g : Given) → IsGiven overlay.now.jobs.now (slice_get overlay.now.made.now number) g
-        → result ≡ same_sheet g.0.sheet (way_of overlay.now.sheet.now) }
+        → result ≡ same_sheet g.0.sheet (target_of overlay.now.target) }
 {
     match job_of(overlay, number) {
-        Some(job) => job.is_on(overlay.sheet),
+        Some(job) => job.is_on(overlay.target),
         None => false,
     }
 }
@@ -128,9 +128,9 @@ fn push_on(overlay: &Overlay<'_>, number: usize, numbers: &mut Vec<usize>) -> Re
         → IsGiven overlay.now.jobs.now (slice_get overlay.now.made.now number)
         (j, terms_of (puts js) j)
         → OnSheet overlay.now.jobs.now overlay.now.made.now numbers.old.items
-        (way_of overlay.now.sheet.now) js
+        (target_of overlay.now.target) js
         → OnOk result (OnSheet overlay.now.jobs.now overlay.now.made.now numbers.new.items
-        (way_of overlay.now.sheet.now) (j ∷ js)) }
+        (target_of overlay.now.target) (j ∷ js)) }
 {
     if is_on(overlay, number) {
         numbers.push(number)?;
@@ -142,7 +142,7 @@ fn push_on(overlay: &Overlay<'_>, number: usize, numbers: &mut Vec<usize>) -> Re
 pub fn on_sheet(overlay: &Overlay<'_>) -> Result<Vec<usize>, AllocError>
     ensures { (js : List Job) → HavePut overlay.now.jobs.now overlay.now.made.now js → IfOk result
         (λ v. OnSheet overlay.now.jobs.now overlay.now.made.now v.items
-        (way_of overlay.now.sheet.now) js) }
+        (target_of overlay.now.target) js) }
 {
     let mut numbers = Vec::new(overlay.alloc);
     for number in 0..overlay.made.len() {

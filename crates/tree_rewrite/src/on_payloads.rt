@@ -9,6 +9,7 @@ ghost use Rattle.tree_rewrite.specs.Listed.{HaveChains, IsListed};
 ghost use Rattle.tree_rewrite.specs.declared.piece.Put.{Put};
 
 use crate::job::Job;
+use crate::target_tree::TargetTree;
 use crate::way_map::{WayMap, number_at, put};
 use std::alloc::{AllocError, Global};
 use std::collections::HashMap;
@@ -65,7 +66,7 @@ impl OnPayloads {
         ensures { (all : List Job) (ps : List Put) (p : Put) → IsListed all ps self.old
             → slice_get all p.number ≡ Some job.now → OnOk result (IsListed all (ps ++ p ∷ []) self.new) }
     {
-        let Some(way) = job.sheet() else {
+        let TargetTree::Payload(way) = job.target() else {
             self.before.push(None)?;
             return Ok(());
         };

@@ -183,12 +183,7 @@ impl Plan {
         let mut pieces = Vec::new(alloc);
         let _stands = self.top.cursor().green();
         let top = SyntaxElement::Node(self.top.clone()?);
-        let overlay = Overlay {
-            alloc,
-            jobs: &self.jobs,
-            made: &made,
-            sheet: &None,
-        };
+        let overlay = Overlay::of_tree(alloc, &self.jobs, &made);
         let numbers = on_sheet(&overlay)?;
         push_standing(&overlay, &numbers, top, &mut pieces)?;
         Ok(pieces)

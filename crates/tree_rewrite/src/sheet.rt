@@ -1,19 +1,19 @@
 //! Contents of the gaps and slots of an overlay's target tree after some executed changes. Only the
-//! executed changes whose indices are given are examined. Elements are named by paths: child
-//! indices from the root down.
-ghost use Rattle.std.specs.Prelude.{◌≡◌, List, Some, ℕ, ◌&&◌, length, reverse, slice_get, is_some, if◌then◌else◌, IfOk, OnOk};
+//! executed changes whose indices are given are examined.
+ghost use Rattle.std.specs.Prelude.{◌≡◌, List, Some, ℕ, ◌&&◌, length, slice_get, is_some, if◌then◌else◌, IfOk, OnOk};
 ghost use Rattle.std.specs.Bool.{OnFalse};
 ghost use Rattle.std.specs.List.{list_any};
 ghost use Rattle.std.specs.Option.{option_copied};
 ghost use Rattle.syntax_tree.specs.Element.{Way, same_way};
 ghost use Rattle.tree_rewrite.specs.Marked.{Marked, nothing, gap, slot};
 ghost use Rattle.tree_rewrite.specs.Rewrite.{Job, same_sheet, sets, first_way};
-ghost use Rattle.tree_rewrite.specs.Recorded.{way_of};
+ghost use Rattle.tree_rewrite.specs.Recorded.{target_of};
 ghost use Rattle.tree_rewrite.specs.Fill.{Given, laid, IsGiven, HaveGiven, touches, is_deep_on, AreAlong, IsBlankBelow, at_gap, at_slot};
 ghost use Rattle.tree_rewrite.specs.Pieces.{Adds};
 
 use crate::job::Job;
 use crate::overlay::Overlay;
+use crate::path::Path;
 use crate::piece::{Piece, Put, push_pieces};
 use std::alloc::AllocError;
 
@@ -28,35 +28,35 @@ pub(crate) fn job_of<'a>(overlay: &Overlay<'a>, number: usize) -> Option<&'a Job
 
 /// Returns `true` if the executed change at index `number` inserts into gap `index` of the node at
 /// `path` in the target tree.
-fn sets_gap(overlay: &Overlay<'_>, number: usize, path: &[usize], index: usize) -> bool
+fn sets_gap(overlay: &Overlay<'_>, number: usize, path: &Path, index: usize) -> bool
     ensures { (g : Given) → IsGiven overlay.now.jobs.now (slice_get overlay.now.made.now number) g
-        → result ≡ (same_sheet g.0.sheet (way_of overlay.now.sheet.now)
-        && sets g.0.change (gap (reverse path.now) index)) }
+        → result ≡ (same_sheet g.0.sheet (target_of overlay.now.target)
+        && sets g.0.change (gap path.now index)) }
 {
     match job_of(overlay, number) {
-        Some(job) => job.sets_gap(overlay.sheet, path, index),
+        Some(job) => job.sets_gap(overlay.target, path, index),
         None => false,
     }
 }
 
 /// Returns `true` if the executed change at index `number` replaces the element at `path` in
 /// the target tree.
-fn sets_slot(overlay: &Overlay<'_>, number: usize, path: &[usize]) -> bool
+fn sets_slot(overlay: &Overlay<'_>, number: usize, path: &Path) -> bool
     ensures { (g : Given) → IsGiven overlay.now.jobs.now (slice_get overlay.now.made.now number) g
-        → result ≡ (same_sheet g.0.sheet (way_of overlay.now.sheet.now)
-        && sets g.0.change (slot (reverse path.now))) }
+        → result ≡ (same_sheet g.0.sheet (target_of overlay.now.target)
+        && sets g.0.change (slot path.now)) }
 {
     match job_of(overlay, number) {
-        Some(job) => job.sets_slot(overlay.sheet, path),
+        Some(job) => job.sets_slot(overlay.target, path),
         None => false,
     }
 }
 
 /// Returns `true` if `path` leads to the first element that the executed change at index `number`
 /// replaces; for an insertion, if `path` leads to the root.
-fn begins_at(overlay: &Overlay<'_>, number: usize, path: &[usize]) -> bool
+fn begins_at(overlay: &Overlay<'_>, number: usize, path: &Path) -> bool
     ensures { (g : Given) → IsGiven overlay.now.jobs.now (slice_get overlay.now.made.now number) g
-        → result ≡ same_way (first_way g.0.change) (reverse path.now) }
+        → result ≡ same_way (first_way g.0.change) path.now }
 {
     match job_of(overlay, number) {
         Some(job) => job.begins_at(path),
@@ -69,14 +69,14 @@ fn begins_at(overlay: &Overlay<'_>, number: usize, path: &[usize]) -> bool
 pub fn push_gap(
     overlay: &Overlay<'_>,
     numbers: &[usize],
-    path: &[usize],
+    path: &Path,
     index: usize,
     pieces: &mut Vec<Piece>,
 ) -> Result<(), AllocError>
     ensures { (gs : List Given)
         → HaveGiven overlay.now.jobs.now overlay.now.made.now numbers.now gs → OnOk result
         (Adds pieces.old.items pieces.new.items
-        (at_gap gs (way_of overlay.now.sheet.now) (reverse path.now) index)) }
+        (at_gap gs (target_of overlay.now.target) path.now index)) }
 {
     let mut rest = numbers;
     while let Some((number, before)) = rest.split_last() {
@@ -126,16 +126,16 @@ fn push_if(
 pub fn push_slot(
     overlay: &Overlay<'_>,
     numbers: &[usize],
-    path: &[usize],
+    path: &Path,
     pieces: &mut Vec<Piece>,
 ) -> Result<bool, AllocError>
     ensures replaced { (gs : List Given)
         → HaveGiven overlay.now.jobs.now overlay.now.made.now numbers.now gs → IfOk result
-        (λ b. b ≡ is_some (laid gs (way_of overlay.now.sheet.now) (slot (reverse path.now)))) }
+        (λ b. b ≡ is_some (laid gs (target_of overlay.now.target) (slot path.now))) }
     ensures added { (gs : List Given)
         → HaveGiven overlay.now.jobs.now overlay.now.made.now numbers.now gs → OnOk result
         (Adds pieces.old.items pieces.new.items
-        (at_slot gs (way_of overlay.now.sheet.now) (reverse path.now))) }
+        (at_slot gs (target_of overlay.now.target) path.now)) }
 {
     let mut rest = numbers;
     while let Some((number, before)) = rest.split_last() {
@@ -157,10 +157,10 @@ pub fn push_slot(
 /// children of an element at depth `depth`, or elements below these.
 fn is_deep(overlay: &Overlay<'_>, number: usize, depth: usize) -> bool
     ensures { (g : Given) → IsGiven overlay.now.jobs.now (slice_get overlay.now.made.now number) g
-        → result ≡ is_deep_on (way_of overlay.now.sheet.now) depth g }
+        → result ≡ is_deep_on (target_of overlay.now.target) depth g }
 {
     match job_of(overlay, number) {
-        Some(job) => job.is_deep(overlay.sheet, depth),
+        Some(job) => job.is_deep(overlay.target, depth),
         None => true,
     }
 }
@@ -172,10 +172,10 @@ fn is_deep(overlay: &Overlay<'_>, number: usize, depth: usize) -> bool
 pub fn is_touched(overlay: &Overlay<'_>, numbers: &[usize], depth: usize) -> bool
     ensures touched { (gs : List Given) (w : Way)
         → HaveGiven overlay.now.jobs.now overlay.now.made.now numbers.now gs → length w ≡ depth
-        → AreAlong w gs → result ≡ list_any (touches (way_of overlay.now.sheet.now) w) gs }
+        → AreAlong w gs → result ≡ list_any (touches (target_of overlay.now.target) w) gs }
     ensures blank { (gs : List Given) (w : Way)
         → HaveGiven overlay.now.jobs.now overlay.now.made.now numbers.now gs → length w ≡ depth
-        → OnFalse result (IsBlankBelow gs (way_of overlay.now.sheet.now) w) }
+        → OnFalse result (IsBlankBelow gs (target_of overlay.now.target) w) }
 {
     let mut rest = numbers;
     while let Some((number, before)) = rest.split_last() {

@@ -11,6 +11,7 @@ ghost use Rattle.tree_rewrite.specs.Rewrite.{payload_of, sets, first_way};
 ghost use Rattle.tree_rewrite.specs.Orders.{same_gap_at};
 ghost use Rattle.tree_rewrite.specs.Recorded.{change_of};
 
+use crate::path::Path;
 use crate::ways::{covers_path, has_path};
 use std::alloc::{AllocError, Global};
 use std::marker::Model;
@@ -150,22 +151,22 @@ impl TreeChange {
     }
 
     /// Returns `true` if it inserts into gap `number` of the node at `path`.
-    pub(crate) fn sets_gap(&self, path: &[usize], number: usize) -> bool
-        ensures { result ≡ sets self.now (gap (reverse path.now) number) }
+    pub(crate) fn sets_gap(&self, path: &Path, number: usize) -> bool
+        ensures { result ≡ sets self.now (gap path.now number) }
     {
         match &self.target {
-            Target::Gap { parent, index } => has_path(parent, path) && *index == number,
+            Target::Gap { parent, index } => has_path(parent, path.indices()) && *index == number,
             Target::Slots { .. } => false,
         }
     }
 
     /// Returns `true` if it replaces the element at `path`.
-    pub(crate) fn sets_slot(&self, path: &[usize]) -> bool
-        ensures { result ≡ sets self.now (slot (reverse path.now)) }
+    pub(crate) fn sets_slot(&self, path: &Path) -> bool
+        ensures { result ≡ sets self.now (slot path.now) }
     {
         match &self.target {
             Target::Gap { .. } => false,
-            Target::Slots { first, more, .. } => covers_path(first, *more, path),
+            Target::Slots { first, more, .. } => covers_path(first, *more, path.indices()),
         }
     }
 
@@ -182,12 +183,12 @@ impl TreeChange {
 
     /// Returns `true` if `path` leads to the first element that it replaces; for an insertion, if
     /// `path` leads to the root.
-    pub(crate) fn begins_at(&self, path: &[usize]) -> bool
-        ensures { result ≡ same_way (first_way self.now) (reverse path.now) }
+    pub(crate) fn begins_at(&self, path: &Path) -> bool
+        ensures { result ≡ same_way (first_way self.now) path.now }
     {
         match &self.target {
-            Target::Gap { .. } => path.is_empty(),
-            Target::Slots { first, .. } => has_path(first, path),
+            Target::Gap { .. } => path.depth() == 0,
+            Target::Slots { first, .. } => has_path(first, path.indices()),
         }
     }
 

@@ -1,10 +1,10 @@
-use Rattle.std.proofs.Common.{◌≡◌, ◌∷◌, reverse, slice_get, refl, sym, ap, ◌∙◌, subst}
+use Rattle.std.proofs.Common.{◌≡◌, ◌∷◌, slice_get, refl, sym, ap, ◌∙◌, subst}
 use Rattle.std.proofs.lemmas.Bool.{eqb-true}
 use Rattle.syntax_tree.specs.Element.{Way, term_of}
 use Rattle.syntax_tree.specs.Handle.{element_of}
 use Rattle.tree_rewrite.specs.Marked.{origin_at}
 use Rattle.tree_rewrite.specs.Moved.{way_above}
-use Rattle.tree_rewrite.specs.Recorded.{way_of}
+use Rattle.tree_rewrite.specs.Recorded.{target_of}
 use Rattle.tree_rewrite.specs.Fill.{laid, at_gap, standing}
 use Rattle.tree_rewrite.specs.Filling.{child_in, LeadTo}
 use Rattle.tree_rewrite.specs.Below.{lists_of}
@@ -12,15 +12,14 @@ use Rattle.tree_rewrite.specs.Pieces.{added, after}
 use Rattle.tree_rewrite.proofs.SheetLemmas.{none_given, adds-same}
 use Rattle.tree_rewrite.proofs.FillLemmas.{child-agree, child-whole}
 use Rattle.tree_rewrite.proofs.FillingLemmas.{lead_by, added-more}
-use Rattle.tree_rewrite.proofs.PathLemmas.{reverse-last}
 use Rattle.tree_rewrite.proofs.overlay.Overlay.push_child.Goals as goal
 
 pub returns-then-is_empty-clause-terms : goal.returns-then-is_empty-clause-terms
 returns-then-is_empty-clause-terms c = λ gs e ls s t h at lead.
     let all = c.args.self.now.jobs.now in
     let ps = c.args.self.now.made.now in
-    let n = way_of c.args.self.now.sheet.now in
-    let w = reverse c.args.path.now.items in
+    let n = target_of c.args.self.now.target in
+    let w = c.args.path.now in
     let i = c.args.level.now.index in
     let x = element_of c.args.child in
     let own = h i c.list_at-numbers.result.now (ap (λ l. slice_get (lists_of l) i) (sym c.deref.ensures.value) ∙ c.list_at-numbers.ensures) in
@@ -32,8 +31,8 @@ pub returns-clause-terms : goal.returns-clause-terms
 returns-clause-terms c = λ gs e ls s t h at lead.
     let all = c.args.self.now.jobs.now in
     let ps = c.args.self.now.made.now in
-    let n = way_of c.args.self.now.sheet.now in
-    let w = reverse c.args.path.now.items in
+    let n = target_of c.args.self.now.target in
+    let w = c.args.path.now in
     let i = c.args.level.now.index in
     let x = element_of c.args.child in
     let own = h i c.list_at-numbers.result.now (ap (λ l. slice_get (lists_of l) i) (sym c.deref.ensures.value) ∙ c.list_at-numbers.ensures) in
@@ -41,8 +40,8 @@ returns-clause-terms c = λ gs e ls s t h at lead.
     let o = standing (laid own.0 n) e (i ∷ w) (term_of x) in
     let old = after c.args.pieces.now.items s in
     let mid = after c.push_gap.new.pieces.items s in
-    let pushed = adds-same _ _ _ gap (ap (λ v. at_gap own.0 n (reverse v) i) c.deref-2.ensures.value) (c.in_ok-push_gap.ensures own.0 own.1) in
-    let way : reverse c.push.new.self.items ≡ i ∷ w = reverse-last c.push.new.self.items c.args.path.now.items i c.in_ok-push.ensures.items in
+    let pushed = c.in_ok-push_gap.ensures own.0 own.1 in
+    let way : c.push.new.self ≡ i ∷ w = c.in_ok-push.ensures in
     let same : added (child_in gs n e w i x) old ≡ added o mid =
     ap (λ m. added m old) (sym (child-agree (laid own.0 n) (laid gs n) e w i (term_of x) own.2)) ∙ sym (added-more gap o old) ∙ ap (added o) (sym (pushed.says s)) in
     let P : Way → Type 0 = λ v. LeadTo all ps n e (way_above v) ls (added (standing (laid own.0 n) e v (term_of x)) mid) t in

@@ -3,7 +3,7 @@ use Rattle.syntax_tree.specs.Element.{term_of}
 use Rattle.syntax_tree.specs.Handle.{element_of}
 use Rattle.tree_rewrite.specs.Marked.{origin_at, filled}
 use Rattle.tree_rewrite.specs.Moved.{way_above}
-use Rattle.tree_rewrite.specs.Recorded.{way_of}
+use Rattle.tree_rewrite.specs.Recorded.{target_of}
 use Rattle.tree_rewrite.specs.Fill.{laid, at_gap, standing}
 use Rattle.tree_rewrite.specs.Filling.{child_in, IsOpen, AreOpen, LeadTo, with_opened}
 use Rattle.tree_rewrite.specs.Pieces.{added, after, after_piece}
@@ -19,8 +19,8 @@ pub returns-in_default-clause-terms : goal.returns-in_default-clause-terms
 returns-in_default-clause-terms c = λ e s t lead.
     let all = c.args.self.now.jobs.now in
     let ps = c.args.self.now.made.now in
-    let n = way_of c.args.self.now.sheet.now in
-    let w = reverse c.args.path.now.items in
+    let n = target_of c.args.self.now.target in
+    let w = c.args.path.now in
     let i = c.args.level.index in
     let gs = lead.0 in
     let left = lead.2 in
@@ -36,7 +36,7 @@ returns-in_default-clause-terms c = λ e s t lead.
 
 pub returns-clause-opened : goal.returns-clause-opened
 returns-clause-opened c = λ e h.
-    let w = reverse c.args.path.now.items in
+    let w = c.args.path.now in
     let i = c.args.level.index in
     let x = (origin_at e w).origin in
     let child = c.in_ok-child.child in
@@ -48,14 +48,14 @@ returns-clause-opened c = λ e h.
     let got = c.in_ok-opened.ensures.opened e (level ∷ ls) n.at (again, h.1) in
     let back : reverse c.push.new.self.items ≡ level ∷ ls = reverse-last c.push.new.self.items c.args.levels.now.items level c.in_ok-push.ensures.items in
     on_ok c.push_opened.result _ _
-    (λ q. subst (AreOpen e (reverse c.push_child.new.path.items)) (sym (q ∙ ap (with_opened c.in_ok-opened.opened) back)) got) c.push_opened.ensures
+    (λ q. subst (AreOpen e c.push_child.new.path) (sym (q ∙ ap (with_opened c.in_ok-opened.opened) back)) got) c.push_opened.ensures
 
 pub returns-clause-terms : goal.returns-clause-terms
 returns-clause-terms c = λ e s t lead.
     let all = c.args.self.now.jobs.now in
     let ps = c.args.self.now.made.now in
-    let n = way_of c.args.self.now.sheet.now in
-    let w = reverse c.args.path.now.items in
+    let n = target_of c.args.self.now.target in
+    let w = c.args.path.now in
     let i = c.args.level.index in
     let x = (origin_at e w).origin in
     let gs = lead.0 in
@@ -73,4 +73,4 @@ returns-clause-terms c = λ e s t lead.
     let got = c.in_ok-opened.ensures.terms gs e (level ∷ ls) s t lead.1 more.at (gs, lead.1, more.after, lead-in) in
     let back : reverse c.push.new.self.items ≡ level ∷ ls = reverse-last c.push.new.self.items c.args.levels.now.items level c.in_ok-push.ensures.items in
     on_ok c.push_opened.result _ _
-    (λ q. subst (λ z. LeadTo all ps n e (reverse c.push_child.new.path.items) z (after c.push_child.new.pieces.items s) t) (sym (q ∙ ap (with_opened c.in_ok-opened.opened) back)) got) c.push_opened.ensures
+    (λ q. subst (λ z. LeadTo all ps n e c.push_child.new.path z (after c.push_child.new.pieces.items s) t) (sym (q ∙ ap (with_opened c.in_ok-opened.opened) back)) got) c.push_opened.ensures
