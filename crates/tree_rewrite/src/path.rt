@@ -5,8 +5,8 @@ ghost use Rattle.tree_rewrite.specs.Moved.{way_above};
 use std::alloc::{AllocError, Global};
 use std::marker::Model;
 
-/// The path of an element: child indices from the root down. A contract sees the up-path, which has
-/// the same indices, the innermost first.
+/// The path of an element: child indices from the root down. A contract sees the up-path: these
+/// indices, the innermost first.
 #[derive(Drop)]
 pub struct Path {
     indices: Vec<usize>,
