@@ -3,6 +3,7 @@ use Rattle.std.specs.Prelude.{ℕ, List, [], ◌∷◌, Option, Some, None, opti
 use Rattle.std.specs.Str.{bytes_eq}
 use Rattle.serde_json.specs.Data.{Data, Items, no_items, item}
 use Rattle.serde_json.specs.Find.{get, as_str, as_array, as_number, as_u64}
+use Rattle.parser_input.specs.Edition.{edition_named}
 use Rattle.parser_input.specs.declared.edition.Edition.{Edition}
 use Rattle.ra_parser.specs.declared.grammar.Grammar.{Grammar}
 use Rattle.ra_parser.specs.declared.grammar.Grammar.TheVariants.{Profile}
