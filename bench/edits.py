@@ -12,10 +12,11 @@ With --calls the rows are those of CALLS, calls that no request asks for. The pr
 the name of a work, and beside it `open`. It makes its text itself. A work that is refused ends with another status than 0.
 
 The ratio is that of the time at 2n to the time at n, in each the time of `open` taken off. A row may grow as n log n, which
-makes 2 (1 + 1 / log2 n); where each change names an element at a depth that grows with n, as the paths do (d n), which makes 4. A
-quarter more is let pass, since lists that are in a cache at n may not be at 2n: `open`, which is linear, grows by up to 2.5 on a busy
-machine. A row of n log n with a part that grows as n^2 goes past that if this part takes over a third of its time at n. Times below
-LEAST say nothing: the clock of user time is coarse. Memory, that of `open` taken off, may grow as the time may.
+makes 2 (1 + 1 / log2 n). It may make 4 where each change names an element at a depth that grows with n, as the paths do (d n), or
+where n calls compare a tree of n elements each (n trees; docs/DECISIONS.md says why `merge` compares it). A quarter more is let pass,
+since lists that are in a cache at n may not be at 2n: `open`, which is linear, grows by up to 2.5 on a busy machine. A row of n log n
+with a part that grows as n^2 goes past that if this part takes over a third of its time at n. Times below LEAST say nothing: the clock
+of user time is coarse. Memory, that of `open` taken off, may grow as the time may.
 
 Not measured here: `remove_attrs_and_docs` (its place takes the deletion of an attribute of each function), `==` of trees, keys of
 hashes.
@@ -115,9 +116,9 @@ ROWS = {
 CALLS = {
     "n items annotated, finished": (50_000, "n log n", "annotations"),
     "n items annotated, committed": (50_000, "n log n", "committed_annotations"),
-    "n items wrapped by a mapping, each renamed": (5_000, "n log n", "wraps"),
-    "n editors of one change, merged": (2_000, "n log n", "merges"),
-    "n items compared as slices of the text": (50_000, "n log n", "slices"),
+    "n items wrapped by a mapping, each renamed": (50_000, "n log n", "wraps"),
+    "n editors of one change, merged": (2_000, "n trees", "merges"),
+    "n items compared as slices of the text": (400_000, "n log n", "slices"),
 }
 
 
@@ -163,7 +164,7 @@ def measure(program, name, size, is_open, runs):
 
 def allowed(count, growth):
     """Returns the greatest ratio that a row may have."""
-    return SLACK * (4 if growth == "d n" else 2 * (1 + 1 / math.log2(count)))
+    return SLACK * (4 if growth in ("d n", "n trees") else 2 * (1 + 1 / math.log2(count)))
 
 
 def cells(name, count, growth, pairs):
