@@ -9,12 +9,10 @@ line says how many kinds are answered; ./test runs this at its end. With --measu
 kind by halving, with the bytes of stack a level.
 """
 import json
-import resource
 import subprocess
 import sys
 
-STACK = 8 << 20
-LIMIT = 140_000
+import nesting
 
 # The text before, that which opens a level, the text inside, that which closes a level, the text after; and what is replaced: the kind
 # of the inside, an entry and a text, or nothing.
@@ -75,15 +73,10 @@ def request(kind, depth):
     return json.dumps(asked), before + " " + opening * depth + new + back
 
 
-def limit_stack():
-    """Limits the stack of the process that is about to start."""
-    resource.setrlimit(resource.RLIMIT_STACK, (STACK, STACK))
-
-
 def is_answered(program, kind, depth):
     """Returns whether the program answers the request, with the text that it has to end with and nothing refused."""
     asked, wanted = request(kind, depth)
-    ran = subprocess.run([program], input=asked.encode(), stdout=subprocess.PIPE, stderr=subprocess.DEVNULL, preexec_fn=limit_stack)
+    ran = subprocess.run([program], input=asked.encode(), stdout=subprocess.PIPE, stderr=subprocess.DEVNULL, preexec_fn=nesting.limit_stack)
     if ran.returncode != 0:
         return False
     # (a line for each command, and the text)
@@ -91,25 +84,10 @@ def is_answered(program, kind, depth):
     return all("ok" in json.loads(reply) for reply in replies) and text == wanted
 
 
-def deepest(program, kind):
-    """Returns the greatest depth below LIMIT that is answered, or None if LIMIT is answered too."""
-    if is_answered(program, kind, LIMIT):
-        return None
-    low, high = 0, LIMIT
-    while high - low > 100:
-        middle = (low + high) // 2
-        if is_answered(program, kind, middle):
-            low = middle
-        else:
-            high = middle
-    return low
-
-
 def measure(program):
-    """Prints the greatest depth of each kind."""
+    """Prints the greatest depth of each kind, or up to 100 levels less."""
     for kind in KINDS:
-        depth = deepest(program, kind)
-        print(f"{kind:12} {'at least ' + str(LIMIT) if depth is None else f'{depth:7} {STACK / max(depth, 1):5.0f}'}", flush=True)
+        nesting.print_depth(kind, nesting.deepest(lambda depth: is_answered(program, kind, depth), 100))
 
 
 def unanswered(program):

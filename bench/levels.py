@@ -6,13 +6,11 @@
 PROGRAM reads a file of edition 2021 from standard input and then writes, as tree_dump does; that a tree that deep takes long to
 write does not count. Depths are found by halving, up to LIMIT.
 """
-import resource
 import subprocess
 import sys
 import tempfile
 
-STACK = 8 << 20
-LIMIT = 140_000
+import nesting
 
 # The text before, that which opens a level, the text inside, that which closes a level, the text after.
 KINDS = {
@@ -41,11 +39,6 @@ KINDS = {
 }
 
 
-def limit_stack():
-    """Limits the stack of the process that is about to start."""
-    resource.setrlimit(resource.RLIMIT_STACK, (STACK, STACK))
-
-
 def is_read(program, kind, depth):
     """Returns whether the program reads a text of this kind and depth: whether it writes anything before it ends."""
     before, opening, inside, closing, after = kind
@@ -53,30 +46,16 @@ def is_read(program, kind, depth):
     with tempfile.TemporaryFile() as file:
         file.write(text.encode())
         file.seek(0)
-        with subprocess.Popen([program], stdin=file, stdout=subprocess.PIPE, stderr=subprocess.DEVNULL, preexec_fn=limit_stack) as run:
+        with subprocess.Popen([program], stdin=file, stdout=subprocess.PIPE, stderr=subprocess.DEVNULL, preexec_fn=nesting.limit_stack) as run:
             has_written = bool(run.stdout.read(1))
             run.kill()
     return has_written
 
 
-def deepest(program, kind):
-    """Returns the greatest depth below LIMIT that is read, or None if LIMIT is read too."""
-    if is_read(program, kind, LIMIT):
-        return None
-    low, high = 0, LIMIT
-    while high - low > 1:
-        middle = (low + high) // 2
-        if is_read(program, kind, middle):
-            low = middle
-        else:
-            high = middle
-    return low
-
-
 def main():
+    program = sys.argv[1]
     for name, kind in KINDS.items():
-        depth = deepest(sys.argv[1], kind)
-        print(f"{name:20} {'at least ' + str(LIMIT) if depth is None else f'{depth:7} {STACK / depth:5.0f}'}", flush=True)
+        nesting.print_depth(name, nesting.deepest(lambda depth: is_read(program, kind, depth), 1))
 
 
 main()

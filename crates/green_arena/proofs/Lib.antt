@@ -1,0 +1,12 @@
+pub mod ArenaGrowing
+pub mod ArenaItems
+pub mod ArenaReading
+pub mod ArenaRows
+pub mod ArenaSearch
+pub mod ArenaRoots
+pub mod KeptLemmas
+pub mod FlatNodeLemmas
+pub mod FlatRefLemmas
+pub mod OpenNodeLemmas
+pub mod Refusals
+pub mod BuilderLemmas

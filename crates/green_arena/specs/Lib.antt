@@ -1,0 +1,5 @@
+pub mod Arena
+pub mod FlatNode
+pub mod FlatRef
+pub mod Kept
+pub mod OpenNodes
