@@ -11,6 +11,7 @@ void *__libc_malloc(size_t);
 void *__libc_calloc(size_t, size_t);
 void *__libc_realloc(void *, size_t);
 void *__libc_memalign(size_t, size_t);
+size_t malloc_usable_size(void *);
 int *__errno_location(void);
 char *getenv(const char *);
 long atol(const char *);
@@ -44,8 +45,11 @@ void *calloc(size_t count, size_t size)
     return is_refused() ? NULL : __libc_calloc(count, size);
 }
 
+/* A block that is to be smaller asks for nothing: a list that keeps its spare room is as good. */
 void *realloc(void *block, size_t size)
 {
+    if (block != NULL && size <= malloc_usable_size(block))
+        return __libc_realloc(block, size);
     return is_refused() ? NULL : __libc_realloc(block, size);
 }
 

@@ -42,9 +42,11 @@ pub fn changed(
     root: &SyntaxNode,
     put: &[bool],
 ) -> Result<Vec<SyntaxElement>, AllocError>
-    ensures side_by_side { IfOk result (λ v. v.items ≡ picked (λ b. b) (zip (elements root.now) put.now)) }
+    ensures side_by_side { IfOk result
+        (λ v. v.items ≡ picked (λ b. b) (zip (elements root.now) put.now)) }
     ensures changed { (m : Marked) → ArePutMarks m root.now put.now → IfOk result
-        (λ v. map element_of v.items ≡ map (element_at root.now.number root.now.place.root) (changed m)) }
+        (λ v. map element_of v.items
+        ≡ map (element_at root.now.number root.now.place.root) (changed m)) }
 {
     let changed = marked(alloc, root, put)?;
     Ok(changed)

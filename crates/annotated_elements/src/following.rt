@@ -57,7 +57,8 @@ pub fn followed(
     mapping: &SyntaxMapping,
     element: &SyntaxElement,
 ) -> Result<Option<SyntaxElement>, AllocError>
-    ensures { IfOk result (λ r. option_map element_of r ≡ followed mapping.now (element_of element.now)) }
+    ensures { IfOk result
+        (λ r. option_map element_of r ≡ followed mapping.now (element_of element.now)) }
 {
     let mapped = MappedNodes::new(alloc, mapping)?;
     end_of(alloc, &mapped, element)
@@ -69,7 +70,8 @@ pub(crate) fn end_of(
     mapping: &MappedNodes<'_>,
     element: &SyntaxElement,
 ) -> Result<Option<SyntaxElement>, AllocError>
-    ensures { IfOk result (λ r. option_map element_of r ≡ followed mapping.now (element_of element.now)) }
+    ensures { IfOk result
+        (λ r. option_map element_of r ≡ followed mapping.now (element_of element.now)) }
 {
     let mut at = element.clone()?;
     let mut left = mapping.len();

@@ -34,7 +34,8 @@ fn beside(
     origin: &SyntaxElement,
 ) -> Result<Vec<SyntaxElement>, AllocError>
     ensures { IfOk result (λ v. v.items
-        ≡ picked (λ e. same_element e (element_of origin.now)) (zip (elements root.now) (map element_of origins.now))) }
+        ≡ picked (λ e. same_element e (element_of origin.now))
+        (zip (elements root.now) (map element_of origins.now))) }
 {
     let way = origin.way(alloc)?;
     let mut found = Vec::new(alloc);
@@ -61,9 +62,11 @@ pub fn found(
     origin: &SyntaxElement,
 ) -> Result<Vec<SyntaxElement>, AllocError>
     ensures side_by_side { IfOk result (λ v. v.items
-        ≡ picked (λ e. same_element e (element_of origin.now)) (zip (elements root.now) (map element_of origins.now))) }
+        ≡ picked (λ e. same_element e (element_of origin.now))
+        (zip (elements root.now) (map element_of origins.now))) }
     ensures found { (m : Marked) → AreOrigins m root.now (map element_of origins.now) → IfOk result
-        (λ v. map element_of v.items ≡ map (element_at root.now.number root.now.place.root) (found m (element_of origin.now))) }
+        (λ v. map element_of v.items
+        ≡ map (element_at root.now.number root.now.place.root) (found m (element_of origin.now))) }
 {
     let found = beside(alloc, root, origins, origin)?;
     Ok(found)

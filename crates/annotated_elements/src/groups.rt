@@ -55,7 +55,8 @@ impl Groups {
     fn open(&mut self, alloc: Global, origin: &SyntaxElement) -> Result<(), AllocError>
         ensures opened { (e : Element) → same_element (element_of origin.now) e ≡ true
             → OnOk result (IsGroup self.new e []) }
-        ensures others { (e : Element) → IsGroup self.old e [] → OnOk result (IsGroup self.new e []) }
+        ensures others { (e : Element) → IsGroup self.old e []
+            → OnOk result (IsGroup self.new e []) }
     {
         let key = key_of(alloc, origin)?;
         self.trees.insert(origin.tree())?;

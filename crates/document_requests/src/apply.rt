@@ -69,7 +69,8 @@ fn only_child_of(alloc: Global, node: &SyntaxNode) -> Result<Option<SyntaxElemen
 
 /// The only child of an element; a token has none.
 fn only_child(alloc: Global, element: &SyntaxElement) -> Result<Option<SyntaxElement>, AllocError>
-    ensures { IfOk result (λ child. option_map element_of child ≡ only_child (element_of element.now)) }
+    ensures { IfOk result
+        (λ child. option_map element_of child ≡ only_child (element_of element.now)) }
 {
     match element {
         SyntaxElement::Node(node) => only_child_of(alloc, node),
@@ -90,7 +91,8 @@ fn taken(
 ) -> Result<SyntaxElement, Stop>
     ensures given { IfOk result (λ element. taken entry document.now text.now ids.old
         ≡ Given (element_of element) ids.new) }
-    ensures stopped { IfErr result (IsWithheld (taken entry document.now text.now ids.old) ids.new) }
+    ensures stopped { IfErr result
+        (IsWithheld (taken entry document.now text.now ids.old) ids.new) }
     ensures numbers { OnErr result (TakesSome ids.old ids.new
         (number_after_taking (taken entry document.now text.now ids.old))) }
 {
@@ -117,7 +119,8 @@ fn put_element(
         → put_element op (element_of old.now) editor.old next (element_of new.now)
         ≡ Ready editor.new next) }
     ensures stopped { IfErr result (λ stop. (next : ℕ)
-        → IsUnprepared (put_element op (element_of old.now) editor.old next (element_of new.now)) next stop) }
+        → IsUnprepared (put_element op (element_of old.now) editor.old next
+        (element_of new.now)) next stop) }
 {
     match op {
         Op::Replace => Ok(editor.replace(alloc, old, new)?),
@@ -192,7 +195,8 @@ fn commit(
     changes: &[Change<'_>],
     ids: &mut TreeIds,
 ) -> Result<Reply, Stop>
-    ensures done { IfOk result (λ reply. committed (map change_in changes.now) (session document.old ids.old)
+    ensures done { IfOk result
+        (λ reply. committed (map change_in changes.now) (session document.old ids.old)
         ≡ record { reply = answered reply; after = session document.new ids.new }) }
     ensures stopped { IfErr result (IsStopped
         (committed (map change_in changes.now) (session document.old ids.old))
@@ -232,7 +236,8 @@ fn edit(
     text: &str,
     ids: &mut TreeIds,
 ) -> Result<Reply, Stop>
-    ensures done { IfOk result (λ reply. edited_by start stop text.now (session document.old ids.old)
+    ensures done { IfOk result
+        (λ reply. edited_by start stop text.now (session document.old ids.old)
         ≡ record { reply = answered reply; after = session document.new ids.new }) }
     ensures stopped { IfErr result (IsStopped
         (edited_by start stop text.now (session document.old ids.old))
@@ -256,7 +261,8 @@ fn done(
     command: &Command<'_>,
     ids: &mut TreeIds,
 ) -> Result<Reply, Stop>
-    ensures done { IfOk result (λ reply. answer (command_in command.now) (session document.old ids.old)
+    ensures done { IfOk result
+        (λ reply. answer (command_in command.now) (session document.old ids.old)
         ≡ record { reply = answered reply; after = session document.new ids.new }) }
     ensures stopped { IfErr result (IsStopped
         (answer (command_in command.now) (session document.old ids.old))

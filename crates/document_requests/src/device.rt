@@ -45,12 +45,14 @@ pub fn read_to_end<R: Read>(alloc: Global, reader: &mut Watched<R>) -> Result<Ve
 pub fn write_all<W: Write>(writer: &mut Watched<W>, bytes: &[u8]) -> Result<(), Fault>
     requires { failures_of writer.old < 2 ^ 64 - 1 }
     ensures written { OnOk result
-        (Appends (W.contents (device_of writer.old)) (W.contents (device_of writer.new)) bytes.now) }
+        (Appends (W.contents (device_of writer.old))
+        (W.contents (device_of writer.new)) bytes.now) }
     ensures none_failed { OnOk result (NoneFailed writer.old writer.new) }
     ensures fault { IfErr result (λ fault. fault ≡ Writing) }
     ensures one_failed { OnErr result (OneFailed writer.old writer.new) }
     ensures front { OnErr result
-        (AppendsFront (W.contents (device_of writer.old)) (W.contents (device_of writer.new)) bytes.now) }
+        (AppendsFront (W.contents (device_of writer.old))
+        (W.contents (device_of writer.new)) bytes.now) }
 {
     let mut rest = bytes;
     while !rest.is_empty() {

@@ -2,7 +2,6 @@
 ghost use Rattle.std.specs.Prelude.{◌≡◌, ◌+◌, ◌<◌, ◌^◌, [], ◌∷◌, ◌++◌, map, string_bytes, IfOk, OnOk};
 ghost use Rattle.rowan_green.specs.Forest.{tree_text};
 ghost use Rattle.rowan_green.specs.Term.{forest_of, kind_of, term_len};
-ghost use Rattle.rowan_green.specs.Referred.{referred_term};
 ghost use Rattle.document_requests.specs.Lines.{kind_name, line_of, lines_from, tree_lines};
 
 use parser_input::syntax_kind::SyntaxKind;
@@ -24,12 +23,11 @@ fn line(
     alloc: Global,
     margin: &str,
     start: u32,
-    element: GreenElementRef<'_>,
+    element: &GreenElementRef<'_>,
 ) -> Result<String, AllocError>
-    requires fits { start + term_len (referred_term element) < 2 ^ 32 }
+    requires fits { start + term_len element.now < 2 ^ 32 }
     ensures { IfOk result (λ text. string_bytes text
-        ≡ line_of margin.now (kind_of (referred_term element.entry)) start
-        (start + term_len (referred_term element.entry))) }
+        ≡ line_of margin.now (kind_of element.now) start (start + term_len element.now)) }
 {
     let kind = kind_name(element.kind());
     let end = start + u32::from(element.text_len());
@@ -41,13 +39,13 @@ fn push_lines(
     alloc: Global,
     margin: &str,
     start: u32,
-    element: GreenElementRef<'_>,
+    element: &GreenElementRef<'_>,
     lines: &mut Vec<String>,
 ) -> Result<(), AllocError>
-    requires fits { start + term_len (referred_term element) < 2 ^ 32 }
+    requires fits { start + term_len element.now < 2 ^ 32 }
     ensures { OnOk result (map string_bytes lines.new.items
         ≡ map string_bytes lines.old.items
-        ++ lines_from margin.now start (forest_of (referred_term element.entry ∷ []))) }
+        ++ lines_from margin.now start (forest_of (element.now ∷ []))) }
 {
     lines.push(line(alloc, margin, start, element)?)?;
     let NodeOrToken::Node(node) = element else {
@@ -56,7 +54,7 @@ fn push_lines(
     let inner = format!(in alloc; "{margin}  ")?;
     let mut place = start;
     'children: for child in node.children() {
-        push_lines(alloc, &inner, place, child, lines)?;
+        push_lines(alloc, &inner, place, &child, lines)?;
         place += u32::from(child.text_len());
     }
     Ok(())
@@ -69,6 +67,6 @@ pub fn tree_lines(alloc: Global, root: &GreenNode) -> Result<Vec<String>, AllocE
     let mut lines = Vec::new(alloc);
     // (this shows that the text's length fits)
     let _fits = root.text_len();
-    push_lines(alloc, "", 0, NodeOrToken::Node(root), &mut lines)?;
+    push_lines(alloc, "", 0, &NodeOrToken::Node(root.as_ref()), &mut lines)?;
     Ok(lines)
 }

@@ -21,7 +21,8 @@ fn range_value(alloc: Global, range: TextRange) -> Result<Value, AllocError>
 }
 
 fn range_values(alloc: Global, ranges: &[TextRange]) -> Result<Vec<Value>, AllocError>
-    ensures { IfOk result (λ values. items_view values.items ≡ ranges_data (map ends_of ranges.now)) }
+    ensures { IfOk result
+        (λ values. items_view values.items ≡ ranges_data (map ends_of ranges.now)) }
 {
     let mut values = Vec::with_capacity(alloc, ranges.len())?;
     for range in ranges {
@@ -31,7 +32,8 @@ fn range_values(alloc: Global, ranges: &[TextRange]) -> Result<Vec<Value>, Alloc
 }
 
 fn line_values(alloc: Global, lines: &[String]) -> Result<Vec<Value>, AllocError>
-    ensures { IfOk result (λ values. items_view values.items ≡ lines_data (map string_bytes lines.now)) }
+    ensures { IfOk result
+        (λ values. items_view values.items ≡ lines_data (map string_bytes lines.now)) }
 {
     let mut values = Vec::with_capacity(alloc, lines.len())?;
     for line in lines {

@@ -61,7 +61,8 @@ pub fn run<R: Read, W: Write>(
     requires writes { failures_of writer.old < 2 ^ 64 - 1 }
     ensures written { OnOk result
         (IfSome (R.remaining (device_of reader.old))
-        (λ input. Appends (W.contents (device_of writer.old)) (W.contents (device_of writer.new)) (replies input).written)) }
+        (λ input. Appends (W.contents (device_of writer.old)) (W.contents (device_of writer.new))
+        (replies input).written)) }
     ensures status { IfOk result (λ status. IfSome (R.remaining (device_of reader.old))
         (λ input. status ≡ (replies input).status)) }
     ensures none_read_failed { OnOk result (NoneFailed reader.old reader.new) }

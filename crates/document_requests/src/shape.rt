@@ -178,7 +178,8 @@ fn command_by(
     grammar: Grammar,
     value: &Value,
 ) -> Result<Option<Command<'_>>, AllocError>
-    ensures { IfOk result (λ found. option_map command found ≡ command_by grammar (view value.now)) }
+    ensures { IfOk result
+        (λ found. option_map command found ≡ command_by grammar (view value.now)) }
 {
     let Some(word) = value.get("do").and_then(Value::as_str) else {
         return Ok(None);
@@ -256,7 +257,8 @@ fn request_by(
     grammar: Grammar,
     value: &Value,
 ) -> Result<Option<Request<'_>>, AllocError>
-    ensures { IfOk result (λ found. option_map request found ≡ request_by grammar (view value.now)) }
+    ensures { IfOk result
+        (λ found. option_map request found ≡ request_by grammar (view value.now)) }
 {
     let word = value.get("edition").and_then(Value::as_str);
     let Some(edition) = word.and_then(Edition::from_name) else {

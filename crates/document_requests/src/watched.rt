@@ -72,7 +72,8 @@ impl<D> Watched<D> {
         ensures calls { calls_of self.new ≡ counted (calls_of self.old + 1) }
         ensures failures { failures_of self.new ≡
             (if failed then counted (failures_of self.old + 1) else failures_of self.old) }
-        ensures failure { failure_of self.new ≡ first_call (failure_of self.old) failed (calls_of self.new) }
+        ensures failure { failure_of self.new
+            ≡ first_call (failure_of self.old) failed (calls_of self.new) }
         ensures end { end_of self.new ≡ end_of self.old }
     {
         self.calls = self.calls.saturating_add(1);
@@ -97,8 +98,10 @@ impl<R: Read> Read for Watched<R> {
         ensures calls { calls_of self.new ≡ counted (calls_of self.old + 1) }
         ensures ok { OnOk result (failures_of self.new ≡ failures_of self.old) }
         ensures err { OnErr result (failures_of self.new ≡ counted (failures_of self.old + 1)) }
-        ensures failure { failure_of self.new ≡ first_call (failure_of self.old) (is_err result) (calls_of self.new) }
-        ensures end { end_of self.new ≡ first_call (end_of self.old) (is_end result (length buf.old))
+        ensures failure { failure_of self.new
+            ≡ first_call (failure_of self.old) (is_err result) (calls_of self.new) }
+        ensures end { end_of self.new
+            ≡ first_call (end_of self.old) (is_end result (length buf.old))
             (calls_of self.new) }
     {
         let asked = buf.len();
@@ -138,7 +141,8 @@ impl<W: Write> Write for Watched<W> {
         ensures calls { calls_of self.new ≡ counted (calls_of self.old + 1) }
         ensures ok { OnOk result (failures_of self.new ≡ failures_of self.old) }
         ensures err { OnErr result (failures_of self.new ≡ counted (failures_of self.old + 1)) }
-        ensures failure { failure_of self.new ≡ first_call (failure_of self.old) (is_err result) (calls_of self.new) }
+        ensures failure { failure_of self.new
+            ≡ first_call (failure_of self.old) (is_err result) (calls_of self.new) }
     {
         let result = self.device.flush();
         self.count(result.is_err());

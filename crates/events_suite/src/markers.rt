@@ -24,7 +24,8 @@ fn three_words(alloc: Global) -> Result<Input, AllocError>
 }
 
 fn word_and_float(alloc: Global) -> Result<Input, AllocError>
-    ensures { IfOk result (λ input. input ≡ identifier kinds.IDENT ∷ plain kinds.FLOAT_NUMBER ∷ []) }
+    ensures { IfOk result
+        (λ input. input ≡ identifier kinds.IDENT ∷ plain kinds.FLOAT_NUMBER ∷ []) }
 {
     let mut input = Input::with_capacity(alloc, 2)?;
     input.push_ident(SyntaxKind::IDENT)?;

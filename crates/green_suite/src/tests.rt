@@ -404,12 +404,12 @@ fn half_done(alloc: Global) -> Result<GreenNode, GreenError> {
     Ok(builder.finish()?)
 }
 
-/// Builds a node of kind 1 with two nodes of kind 2, each with the token `x`.
-fn built_with(alloc: Global, cache: &mut NodeCache) -> Result<GreenNode, GreenError> {
+/// Builds a node of kind 1 with two nodes of kind `inner`, each with the token `x`.
+fn built_with(alloc: Global, cache: &mut NodeCache, inner: u16) -> Result<GreenNode, GreenError> {
     let mut builder = GreenNodeBuilder::with_cache(alloc, cache);
     builder.start_node(SyntaxKind(1))?;
     for _ in 0..2 {
-        builder.start_node(SyntaxKind(2))?;
+        builder.start_node(SyntaxKind(inner))?;
         builder.token(SyntaxKind(3), "x")?;
         builder.finish_node()?;
     }
@@ -421,12 +421,15 @@ fn built_with(alloc: Global, cache: &mut NodeCache) -> Result<GreenNode, GreenEr
 fn one_cache_serves_several_builders(rt: HostRuntime) -> Result<(), Fail> {
     let alloc = rt.alloc();
     assert!(rt; half_done(alloc).err() == Some(GreenError::Unbalanced));
-    let small = node_of_one(alloc, 2, token(alloc, 3, "x")?)?;
-    let expected = node_of_two(alloc, 1, small.clone()?, small)?;
     let mut cache = NodeCache::new(alloc);
-    for _ in 0..2 {
-        let built = built_with(alloc, &mut cache)?;
-        assert!(rt; GreenElement::from(built) == expected);
+    // (more trees than a cache keeps)
+    for inner in 10..30 {
+        let small = node_of_one(alloc, inner, token(alloc, 3, "x")?)?;
+        let expected = node_of_two(alloc, 1, small.clone()?, small)?;
+        for _ in 0..2 {
+            let built = built_with(alloc, &mut cache, inner)?;
+            assert!(rt; GreenElement::from(built) == expected);
+        }
     }
     Ok(())
 }

@@ -101,8 +101,10 @@ impl LexedText {
     /// Fails only when out of memory. On error, the text and its tokens are unchanged.
     pub fn edit(&mut self, range: Range<usize>, replacement: &str) -> Result<Kept, AllocError>
         requires { CanEdit self.old range.start range.end (length replacement.now) }
-        ensures text { OnOk result (self.new ≡ edited self.old range.start range.end replacement.now) }
-        ensures kept { IfOk result (IsKept (edit_of self.old range.start range.end replacement.now)) }
+        ensures text { OnOk result
+            (self.new ≡ edited self.old range.start range.end replacement.now) }
+        ensures kept { IfOk result
+            (IsKept (edit_of self.old range.start range.end replacement.now)) }
         ensures refused { OnErr result (self.new ≡ self.old) }
     {
         let start = range.start;

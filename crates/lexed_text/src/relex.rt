@@ -119,8 +119,10 @@ fn lex(
 ) -> Result<Lexing, AllocError>
     requires within { front.count ≤ length old.now }
     requires is_left { front.bytes ≡ left front.count old.now }
-    ensures tokens { IfOk result (λ l. l.tokens.items ≡ take l.lexed (token_list (chars text.now))) }
-    ensures meets { IfOk result (λ l. Meets old.now (token_list (chars text.now)) front.count most l.lexed l.stop) }
+    ensures tokens { IfOk result
+        (λ l. l.tokens.items ≡ take l.lexed (token_list (chars text.now))) }
+    ensures meets { IfOk result
+        (λ l. Meets old.now (token_list (chars text.now)) front.count most l.lexed l.stop) }
 {
     let mut cursor = Cursor::new(text);
     let mut tokens = Vec::new(alloc);
@@ -161,7 +163,8 @@ pub(crate) fn renew(
     requires is_left { front.bytes ≡ left front.count tokens.old.items }
     requires fits { taken front.count tokens.old.items + length text.now < 2 ^ 64 }
     requires runs { RunsFrom 0 0 runs.old.items tokens.old.items }
-    ensures renewed { IfOk result (Renewed tokens.old.items (token_list (chars text.now)) front.count most tokens.new.items) }
+    ensures renewed { IfOk result
+        (Renewed tokens.old.items (token_list (chars text.now)) front.count most tokens.new.items) }
     ensures refused { OnErr result (tokens.new.items ≡ tokens.old.items) }
     ensures runs { RunsFrom 0 0 runs.new.items tokens.new.items }
 {

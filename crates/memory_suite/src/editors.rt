@@ -29,7 +29,6 @@ pub(crate) enum EditorCall {
     ReplaceWithMany,
     ReplaceAll,
     Merge,
-    Deleted,
     Finish,
     FindElement,
     Rewritten,
@@ -40,10 +39,6 @@ pub(crate) enum EditorCall {
 /// What an editor says before it is finished.
 fn asked(alloc: Global, call: EditorCall, editor: &SyntaxEditor) -> anyhow::Result<String> {
     match call {
-        EditorCall::Deleted => {
-            let element = child(alloc, editor, 1)?;
-            Ok(format!(in alloc; "{}", editor.deleted(alloc, &element)?)?)
-        }
         EditorCall::Rewritten | EditorCall::RewrittenNested => Ok(format!(in alloc;
             "{}",
             editor.rewritten(alloc)?.green
@@ -116,10 +111,9 @@ fn recorded(alloc: Global, call: EditorCall, refused: &mut u32) -> anyhow::Resul
     let mut editor = SyntaxEditor::of_root(alloc, root);
     record(alloc, call, &mut editor, &mut ids, refused)?;
     match call {
-        EditorCall::Deleted
-        | EditorCall::Rewritten
-        | EditorCall::RewrittenNested
-        | EditorCall::AnnotatedIn => asked(alloc, call, &editor),
+        EditorCall::Rewritten | EditorCall::RewrittenNested | EditorCall::AnnotatedIn => asked(
+            alloc, call, &editor,
+        ),
         _ => finished(alloc, call, editor, &mut ids),
     }
 }
@@ -262,11 +256,6 @@ pub(crate) const ROWS: &[Row<EditorCall>] = &[
         "syntax_editor::SyntaxEditor::merge",
         EditorCall::Merge,
         "3 (x, ) 0",
-    ),
-    (
-        "syntax_editor::SyntaxEditor::deleted",
-        EditorCall::Deleted,
-        "true",
     ),
     (
         "syntax_editor::SyntaxEditor::finish",

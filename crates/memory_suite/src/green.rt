@@ -10,6 +10,8 @@ pub(crate) enum GreenCall {
     NewNode,
     CloneToken,
     CloneNode,
+    OwnToken,
+    OwnNode,
     CloneElement,
     ReplaceChild,
     InsertChild,
@@ -132,6 +134,11 @@ impl Ask for GreenCall {
         match self {
             GreenCall::NewToken => Ok(format!(in alloc; "{}", token(alloc, 2, "a")?)?),
             GreenCall::CloneToken => Ok(format!(in alloc; "{}", token(alloc, 2, "a")?.clone()?)?),
+            GreenCall::OwnToken => {
+                let token = token(alloc, 2, "a")?;
+                Ok(format!(in alloc; "{}", token.as_ref().to_owned()?)?)
+            }
+            GreenCall::OwnNode => Ok(read(alloc, &pair(alloc)?.as_ref().to_owned()?)?),
             GreenCall::NewNode => Ok(read(alloc, &pair(alloc)?)?),
             GreenCall::CloneNode | GreenCall::CloneElement => Ok(copied(alloc, self)?),
             GreenCall::Build => Ok(read(alloc, &built(alloc, refused)?)?),
@@ -145,6 +152,16 @@ pub(crate) const ROWS: &[Row<GreenCall>] = &[
     ("rowan_green::GreenNode::new", GreenCall::NewNode, "ab 2"),
     ("rowan_green::GreenToken::clone", GreenCall::CloneToken, "a"),
     ("rowan_green::GreenNode::clone", GreenCall::CloneNode, "ab"),
+    (
+        "rowan_green::GreenTokenRef::to_owned",
+        GreenCall::OwnToken,
+        "a",
+    ),
+    (
+        "rowan_green::GreenNodeRef::to_owned",
+        GreenCall::OwnNode,
+        "ab 2",
+    ),
     (
         "rowan_green::GreenNode::clone",
         GreenCall::CloneElement,

@@ -25,6 +25,7 @@ pub(crate) enum LeavesCall {
     ToWholeInput,
     FromSteps,
     FinishParser,
+    FinishGrammarParser,
     Parse,
 }
 
@@ -111,6 +112,12 @@ fn parsed(alloc: Global) -> Result<Output, AllocError> {
     parser.finish()
 }
 
+/// Reads nothing of an input by a parser of the grammar.
+fn unread(alloc: Global) -> Result<Output, AllocError> {
+    let input = one_word(alloc)?;
+    rust_productions::parser::Parser::new(alloc, &input).finish()
+}
+
 /// Returns the kinds of an output's steps.
 fn steps(alloc: Global, output: &Output) -> Result<String, AllocError> {
     let mut out = String::new(alloc);
@@ -166,6 +173,7 @@ impl Ask for LeavesCall {
             LeavesCall::ToWholeInput => kinds(alloc, &input_of(alloc, "struct S;", true)?),
             LeavesCall::FromSteps => copied_steps(alloc),
             LeavesCall::FinishParser => steps(alloc, &parsed(alloc)?),
+            LeavesCall::FinishGrammarParser => steps(alloc, &unread(alloc)?),
             LeavesCall::Parse => return read(alloc),
         };
         Ok(answer?)
@@ -228,6 +236,11 @@ pub(crate) const ROWS: &[Row<LeavesCall>] = &[
         "parser_events::Parser::finish",
         LeavesCall::FinishParser,
         "+NAME IDENT - ",
+    ),
+    (
+        "rust_productions::Parser::finish",
+        LeavesCall::FinishGrammarParser,
+        "",
     ),
     (
         "ra_parser::TopEntryPoint::parse",

@@ -179,7 +179,7 @@ fn nest(
     builder.finish(editor.mappings())?;
     let old = SyntaxElement::Node(literal.clone()?);
     editor.replace(alloc, &old, &SyntaxElement::Node(list))?;
-    editor.insert(alloc, Position::first_child_of(literal), new)?;
+    editor.insert(alloc, Position::first_child_of(&literal)?, new)?;
     Ok(())
 }
 
@@ -208,9 +208,7 @@ pub(crate) fn record(
             }
             Ok(first?)
         }
-        EditorCall::Delete | EditorCall::DeleteAll | EditorCall::Deleted => {
-            delete(alloc, call, editor, refused)
-        }
+        EditorCall::Delete | EditorCall::DeleteAll => delete(alloc, call, editor, refused),
         EditorCall::AddAnnotation | EditorCall::AddAnnotationAll | EditorCall::AnnotatedIn => {
             annotate(alloc, call, editor, &new, refused)
         }

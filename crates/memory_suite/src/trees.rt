@@ -123,6 +123,8 @@ pub(crate) enum TreeCall {
     ElementRefElement,
     After,
     Before,
+    FirstChildOf,
+    LastChildOf,
 }
 
 fn numbers(alloc: Global, numbers: &[usize]) -> Result<String, AllocError> {
@@ -184,6 +186,14 @@ fn of_token(alloc: Global, call: TreeCall, token: &SyntaxToken) -> Result<String
 
 fn gap(alloc: Global, gap: Position) -> Result<String, AllocError> {
     format!(in alloc; "{}", gap.index)
+}
+
+/// Returns the index of a gap at an end of the children of a node.
+fn inside(alloc: Global, call: TreeCall, node: &SyntaxNode) -> Result<String, AllocError> {
+    match call {
+        TreeCall::FirstChildOf => gap(alloc, Position::first_child_of(node)?),
+        _ => gap(alloc, Position::last_child_of(node)?),
+    }
 }
 
 fn beside(alloc: Global, call: TreeCall, element: &SyntaxElement) -> Result<String, PositionError> {
@@ -295,6 +305,9 @@ fn below(alloc: Global, call: TreeCall, root: &SyntaxNode) -> anyhow::Result<Str
         | TreeCall::ElementElement
         | TreeCall::ElementRefElement => {
             Ok(of_element(alloc, call, &element(alloc, root, &[4])?)?)
+        }
+        TreeCall::FirstChildOf | TreeCall::LastChildOf => {
+            Ok(inside(alloc, call, &node(alloc, root, &[4])?)?)
         }
         _ => Ok(of_node(alloc, call, &node(alloc, root, &[4])?)?),
     }
@@ -465,4 +478,14 @@ pub(crate) const ROWS: &[Row<TreeCall>] = &[
     ),
     ("syntax_tree::Position::after", TreeCall::After, "5"),
     ("syntax_tree::Position::before", TreeCall::Before, "4"),
+    (
+        "syntax_tree::Position::first_child_of",
+        TreeCall::FirstChildOf,
+        "0",
+    ),
+    (
+        "syntax_tree::Position::last_child_of",
+        TreeCall::LastChildOf,
+        "1",
+    ),
 ];

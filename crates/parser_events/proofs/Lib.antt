@@ -19,3 +19,4 @@ pub mod Insides
 pub mod Roots
 pub mod Packings
 pub mod Extending
+pub mod Rest

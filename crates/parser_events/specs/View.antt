@@ -1,5 +1,5 @@
 -- A parser and an output as their callers see them.
-use Rattle.std.specs.Prelude.{ℕ, List, Option}
+use Rattle.std.specs.Prelude.{◌≡◌, ℕ, ◌-◌, ◌≤◌, List, length, drop, Option}
 use Rattle.parser_input.specs.Input.{Token}
 use Rattle.parser_events.specs.Marked.{Marked}
 use Rattle.parser_events.specs.Steps.{Step}
@@ -17,3 +17,8 @@ pub record View : Type 0 where
 pub record Parsed : Type 0 where
   pub steps : List Step
   pub looks : ℕ
+
+-- these are the last tokens of an input
+pub record IsRest (rest input : List Token) : Type 0 where
+  pub count : length rest ≤ length input
+  pub tokens : rest ≡ drop (length input - length rest) input

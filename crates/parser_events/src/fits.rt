@@ -85,7 +85,8 @@ pub(crate) fn has_one_root(mut steps: Steps<'_>) -> bool
 fn unbroken_end(lexed: &LexedStr<'_>, start: usize, n: usize) -> Option<usize>
     requires { start ≤ length lexed.now.leaves }
     ensures { MatchOption result (is_unbroken n (drop start (leaves_of lexed.now.leaves)) ≡ false)
-        (λ end. (end ≡ start + n) × (is_unbroken n (drop start (leaves_of lexed.now.leaves)) ≡ true)) }
+        (λ end. (end ≡ start + n)
+        × (is_unbroken n (drop start (leaves_of lexed.now.leaves)) ≡ true)) }
 {
     let mut end = start;
     let mut left = n;

@@ -42,7 +42,8 @@ impl Output {
 
     /// An output of these steps, which no parser made: for whoever tries what takes outputs.
     pub fn from_steps(alloc: Global, steps: &[Step]) -> Result<Output, AllocError>
-        ensures { IfOk result (λ output. output ≡ record { steps = map step_of steps.now; looks = 0 }) }
+        ensures { IfOk result
+            (λ output. output ≡ record { steps = map step_of steps.now; looks = 0 }) }
     {
         let steps = StepList::from_slice(alloc, steps)?;
         Ok(Output::new(steps, 0))

@@ -17,7 +17,7 @@ use crate::event::Event;
 use crate::message::Message;
 use crate::output::Output;
 use crate::recorder::Recorder;
-use parser_input::input::Input;
+use parser_input::input::{Input, InputTokens};
 use parser_input::syntax_kind::SyntaxKind;
 use std::alloc::{AllocError, Global};
 use std::marker::Model;
@@ -32,14 +32,14 @@ const ENTRIES_PER_TOKEN: usize = 3;
 #[derive(Drop)]
 pub struct Parser<'t> {
     input: &'t Input,
-    /// The number of tokens not yet consumed.
-    left: usize,
+    /// The tokens of `input` that are not taken yet.
+    rest: InputTokens<'t>,
     looks: u64,
     recorder: Recorder,
 }
 
 impl<'t> Model for Parser<'t> {
-    ghost use Rattle.std.specs.Prelude.{◌-◌, ◌≤◌, length};
+    ghost use Rattle.std.specs.Prelude.{◌-◌, length};
     ghost use Rattle.parser_events.specs.View.{View};
     ghost use Rattle.parser_events.specs.Codes.{view_code};
 
@@ -48,10 +48,11 @@ impl<'t> Model for Parser<'t> {
     ghost coded = { view_code };
 
     ghost use Rattle.parser_events.specs.Nodes.{nodes_of, IsRecord};
+    ghost use Rattle.parser_events.specs.View.{IsRest};
 
-    ghost view = { λ p. record { input = p.input.now; position = length p.input.now - p.left; nodes = nodes_of p.recorder; looks = p.looks } };
+    ghost view = { λ p. record { input = p.input.now; position = length p.input.now - length p.rest; nodes = nodes_of p.recorder; looks = p.looks } };
 
-    ghost invariant = { λ p. (p.left ≤ length p.input.now) × IsRecord p.recorder };
+    ghost invariant = { λ p. IsRest p.rest p.input.now × IsRecord p.recorder };
 }
 
 impl<'t> Parser<'t> {
@@ -64,7 +65,7 @@ impl<'t> Parser<'t> {
     {
         Parser {
             input,
-            left: input.len(),
+            rest: input.tokens(),
             looks: 0,
             recorder: Recorder::new(alloc, input.len().saturating_mul(ENTRIES_PER_TOKEN)),
         }
@@ -74,14 +75,14 @@ impl<'t> Parser<'t> {
     pub fn position(&self) -> usize
         ensures { result ≡ self.now.position }
     {
-        self.input.len() - self.left
+        self.input.len() - self.rest.len()
     }
 
     /// How many tokens of the input are left.
     pub fn tokens_left(&self) -> usize
         ensures { result ≡ length self.now.input - self.now.position }
     {
-        self.input.len() - self.position()
+        self.rest.len()
     }
 
     /// Returns the kind of the token `n` tokens ahead; `EOF` past the end, and only there. It
@@ -89,32 +90,33 @@ impl<'t> Parser<'t> {
     pub fn kind_at(&mut self, n: usize) -> SyntaxKind
         ensures kind { raw_of result ≡ (token_at self.old.input (self.old.position + n)).kind }
         ensures token { self.old.position + n < length self.old.input → raw_of result ≢ kinds.EOF }
-        ensures same { self.new ≡ record self.old { looks = min (self.old.looks + 1) (2 ^ 64 - 1) } }
+        ensures same { self.new
+            ≡ record self.old { looks = min (self.old.looks + 1) (2 ^ 64 - 1) } }
     {
         self.looks = self.looks.saturating_add(1);
-        if n < self.left {
-            return self.input.kind(self.input.len() - self.left + n);
-        }
-        SyntaxKind::EOF
+        self.rest.kind(n)
     }
 
     /// Adds a leaf over the next `n` tokens.
     pub fn token(&mut self, kind: SyntaxKind, n: usize)
         requires some { 1 ≤ n }
         requires left { self.old.position + n ≤ length self.old.input }
-        ensures nodes { Becomes (with_tree (Leaf (raw_of kind) n End)) self.old.nodes self.new.nodes }
-        ensures same { self.new ≡ record self.old { position = self.old.position + n; nodes = self.new.nodes } }
+        ensures nodes { Becomes
+            (with_tree (Leaf (raw_of kind) n End)) self.old.nodes self.new.nodes }
+        ensures same { self.new
+            ≡ record self.old { position = self.old.position + n; nodes = self.new.nodes } }
     {
         self.recorder.record(Event::Token {
             kind,
             n_input_tokens: n,
         });
-        self.left -= n;
+        self.rest.take(n);
     }
 
     /// Adds a message.
     pub fn error(&mut self, msg: Message)
-        ensures nodes { Becomes (with_tree (Said (message_of msg) End)) self.old.nodes self.new.nodes }
+        ensures nodes { Becomes
+            (with_tree (Said (message_of msg) End)) self.old.nodes self.new.nodes }
         ensures same { self.new ≡ record self.old { nodes = self.new.nodes } }
     {
         self.recorder.record(Event::Error { msg });
@@ -127,10 +129,7 @@ impl<'t> Parser<'t> {
     pub fn contextual_at(&self, n: usize) -> SyntaxKind
         ensures { raw_of result ≡ (token_at self.now.input (self.now.position + n)).contextual }
     {
-        if n < self.left {
-            return self.input.contextual_kind(self.input.len() - self.left + n);
-        }
-        SyntaxKind::EOF
+        self.rest.contextual_kind(n)
     }
 
     /// Returns `true` if the token `n` tokens ahead is read by the grammar of the whole language;
@@ -138,10 +137,7 @@ impl<'t> Parser<'t> {
     pub fn whole_at(&self, n: usize) -> bool
         ensures { result ≡ (token_at self.now.input (self.now.position + n)).whole }
     {
-        if n < self.left {
-            return self.input.is_whole(self.input.len() - self.left + n);
-        }
-        false
+        self.rest.is_whole(n)
     }
 
     /// Returns `true` if the token `n` tokens ahead is joint: the next token directly follows it. A
@@ -150,10 +146,7 @@ impl<'t> Parser<'t> {
     pub fn joint_at(&self, n: usize) -> bool
         ensures { result ≡ (token_at self.now.input (self.now.position + n)).joint }
     {
-        if n < self.left {
-            return self.input.is_joint(self.input.len() - self.left + n);
-        }
-        false
+        self.rest.is_joint(n)
     }
 
     /// Opens a node in the innermost open one.
@@ -197,10 +190,11 @@ impl<'t> Parser<'t> {
         requires float { (token_at self.old.input self.old.position).kind ≡ kinds.FLOAT_NUMBER }
         ensures nodes { Becomes (split ends_in_dot) self.old.nodes self.new.nodes }
         ensures marker { result ≡ marker }
-        ensures same { self.new ≡ record self.old { position = self.old.position + 1; nodes = self.new.nodes } }
+        ensures same { self.new
+            ≡ record self.old { position = self.old.position + 1; nodes = self.new.nodes } }
     {
         self.recorder.split(ends_in_dot);
-        self.left -= 1;
+        self.rest.take(1);
         marker
     }
 
@@ -216,7 +210,7 @@ impl<'t> Parser<'t> {
     {
         let Parser {
             input: _,
-            left: _,
+            rest: _,
             looks,
             recorder,
         } = self;

@@ -66,12 +66,22 @@ impl Recorder {
         self.refused
     }
 
+    /// Records nothing more, and gives the memory of the record back.
+    #[cold]
+    fn refuse(&mut self)
+        ensures { self.new ≡ None }
+    {
+        self.refused = true;
+        self.events = Vec::new(self.alloc);
+        self.open_nodes = Vec::new(self.alloc);
+    }
+
     /// Adds an entry.
     pub(crate) fn record(&mut self, event: Event)
         ensures { Becomes (with_entry (event_of event)) self.old self.new }
     {
-        if !self.refused {
-            self.refused = self.events.push(event).is_err();
+        if self.events.push(event).is_err() {
+            self.refuse();
         }
     }
 
@@ -87,8 +97,8 @@ impl Recorder {
     pub(crate) fn start_at(&mut self, place: usize)
         ensures { Becomes (opened_at place) self.old self.new }
     {
-        if !self.refused {
-            self.refused = self.open_nodes.push(place).is_err();
+        if self.open_nodes.push(place).is_err() {
+            self.refuse();
         }
     }
 

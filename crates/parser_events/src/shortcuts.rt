@@ -29,7 +29,8 @@ use parser_input::syntax_kind::SyntaxKind;
 pub(crate) fn put_all<S: StrSink>(steps: &[StrStep<'_>], sink: &mut S) -> Result<(), S::Error>
     ensures taken { OnOk result (TakesAll S.takes sink.old (map text_step_of steps.now) sink.new) }
     ensures refused { IfErr result
-        (λ error. FailsAtOne S.takes S.fails_at sink.old (map text_step_of steps.now) error sink.new) }
+        (λ error. FailsAtOne S.takes S.fails_at sink.old
+        (map text_step_of steps.now) error sink.new) }
 {
     for i in 0..steps.len() {
         match sink.step(steps[i]) {
@@ -42,9 +43,11 @@ pub(crate) fn put_all<S: StrSink>(steps: &[StrStep<'_>], sink: &mut S) -> Result
 
 /// Gives a sink this step.
 fn put_one<S: StrSink>(step: StrStep<'_>, sink: &mut S) -> Result<(), S::Error>
-    ensures taken { OnOk result (TakesAll S.takes sink.old (text_step_of step.entry ∷ []) sink.new) }
+    ensures taken { OnOk result
+        (TakesAll S.takes sink.old (text_step_of step.entry ∷ []) sink.new) }
     ensures refused { IfErr result
-        (λ error. FailsAtOne S.takes S.fails_at sink.old (text_step_of step.entry ∷ []) error sink.new) }
+        (λ error. FailsAtOne S.takes S.fails_at sink.old
+        (text_step_of step.entry ∷ []) error sink.new) }
 {
     match sink.step(step) {
         Ok(()) => Ok(()),
@@ -164,7 +167,8 @@ pub(crate) fn put_enter<S: StrSink>(
 ) -> Result<usize, S::Error>
     requires { start ≤ length lexed.now.leaves }
     ensures taken { IfOk result
-        (λ next. Lays S.takes lexed.now.leaves (steps.Enter (raw_of kind)) start sink.old next sink.new) }
+        (λ next. Lays S.takes lexed.now.leaves
+        (steps.Enter (raw_of kind)) start sink.old next sink.new) }
     ensures refused { IfErr result (λ error. FailsAtOne S.takes S.fails_at sink.old
         (put_by (steps.Enter (raw_of kind)) (place_at lexed.now.leaves start)) error sink.new) }
 {
@@ -236,7 +240,8 @@ fn put_split<S: StrSink>(
 /// Leaves the node entered last.
 fn put_exit<S: StrSink>(lexed: &LexedStr<'_>, start: usize, sink: &mut S) -> Result<usize, S::Error>
     requires { start ≤ length lexed.now.leaves }
-    ensures taken { IfOk result (λ next. Lays S.takes lexed.now.leaves steps.Exit start sink.old next sink.new) }
+    ensures taken { IfOk result
+        (λ next. Lays S.takes lexed.now.leaves steps.Exit start sink.old next sink.new) }
     ensures refused { IfErr result (λ error. FailsAtOne S.takes S.fails_at sink.old
         (put_by steps.Exit (place_at lexed.now.leaves start)) error sink.new) }
 {
@@ -297,7 +302,8 @@ fn put_end<S: StrSink>(lexed: &LexedStr<'_>, start: usize, sink: &mut S) -> Resu
     ensures taken { OnOk result (TakesAll S.takes sink.old
         (leaf_steps (drop start (leaves_of lexed.now.leaves)) ++ text_steps.Exit ∷ []) sink.new) }
     ensures refused { IfErr result (λ error. FailsAtOne S.takes S.fails_at sink.old
-        (leaf_steps (drop start (leaves_of lexed.now.leaves)) ++ text_steps.Exit ∷ []) error sink.new) }
+        (leaf_steps (drop start (leaves_of lexed.now.leaves)) ++ text_steps.Exit
+        ∷ []) error sink.new) }
 {
     match put_leaves(lexed, start, lexed.len(), sink) {
         Ok(()) => {}
@@ -358,7 +364,8 @@ fn put_output<S: StrSink>(
     sink: &mut S,
 ) -> Result<(), S::Error>
     ensures taken { OnOk result
-        (TakesAll S.takes sink.old (put_around output.now.steps (leaves_of lexed.now.leaves)) sink.new) }
+        (TakesAll S.takes sink.old
+        (put_around output.now.steps (leaves_of lexed.now.leaves)) sink.new) }
     ensures refused { IfErr result (λ error. FailsAtOne S.takes S.fails_at sink.old
         (put_around output.now.steps (leaves_of lexed.now.leaves)) error sink.new) }
 {
@@ -395,7 +402,8 @@ pub fn intersperse_trivia<S: StrSink>(
     sink: &mut S,
 ) -> Result<(), S::Error>
     ensures taken { OnOk result
-        (TakesAll S.takes sink.old (put_around output.now.steps (leaves_of lexed.now.leaves)) sink.new) }
+        (TakesAll S.takes sink.old
+        (put_around output.now.steps (leaves_of lexed.now.leaves)) sink.new) }
     ensures tree { OnOk result ((f : Forest) → IsRooted f → output.now.steps ≡ steps.steps f
         → fits output.now.steps (leaves_of lexed.now.leaves) ≡ true → TakesAll S.takes sink.old
         (text_steps.text_steps (dress_root f (leaves_of lexed.now.leaves))) sink.new) }

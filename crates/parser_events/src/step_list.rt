@@ -74,7 +74,8 @@ fn pack(step: Step) -> (Entry, Option<usize>)
 /// Returns the leaf whose length is the last of `long`, and the lengths before that.
 fn unpack_long(kind: SyntaxKind, long: &[usize]) -> (Step, &[usize])
     ensures step { result.0 ≡ unpacked (entries.LongToken kind) (reverse long.now) }
-    ensures rest { reverse result.1.now ≡ lengths_after (entries.LongToken kind) (reverse long.now) }
+    ensures rest { reverse result.1.now
+        ≡ lengths_after (entries.LongToken kind) (reverse long.now) }
 {
     match long.split_last() {
         Some((n, rest)) => (

@@ -20,5 +20,6 @@ pub trait StrSink {
     /// Takes the next step, or says why not.
     fn step(&mut self, step: StrStep<'_>) -> Result<(), Self::Error>
         ensures taken { OnOk result (takes self.old (text_step_of step.entry) self.new) }
-        ensures refused { IfErr result (λ error. fails_at self.old (text_step_of step.entry) error self.new) };
+        ensures refused { IfErr result
+            (λ error. fails_at self.old (text_step_of step.entry) error self.new) };
 }

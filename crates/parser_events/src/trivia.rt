@@ -111,7 +111,8 @@ pub(crate) fn pending_end(lexed: &LexedStr<'_>, start: usize) -> usize
 fn is_outer_before(lexed: &LexedStr<'_>, start: usize, end: usize) -> bool
     requires order { start ≤ end }
     requires within { end ≤ length lexed.now.leaves }
-    ensures { result ≡ is_outer_next (reverse (slice_range (leaves_of lexed.now.leaves) start end)) }
+    ensures { result ≡ is_outer_next
+        (reverse (slice_range (leaves_of lexed.now.leaves) start end)) }
 {
     if start == end {
         return false;
@@ -139,7 +140,8 @@ fn stops_at(lexed: &LexedStr<'_>, start: usize, leaf: usize) -> bool
 fn first_inside(lexed: &LexedStr<'_>, start: usize, end: usize) -> usize
     requires order { start ≤ end }
     requires within { end ≤ length lexed.now.leaves }
-    ensures inside { end - result ≡ walk 0 0 (reverse (slice_range (leaves_of lexed.now.leaves) start end)) }
+    ensures inside { end - result
+        ≡ walk 0 0 (reverse (slice_range (leaves_of lexed.now.leaves) start end)) }
     ensures after { start ≤ result }
     ensures before { result ≤ end }
 {

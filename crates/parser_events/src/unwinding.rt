@@ -34,7 +34,8 @@ impl Unwinding {
         ensures cases { MatchOption result (begun index (state_of self.old).pending
             (state_of self.old).laid ≡ state_of self.new) (λ kind. (state_of self.old).pending ≡
             record { kind = raw_of kind; start = index } ∷ (state_of self.new).pending) }
-        ensures shorter { OnSome result (length self.new.pending.items < length self.old.pending.items) }
+        ensures shorter { OnSome result
+            (length self.new.pending.items < length self.old.pending.items) }
     {
         let last = *self.pending.last()?;
         if last.start != index {

@@ -162,7 +162,8 @@ fn eat_digits(rest: &mut Cursor) -> Option<u32>
 // valid.
 fn eat_unicode(rules: Rules, rest: &mut Cursor) -> bool
     ensures told { result ≡ is_unicode rules rest.old }
-    ensures after { result ≡ true → rest.new ≡ drop 1 (drop (run_len hex_or_underscore rest.old) rest.old) }
+    ensures after { result ≡ true → rest.new
+        ≡ drop 1 (drop (run_len hex_or_underscore rest.old) rest.old) }
 {
     if !is_hex_digit(rest.first()) {
         return false;

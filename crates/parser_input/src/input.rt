@@ -1,6 +1,6 @@
 //! What the parser sees of a text: its tokens without their texts.
 
-ghost use Rattle.std.specs.Prelude.{◌≡◌, ◌≢◌, ◌<◌, [], ◌∷◌, ◌++◌, List, length, is_ok, IfOk};
+ghost use Rattle.std.specs.Prelude.{◌≡◌, ◌≢◌, ◌<◌, ◌≤◌, [], ◌∷◌, ◌++◌, List, length, drop, is_ok, IfOk};
 ghost use Rattle.parser_input.specs.Input.{Token};
 ghost use Rattle.parser_input.specs.Kind.{raw_of};
 ghost use Rattle.parser_input.specs.Kinds as kinds;
@@ -125,7 +125,8 @@ impl Input {
     /// Adds an identifier, with the kind that its word has as a contextual keyword. It does not
     /// touch the next token.
     pub fn push_ident(&mut self, contextual_kind: SyntaxKind) -> Result<(), AllocError>
-        ensures { self.new ≡ tokens_with (is_ok result) self.old (identifier (raw_of contextual_kind)) }
+        ensures { self.new ≡ tokens_with (is_ok result) self.old
+            (identifier (raw_of contextual_kind)) }
     {
         self.push_token(SyntaxKind::IDENT, contextual_kind, false, false)
     }
@@ -151,10 +152,87 @@ impl Input {
     pub fn len(&self) -> usize
         ensures { result ≡ length self.now }
     {
-        self.tokens.len()
+        self.tokens().len()
     }
 
     /// The kind of a token; `EOF` past the end, and there alone.
+    pub fn kind(&self, n: usize) -> SyntaxKind
+        ensures kind { raw_of result ≡ (token_at self.now n).kind }
+        ensures token { n < length self.now → raw_of result ≢ kinds.EOF }
+    {
+        self.tokens().kind(n)
+    }
+
+    /// The kind that the word of an identifier has as a contextual keyword, or `IDENT`; `EOF` at
+    /// any other token and past the end.
+    pub fn contextual_kind(&self, n: usize) -> SyntaxKind
+        ensures { raw_of result ≡ (token_at self.now n).contextual }
+    {
+        self.tokens().contextual_kind(n)
+    }
+
+    /// Returns `true` if the token is joint: the next token directly follows it, so that both may
+    /// be one operator. A float is joint if its text does not end in a dot. Returns `false` past
+    /// the end.
+    pub fn is_joint(&self, n: usize) -> bool
+        ensures { result ≡ (token_at self.now n).joint }
+    {
+        self.tokens().is_joint(n)
+    }
+
+    /// Returns `true` if a token is read by the grammar of the whole language; `false` past the end.
+    pub fn is_whole(&self, n: usize) -> bool
+        ensures { result ≡ (token_at self.now n).whole }
+    {
+        self.tokens().is_whole(n)
+    }
+
+    /// Returns the tokens, none of which is taken yet.
+    pub fn tokens(&self) -> InputTokens<'_>
+        ensures { result ≡ self.now }
+    {
+        InputTokens {
+            tokens: &self.tokens,
+        }
+    }
+}
+
+/// The tokens of an input that are not taken yet.
+pub struct InputTokens<'a> {
+    tokens: &'a [InputToken],
+}
+
+impl Drop for InputTokens<'_> {
+    fn drop(self) {
+        let InputTokens { tokens: _ } = self;
+    }
+}
+
+impl<'a> Model for InputTokens<'a> {
+    ghost use Rattle.std.specs.Prelude.{List, ◌≢◌, map};
+    ghost use Rattle.std.specs.List.{All};
+    ghost use Rattle.parser_input.specs.Input.{Token};
+
+    ghost Value = { List Token };
+
+    ghost use Rattle.parser_input.specs.Kind.{raw_of};
+    ghost use Rattle.parser_input.specs.Kinds as kinds;
+    ghost use Rattle.parser_input.specs.Packed.{seen};
+
+    ghost view = { λ i. map seen i.tokens.now };
+
+    ghost invariant = { λ i. All (λ t. raw_of t.kind ≢ kinds.EOF) i.tokens.now };
+}
+
+impl InputTokens<'_> {
+    /// Returns the number of tokens.
+    pub fn len(&self) -> usize
+        ensures { result ≡ length self.now }
+    {
+        self.tokens.len()
+    }
+
+    /// Returns the kind of the token `n` tokens ahead; `EOF` past the end, and only there.
     pub fn kind(&self, n: usize) -> SyntaxKind
         ensures kind { raw_of result ≡ (token_at self.now n).kind }
         ensures token { n < length self.now → raw_of result ≢ kinds.EOF }
@@ -165,8 +243,8 @@ impl Input {
         }
     }
 
-    /// The kind that the word of an identifier has as a contextual keyword, or `IDENT`; `EOF` at
-    /// any other token and past the end.
+    /// Returns the contextual kind of the token `n` tokens ahead, as [`Input::contextual_kind`]
+    /// does; `EOF` past the end.
     pub fn contextual_kind(&self, n: usize) -> SyntaxKind
         ensures { raw_of result ≡ (token_at self.now n).contextual }
     {
@@ -176,9 +254,7 @@ impl Input {
         }
     }
 
-    /// Returns `true` if the token is joint: the next token directly follows it, so that both may
-    /// be one operator. A float is joint if its text does not end in a dot. Returns `false` past
-    /// the end.
+    /// Returns `true` if the token `n` tokens ahead is joint, as [`Input::is_joint`] does.
     pub fn is_joint(&self, n: usize) -> bool
         ensures { result ≡ (token_at self.now n).joint }
     {
@@ -188,13 +264,21 @@ impl Input {
         }
     }
 
-    /// Returns `true` if a token is read by the grammar of the whole language; `false` past the end.
+    /// Returns `true` if the token `n` tokens ahead is read by the grammar of the whole language.
     pub fn is_whole(&self, n: usize) -> bool
         ensures { result ≡ (token_at self.now n).whole }
     {
-        let Some(token) = self.tokens.get(n) else {
-            return false;
-        };
-        token.whole
+        match self.tokens.get(n) {
+            Some(token) => token.whole,
+            None => false,
+        }
+    }
+
+    /// Takes the next `n` tokens.
+    pub fn take(&mut self, n: usize)
+        requires { n ≤ length self.old }
+        ensures { self.new ≡ drop n self.old }
+    {
+        self.tokens = &self.tokens[n..];
     }
 }

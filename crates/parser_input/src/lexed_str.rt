@@ -323,7 +323,8 @@ impl<'a> LexedStr<'a> {
     /// The kind of a text that is one token, with what is wrong with it. `None` where it is not one
     /// token, or is cut into several leaves. No preface is read: a shebang is no token.
     pub fn single_token(edition: Edition, text: &str) -> Option<(SyntaxKind, Option<&'static str>)>
-        ensures { option_map read result ≡ option_map kind_and_message (single edition (chars text.now)) }
+        ensures { option_map read result
+            ≡ option_map kind_and_message (single edition (chars text.now)) }
     {
         if text.is_empty() {
             return None;
@@ -367,7 +368,8 @@ impl<'a> LexedStr<'a> {
     /// What is wrong with a leaf, if anything is.
     pub fn error(&self, i: usize) -> Option<&'static str>
         requires { i < length self.now.leaves }
-        ensures { option_map bytes_of result ≡ option_map wording (leaf_at self.now.leaves i).message }
+        ensures { option_map bytes_of result
+            ≡ option_map wording (leaf_at self.now.leaves i).message }
     {
         words(self.leaves[i].message)
     }
@@ -403,7 +405,8 @@ impl<'a> LexedStr<'a> {
     pub fn text_range(&self, i: usize) -> Range<usize>
         requires { i < length self.now.leaves }
         ensures start { result.start ≡ offset self.now.leaves i }
-        ensures end { result.end ≡ offset self.now.leaves i + size (leaf_at self.now.leaves i).leaf.text }
+        ensures end { result.end
+            ≡ offset self.now.leaves i + size (leaf_at self.now.leaves i).leaf.text }
     {
         self.text_start(i)..self.leaves[i].end
     }

@@ -34,7 +34,8 @@ pub(crate) fn contextual_kind(
 
 /// The contextual kind of a `|`.
 fn pipe_kind(edition: Edition, before_angle: bool) -> SyntaxKind
-    ensures { raw_of result ≡ (if before_angle && is_from EditionNext edition then kinds.PIPE_GT else kinds.EOF) }
+    ensures { raw_of result
+        ≡ (if before_angle && is_from EditionNext edition then kinds.PIPE_GT else kinds.EOF) }
 {
     if before_angle && edition.is_from(Edition::EditionNext) {
         SyntaxKind::PIPE_GT

@@ -23,14 +23,14 @@ use grammar_reader::grammar::expressions::expression;
 use grammar_reader::grammar::or_patterns::pattern;
 use grammar_reader::grammar::types::any_type;
 use parser_events::message::Message;
-use parser_events::parser::{Marker, Parser};
 use parser_input::syntax_kind::SyntaxKind;
 use rust_productions::condition::Condition;
 use rust_productions::grammar::attributes::at_meta;
 use rust_productions::grammar::expressions::at_expression;
 use rust_productions::grammar::patterns::at_pattern;
 use rust_productions::grammar::types::at_type;
-use rust_productions::grammar::{abandon, complete, current, error, start, take_any};
+use rust_productions::marker::Marker;
+use rust_productions::parser::Parser;
 
 /// What an input is asked to be, where that is one thing and no list.
 #[derive(Clone, Copy)]
@@ -48,7 +48,7 @@ fn at_token(p: &mut Parser<'_>) -> bool
     ensures left { tokens p.new ≡ tokens p.old }
     ensures looks { spent p.new ≤ spent p.old + 1 }
 {
-    match current(p) {
+    match p.current() {
         SyntaxKind::EOF => false,
         _ => true,
     }
@@ -60,20 +60,21 @@ fn take_rest(p: &mut Parser<'_>)
     ensures looks { spent p.new ≤ spent p.old + 1 }
 {
     'tokens: while at_token(p) {
-        take_any(p);
+        p.take_any();
     }
 }
 
 /// Closes the only open node as an error, with this message and the tokens that are left.
 fn stray(p: &mut Parser<'_>, frame: Marker, message: Message)
     requires marker { IsInnermost frame p.old.nodes }
-    ensures tree { (s : Reading) → left p.old ≡ s.rest → Holds p.old.nodes (marked s.given ∷ End ∷ [])
+    ensures tree { (s : Reading) → left p.old ≡ s.rest
+        → Holds p.old.nodes (marked s.given ∷ End ∷ [])
         → Holds p.new.nodes (marked (strayed (message_of message) s) ∷ []) }
     ensures looks { spent p.new ≤ spent p.old + 1 }
 {
-    error(p, message);
+    p.error(message);
     take_rest(p);
-    complete(p, frame, SyntaxKind::ERROR);
+    frame.complete(p, SyntaxKind::ERROR);
 }
 
 /// What is said where it does not begin.
@@ -125,7 +126,7 @@ fn read_single(p: &mut Parser<'_>, single: Single)
     ensures tree { Holds p.new.nodes (marked (entry whole (single_of single) (left p.old)) ∷ []) }
     ensures looks { spent p.new ≤ spent p.old + 21 }
 {
-    let frame = start(p);
+    let frame = p.start();
     if !begins(p, single) {
         stray(p, frame, missing(single));
         return;
@@ -135,13 +136,14 @@ fn read_single(p: &mut Parser<'_>, single: Single)
         stray(p, frame, Message::UnexpectedTokens);
         return;
     }
-    abandon(p, frame);
+    frame.abandon(p);
 }
 
 /// Reads an input that no token was taken of.
 pub(crate) fn read_entry(p: &mut Parser<'_>, entry_point: TopEntryPoint)
     requires nodes { p.old.nodes ≡ Some (End ∷ []) }
-    ensures tree { Holds p.new.nodes (marked (entry whole (production_of entry_point) (left p.old)) ∷ []) }
+    ensures tree { Holds p.new.nodes
+        (marked (entry whole (production_of entry_point) (left p.old)) ∷ []) }
     ensures looks { p.new.looks < p.old.looks + looks_per_token * (length (left p.old) + 1) }
 {
     match entry_point {

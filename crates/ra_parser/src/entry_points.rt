@@ -10,8 +10,8 @@ ghost use Rattle.ra_parser.specs.Entries.{most_tokens, production_of, FitEveryTe
 
 use crate::entries::read_entry;
 use parser_events::output::Output;
-use parser_events::parser::Parser;
 use parser_input::input::Input;
+use rust_productions::parser::Parser;
 use std::alloc::{AllocError, Global};
 use std::error::Error;
 use std::fmt;
@@ -88,7 +88,8 @@ impl TopEntryPoint {
             → output.steps ≡ steps tree) }
         ensures fits { IfOk result (λ output. FitEveryText input.now output.steps) }
         ensures looked { IfOk result (λ output. 1 ≤ output.looks) }
-        ensures looks { IfOk result (λ output. output.looks ≤ STEPS_PER_TOKEN * (length input.now + 1)) }
+        ensures looks { IfOk result
+            (λ output. output.looks ≤ STEPS_PER_TOKEN * (length input.now + 1)) }
         ensures short { IfOk result (λ output. length input.now ≤ most_tokens) }
         ensures refused { IfErr result (RefusesParse input.now) }
     {

@@ -66,7 +66,8 @@ fn source(alloc: Global) -> Result<String, AllocError> {
 /// Parses the three tokens of a struct.
 fn item(parser: &mut Parser<'_>)
     requires { parser.old.position + 3 ≤ length parser.old.input }
-    ensures open { (around : ℕ) → IsInnermost around parser.old.nodes → IsInnermost around parser.new.nodes }
+    ensures open { (around : ℕ) → IsInnermost around parser.old.nodes
+        → IsInnermost around parser.new.nodes }
     ensures position { parser.new.position ≡ parser.old.position + 3 }
     ensures input { parser.new.input ≡ parser.old.input }
 {

@@ -1,12 +1,12 @@
 -- The comparison of bytes with a text that is made of terms.
-use Rattle.std.proofs.Common.{◌≡◌, ℕ, ◌-◌, ◌<◌, ◌≤◌, min, List, [], ◌∷◌, ◌++◌, length, take, drop, length-take, length-drop, refl, sym, ◌∙◌, ap, arith, Bool, true, false, ◌&&◌, Decides}
+use Rattle.std.proofs.Common.{◌≡◌, ℕ, ◌-◌, ◌≤◌, List, [], ◌∷◌, ◌++◌, length, take, drop, refl, sym, ◌∙◌, ap, arith, Bool, true, false, ◌&&◌, Decides}
 use Rattle.std.specs.Prelude.{nat_eq}
 use Rattle.std.specs.Str.{bytes_eq}
 use Rattle.std.specs.Cmp.{unsigned_Decides}
 use lib.Pointwise.{pointwise_decides}
 use Rattle.std.proofs.lemmas.List.{take-append-drop}
 use Rattle.rowan_green.specs.Term.{Term, texts_of, text_of}
-use Rattle.rowan.proofs.Texts.{skip_first, split_first}
+use Rattle.rowan.proofs.Texts.{skip_first}
 use Rattle.rowan.proofs.Parts.{texts_are}
 
 bytes_decide : (x y : List ℕ) → Decides (bytes_eq x y) (x ≡ y)
@@ -36,22 +36,15 @@ parts_eq [] b (y ∷ h) k e = absurd (omega arith)
 parts_eq (x ∷ a) b [] k e = absurd (omega arith)
 parts_eq (x ∷ a) b (y ∷ h) k e = ap (λ v. nat_eq x y && v) (parts_eq a b h k (omega arith)) ∙ and_assoc (nat_eq x y) (bytes_eq a h) (bytes_eq b k)
 
+-- the bytes of a range in two parts, and what is to be there
+pub next_bytes : (range piece rest left here after : List ℕ) (k : ℕ) → range ≡ piece ++ rest → length piece ≡ length here → here ≡ take k left → after ≡ drop k left → bytes_eq range left ≡ (bytes_eq piece here && bytes_eq rest after)
+next_bytes range piece rest left here after k e n p q =
+    let w : left ≡ here ++ after = sym (take-append-drop k left) ∙ ap (λ v. v ++ drop k left) (sym p) ∙ ap (λ v. here ++ v) (sym q) in
+    ap (λ v. bytes_eq v left) e ∙ ap (λ v. bytes_eq (piece ++ rest) v) w ∙ parts_eq piece rest here after n
+
 module _ (s t : List Term) (e : Term) (y : s ≡ e ∷ t) (size offset : ℕ) (z : size ≡ length (text_of e)) where
   pub passed_bytes : (n : ℕ) → size ≤ offset → take n (drop offset (texts_of s)) ≡ take n (drop (offset - size) (texts_of t))
   passed_bytes n h =
       ap (λ v. take n (drop offset v)) (texts_are s t e y)
       ∙ skip_first (text_of e) (texts_of t) offset n (omega arith)
       ∙ ap (λ m. take n (drop (offset - m) (texts_of t))) (sym z)
-
-  pub split_bytes : (left here after : List ℕ) (k : ℕ) → offset < size → k ≡ min (length left) (size - offset) → here ≡ take k left → after ≡ drop k left → bytes_eq (take (length left) (drop offset (texts_of s))) left ≡ (bytes_eq (take (length here) (drop offset (text_of e))) here && bytes_eq (take (length after) (texts_of t)) after)
-  split_bytes left here after k h m p q =
-      let m' : k ≡ min (length left) (length (text_of e) - offset) = omega arith in
-      let lh : length here ≡ k = omega (arith, ap length p, length-take k left) in
-      let lb : length after ≡ length left - k = omega (arith, ap length q, length-drop k left) in
-      let la : length (take k (drop offset (text_of e))) ≡ length here = omega (arith, length-take k (drop offset (text_of e)), length-drop offset (text_of e)) in
-      let w : left ≡ here ++ after = sym (take-append-drop k left) ∙ ap (λ v. v ++ drop k left) (sym p) ∙ ap (λ v. here ++ v) (sym q) in
-      let u : take (length left) (drop offset (texts_of s)) ≡ take k (drop offset (text_of e)) ++ take (length left - k) (texts_of t) = ap (λ v. take (length left) (drop offset v)) (texts_are s t e y) ∙ split_first (text_of e) (texts_of t) offset (length left) k (omega arith) m' in
-      ap (λ v. bytes_eq v left) u ∙ ap (λ v. bytes_eq (take k (drop offset (text_of e)) ++ take (length left - k) (texts_of t)) v) w
-      ∙ parts_eq (take k (drop offset (text_of e))) (take (length left - k) (texts_of t)) here after la
-      ∙ ap (λ n. bytes_eq (take n (drop offset (text_of e))) here && bytes_eq (take (length left - k) (texts_of t)) after) (sym lh)
-      ∙ ap (λ n. bytes_eq (take (length here) (drop offset (text_of e))) here && bytes_eq (take n (texts_of t)) after) (sym lb)

@@ -10,6 +10,7 @@ pub mod Leaves
 pub mod Ranges
 pub mod Texts
 pub mod Parts
+pub mod Passing
 pub mod Characters
 pub mod Bytes
 pub mod Stretches

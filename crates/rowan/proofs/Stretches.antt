@@ -57,7 +57,7 @@ passes_more m n s t u p q = record {
 -- bytes of the first term are passed
 pub passes_bytes : (n : ℕ) (s t : Stretch) → IsStretch s → t.node ≡ s.node → t.index ≡ s.index → t.offset ≡ s.offset + n → s.left ≡ n + t.left → Passes n s t
 passes_bytes n s t h node index offset left =
-    let terms : terms_left t ≡ terms_left s = ap (λ v. drop v (children_of t.node.now)) index ∙ ap (λ v. drop s.index (children_of v.now)) node in
+    let terms : terms_left t ≡ terms_left s = ap (λ v. drop v (children_of t.node)) index ∙ ap (λ v. drop s.index (children_of v)) node in
     let w = texts_of (terms_left s) in
     record {
       bytes =
@@ -72,10 +72,10 @@ passes_bytes n s t h node index offset left =
     }
 
 -- a term that lies before the first byte is passed
-pub passes_term : (s t : Stretch) (e : Term) → IsStretch s → t.node ≡ s.node → t.index ≡ s.index + 1 → t.offset + term_len e ≡ s.offset → t.left ≡ s.left → slice_get (children_of s.node.now) s.index ≡ Some e → Passes 0 s t
+pub passes_term : (s t : Stretch) (e : Term) → IsStretch s → t.node ≡ s.node → t.index ≡ s.index + 1 → t.offset + term_len e ≡ s.offset → t.left ≡ s.left → slice_get (children_of s.node) s.index ≡ Some e → Passes 0 s t
 passes_term s t e h node index offset left is =
-    let after : terms_left t ≡ drop (s.index + 1) (children_of s.node.now) = ap (λ v. drop v (children_of t.node.now)) index ∙ ap (λ v. drop (s.index + 1) (children_of v.now)) node in
-    let terms : terms_left s ≡ e ∷ terms_left t = next_terms (children_of s.node.now) s.index e is ∙ ap (λ v. e ∷ v) (sym after) in
+    let after : terms_left t ≡ drop (s.index + 1) (children_of s.node) = ap (λ v. drop v (children_of t.node)) index ∙ ap (λ v. drop (s.index + 1) (children_of v)) node in
+    let terms : terms_left s ≡ e ∷ terms_left t = next_terms (children_of s.node) s.index e is ∙ ap (λ v. e ∷ v) (sym after) in
     let a : t.offset ≡ s.offset - term_len e = omega (arith, offset) in
     record {
       bytes =
@@ -161,24 +161,24 @@ differ_fronts x y n h k d = λ v w e. d (sym (take_front x v n h) ∙ ap (λ u. 
 -- ---- stretches that begin with their node's first child
 
 module _ (s : Stretch) (first : s.index ≡ 0) where
-  all_terms : terms_left s ≡ children_of s.node.now
-  all_terms = ap (λ k. drop k (children_of s.node.now)) first
+  all_terms : terms_left s ≡ children_of s.node
+  all_terms = ap (λ k. drop k (children_of s.node)) first
 
-  all_text : texts_of (terms_left s) ≡ tree_text s.node.now
-  all_text = ap texts_of all_terms ∙ whole_text s.node.now
+  all_text : texts_of (terms_left s) ≡ tree_text s.node
+  all_text = ap texts_of all_terms ∙ whole_text s.node
 
-  pub whole_stretch : s.offset + s.left ≤ length (tree_text s.node.now) → s.offset + s.left < 2 ^ 32 → IsStretch s
+  pub whole_stretch : s.offset + s.left ≤ length (tree_text s.node) → s.offset + s.left < 2 ^ 32 → IsStretch s
   whole_stretch h k = record { within = omega (arith, h, ap length all_text); fits = k }
 
-  pub whole_bytes : bytes_left s ≡ take s.left (drop s.offset (tree_text s.node.now))
+  pub whole_bytes : bytes_left s ≡ take s.left (drop s.offset (tree_text s.node))
   whole_bytes = ap (λ v. take s.left (drop s.offset v)) all_text
 
-  pub whole_left : count_left s + 1 ≤ tree_count s.node.now
-  whole_left = omega (arith, whole_count s.node.now, ap (λ v. forest_count (forest_of v)) all_terms)
+  pub whole_left : count_left s + 1 ≤ tree_count s.node
+  whole_left = omega (arith, whole_count s.node, ap (λ v. forest_count (forest_of v)) all_terms)
 
 -- ---- the part of a stretch in the node that it begins in
 
-module _ (a inner : Stretch) (t : Tree) (h : IsHead a (Node t)) (node : inner.node.now ≡ t) (first : inner.index ≡ 0) (offset : inner.offset ≡ a.offset) (left : inner.left ≡ min a.left (length (tree_text t) - a.offset)) where
+module _ (a inner : Stretch) (t : Tree) (h : IsHead a (Node t)) (node : inner.node ≡ t) (first : inner.index ≡ 0) (offset : inner.offset ≡ a.offset) (left : inner.left ≡ min a.left (length (tree_text t) - a.offset)) where
   pub inner_stretch : IsStretch a → IsStretch inner
   inner_stretch k =
       whole_stretch inner first (omega (arith, h.inside, left, offset, ap (λ v. length (tree_text v)) node)) (omega (arith, k.fits, left, offset))

@@ -6,7 +6,7 @@ use Rattle.rowan.specs.declared.text_compare.Stretch.{Stretch}
 
 -- the terms that a stretch has not passed
 abbrev pub terms_left : Stretch → List Term
-terms_left s = drop s.index (children_of s.node.now)
+terms_left s = drop s.index (children_of s.node)
 
 -- the bytes that it has not passed
 abbrev pub bytes_left : Stretch → List ℕ

@@ -15,6 +15,7 @@ pub mod Sound
 pub mod Falls
 pub mod Left
 pub mod Text
+pub mod ChildParts
 pub mod Pieces
 pub mod Reading
 pub mod Comparing

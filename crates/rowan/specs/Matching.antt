@@ -9,10 +9,10 @@ use Rattle.rowan.specs.declared.text_bytes.Matching.TheVariants.{Different, Same
 abbrev pub outcome : Matching → Bool
 outcome Different = false
 outcome Same = true
-outcome (Pending node skip bytes) = bytes_eq (take (length bytes.now) (drop skip (tree_text node.now))) bytes.now
+outcome (Pending node skip bytes) = bytes_eq (take (length bytes.now) (drop skip (tree_text node))) bytes.now
 
 -- how many nodes and leaves the node has
 abbrev pub pending_count : Matching → ℕ
 pending_count Different = 0
 pending_count Same = 0
-pending_count (Pending node skip bytes) = tree_count node.now
+pending_count (Pending node skip bytes) = tree_count node

@@ -243,7 +243,8 @@ impl<L: Language> SyntaxNode<L> {
     /// Returns the root of a new tree with this green node.
     pub fn clone_subtree(&self, alloc: Global) -> Result<SyntaxNode<L>, AllocError>
         ensures { IfOk result
-            (λ n. (g : Tree) × (term_at self.now ≡ Some (Node g)) × (n ≡ record { root = g; up = [] })) }
+            (λ n. (g : Tree) × (term_at self.now ≡ Some (Node g))
+            × (n ≡ record { root = g; up = [] })) }
     {
         SyntaxNode::new_root(alloc, self.green().clone()?)
     }

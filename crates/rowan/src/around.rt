@@ -142,7 +142,8 @@ fn beside(
     direction: Direction,
     current: &cursor::SyntaxElement,
 ) -> Result<Option<cursor::SyntaxElement>, AllocError>
-    ensures { IfOk result (λ r. siblings direction current.now ≡ current.now ∷ siblings_left direction r) }
+    ensures { IfOk result
+        (λ r. siblings direction current.now ≡ current.now ∷ siblings_left direction r) }
 {
     match direction {
         Direction::Next => next_sibling_of(current, alloc),

@@ -82,7 +82,8 @@ impl<N: AstNode> Iterator for AstChildren<N> {
 fn next_cast<N: AstNode>(
     nodes: &mut SyntaxNodeChildren<N::Language>,
 ) -> Option<Result<N, AllocError>>
-    ensures gives { CastsOrFails (can N.Language.from_raw N.casts) N.place nodes.old result nodes.new }
+    ensures gives { CastsOrFails
+        (can N.Language.from_raw N.casts) N.place nodes.old result nodes.new }
     ensures goes { IsSome result → length nodes.new < length nodes.old }
 {
     while let Some(node) = nodes.next() {

@@ -3,7 +3,8 @@ ghost use Rattle.std.specs.Prelude.{◌≡◌, ◌+◌, ◌^◌, ◌<◌, ℕ, L
 ghost use Rattle.rowan_green.specs.Forest.{tree_text};
 ghost use Rattle.rowan.specs.Text.{IsPart};
 
-use rowan_green::{GreenNode, NodeOrToken};
+use crate::child_parts::{ChildPart, ChildParts};
+use rowan_green::{GreenNodeRef, NodeOrToken};
 
 /// A reader of a text in pieces, in order. A piece is not empty and comes with its offset.
 pub(crate) trait ChunkReader: Sized {
@@ -43,19 +44,39 @@ pub(crate) trait ChunkReader: Sized {
 }
 
 /// A part of a node's text: `len` bytes from offset `start` on.
-#[derive(Clone, Copy)]
+#[derive(Drop)]
 pub(crate) struct Part<'a> {
-    pub(crate) node: &'a GreenNode,
+    pub(crate) node: GreenNodeRef<'a>,
     pub(crate) start: u32,
     pub(crate) len: u32,
 }
 
+impl Part<'_> {
+    /// Passes the part to `reader`, in pieces.
+    pub(crate) fn read<R: ChunkReader>(&self, reader: R) -> Result<R, R::Found>
+        requires can { R.can_read reader
+            (take self.now.len (drop self.now.start (tree_text self.now.node))) }
+        requires part { IsPart (tree_text self.now.node)
+            self.now.start (self.now.start + self.now.len) }
+        ensures { R.reads reader 0
+            (take self.now.len (drop self.now.start (tree_text self.now.node))) result }
+    {
+        read_part(
+            &self.node,
+            self.start as usize,
+            self.len as usize,
+            0,
+            reader,
+        )
+    }
+}
+
 /// Passes `len` bytes of the node's text, from offset `skip` on, to `reader`. The reader gets `at`
 /// as the offset of the first of them. Descends only into nodes that have some of these bytes.
-pub(crate) fn read_part<R: ChunkReader>(
-    node: &GreenNode,
-    skip: u32,
-    len: u32,
+fn read_part<R: ChunkReader>(
+    node: &GreenNodeRef<'_>,
+    skip: usize,
+    len: usize,
     at: u32,
     reader: R,
 ) -> Result<R, R::Found>
@@ -64,36 +85,25 @@ pub(crate) fn read_part<R: ChunkReader>(
     requires fits { at + len < 2 ^ 32 }
     ensures { R.reads reader at (take len (drop skip (tree_text node.now))) result }
 {
-    let mut reader = reader;
-    let mut offset = skip;
-    let mut left = len;
-    let mut place = at;
-    for child in node.children() {
-        if left == 0 {
+    if let Some(text) = node.flat_text() {
+        if len == 0 {
             return Ok(reader);
         }
-        let size = child.text_len().0;
-        if size <= offset {
-            offset -= size;
-            continue;
-        }
-        let taken = left.min(size - offset);
+        return reader.read(at, &text[skip..skip + len]);
+    }
+    let mut reader = reader;
+    let mut place = at;
+    for part in ChildParts::of(node, skip, len) {
+        let ChildPart { child, start, len } = part;
         let read = match child {
-            NodeOrToken::Node(node) => read_part(node, offset, taken, place, reader),
-            NodeOrToken::Token(token) => {
-                reader.read(
-                    place,
-                    &token.text()[offset as usize..(offset + taken) as usize],
-                )
-            }
+            NodeOrToken::Node(node) => read_part(&node, start, len, place, reader),
+            NodeOrToken::Token(token) => reader.read(place, &token.text()[start..start + len]),
         };
         match read {
             Ok(next) => reader = next,
             Err(found) => return Err(found),
         }
-        offset = 0;
-        left -= taken;
-        place += taken;
+        place += len as u32;
     }
     Ok(reader)
 }

@@ -24,8 +24,8 @@ struct NodeData {
     spot: Spot,
 }
 
-// (with the two counts of an `Rc` 56 bytes; the depth lies beside the offset, in what was padding)
-const _: () = prove!(size_of::<NodeData>() == 40);
+// (with the two counts of an `Rc` 64 bytes; the depth lies beside the offset, in what was padding)
+const _: () = prove!(size_of::<NodeData>() == 48);
 
 /// The parent of a node and the node's index among its children; `Root` if it has none.
 #[cycle(cursor)]
@@ -217,11 +217,11 @@ impl SyntaxNode {
         match green.child(index) {
             None => Ok(None),
             Some(NodeOrToken::Node(node)) => {
-                let child = self.child_node(alloc, index as u32, offset, node.clone()?)?;
+                let child = self.child_node(alloc, index as u32, offset, node.to_owned()?)?;
                 Ok(Some(NodeOrToken::Node(child)))
             }
             Some(NodeOrToken::Token(token)) => {
-                let child = self.child_token(index as u32, offset, token.clone()?)?;
+                let child = self.child_token(index as u32, offset, token.to_owned()?)?;
                 Ok(Some(NodeOrToken::Token(child)))
             }
         }
@@ -372,6 +372,16 @@ pub(crate) fn same_way(a: &SyntaxNode, b: &SyntaxNode) -> bool
             }
             _ => return false,
         }
+    }
+}
+
+/// Whether a node and a token have the same way up to their roots, as elements of two trees may.
+pub(crate) fn same_way_as_token(node: &SyntaxNode, token: &SyntaxToken) -> bool
+    ensures { result ≡ pointwise nat_eq node.now.up token.now.up }
+{
+    match &node.shared.spot {
+        Spot::Root => false,
+        Spot::Child(above, index) => *index == token.index && same_way(above, &token.parent),
     }
 }
 

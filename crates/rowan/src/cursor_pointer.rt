@@ -1,16 +1,14 @@
 //! The search for a node by its range: only below nodes whose ranges contain it.
 ghost use Rattle.std.specs.Prelude.{◌≡◌, ◌&&◌, ◌≤◌, ◌<◌, nat_le, None, cond, IfOk, IfSome, Some};
 ghost use Rattle.std.specs.List.{filter};
-ghost use Rattle.std.specs.Option.{option_copied};
 ghost use Rattle.rowan_green.specs.Either.{node_part};
-ghost use Rattle.rowan_green.specs.Referred.{referred_term};
 ghost use Rattle.rowan_green.specs.declared.utility_types.NodeOrToken.TheVariants.{Node};
 ghost use Rattle.rowan.specs.Place.{below, start_of, index_of};
 ghost use Rattle.rowan.specs.Around.{children_from, cursor_at, nodes, first};
 ghost use Rattle.rowan.specs.Pointer.{spans};
 
 use crate::cursor::SyntaxNode;
-use rowan_green::{GreenElementRef, GreenNode, TextRange, TextSize};
+use rowan_green::{GreenElementRef, GreenNodeRef, TextRange, TextSize};
 use std::alloc::{AllocError, Global};
 
 impl SyntaxNode {
@@ -64,7 +62,7 @@ impl SyntaxNode {
             };
             let child_end = offset + child.text_len().0;
             if let Some(node) = spanning(child, offset, child_end, range) {
-                let child = self.child_node(alloc, index as u32, offset, node.clone()?)?;
+                let child = self.child_node(alloc, index as u32, offset, node.to_owned()?)?;
                 return Ok(Some(child));
             }
             offset = child_end;
@@ -81,9 +79,9 @@ fn spanning<'a>(
     start: u32,
     end: u32,
     range: TextRange,
-) -> Option<&'a GreenNode>
-    ensures { option_copied result ≡ cond (nat_le start range.start.0 && nat_le range.end.0 end)
-        (node_part (referred_term element.entry)) None }
+) -> Option<GreenNodeRef<'a>>
+    ensures { result ≡ cond (nat_le start range.start.0 && nat_le range.end.0 end)
+        (node_part element.entry) None }
 {
     if start <= range.start.0 && range.end.0 <= end {
         return element.into_node();

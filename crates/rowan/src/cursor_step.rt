@@ -102,7 +102,7 @@ impl SyntaxNode {
             };
             match child {
                 NodeOrToken::Node(node) => {
-                    let child = self.child_node(alloc, index as u32, offset, node.clone()?)?;
+                    let child = self.child_node(alloc, index as u32, offset, node.to_owned()?)?;
                     return Ok(Some(child));
                 }
                 NodeOrToken::Token(token) => offset += token.text_len().0,
@@ -133,7 +133,7 @@ impl SyntaxNode {
             };
             end -= child.text_len().0;
             if let NodeOrToken::Node(node) = child {
-                let child = self.child_node(alloc, index as u32, end, node.clone()?)?;
+                let child = self.child_node(alloc, index as u32, end, node.to_owned()?)?;
                 return Ok(Some(child));
             }
         }

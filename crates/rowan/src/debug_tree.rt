@@ -62,7 +62,8 @@ fn push_front(
 
 /// Puts what a token's line ends with after what is printed: its text, quoted.
 fn push_text(alloc: Global, text: &str, to: &mut String) -> Result<(), AllocError>
-    ensures { OnOk result (AppendsText (string_bytes to.old) (string_bytes to.new) (line_text text.now)) }
+    ensures { OnOk result
+        (AppendsText (string_bytes to.old) (string_bytes to.new) (line_text text.now)) }
 {
     to.push_str(" ")?;
     push_quoted(alloc, text, to)?;

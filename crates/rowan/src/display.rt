@@ -6,9 +6,10 @@ ghost use Rattle.rowan.specs.Text.{IsPart};
 ghost use Rattle.rowan.specs.Place.{text_at};
 
 use crate::api::{SyntaxNode, SyntaxToken};
+use crate::child_parts::{ChildPart, ChildParts};
 use crate::language::Language;
 use crate::syntax_text::SyntaxText;
-use rowan_green::{GreenNode, NodeOrToken};
+use rowan_green::{GreenNodeRef, NodeOrToken};
 use std::fmt;
 
 impl<L: Language> fmt::Display for SyntaxNode<L> {
@@ -30,34 +31,27 @@ impl<L: Language> fmt::Display for SyntaxToken<L> {
 /// Writes `len` bytes of a node's text, those after the first `skip`. Goes down only where these
 /// bytes are.
 fn write_part<W: fmt::Write>(
-    node: &GreenNode,
-    skip: u32,
-    len: u32,
+    node: &GreenNodeRef<'_>,
+    skip: usize,
+    len: usize,
     f: &mut fmt::Formatter<W>,
 ) -> fmt::Result
     requires { IsPart (tree_text node.now) skip (skip + len) }
-    ensures { WritesOnOk W.write_str_gives f.old result (take len (drop skip (tree_text node.now))) f.new }
+    ensures { WritesOnOk W.write_str_gives f.old result
+        (take len (drop skip (tree_text node.now))) f.new }
 {
-    let mut offset = skip;
-    let mut left = len;
-    for child in node.children() {
-        if left == 0 {
+    if let Some(text) = node.flat_text() {
+        if len == 0 {
             return Ok(());
         }
-        let size = child.text_len().0;
-        if size <= offset {
-            offset -= size;
-            continue;
-        }
-        let taken = left.min(size - offset);
+        return f.write_str(&text[skip..skip + len]);
+    }
+    for part in ChildParts::of(node, skip, len) {
+        let ChildPart { child, start, len } = part;
         match child {
-            NodeOrToken::Node(node) => write_part(node, offset, taken, f)?,
-            NodeOrToken::Token(token) => {
-                f.write_str(&token.text()[offset as usize..(offset + taken) as usize])?
-            }
+            NodeOrToken::Node(node) => write_part(&node, start, len, f)?,
+            NodeOrToken::Token(token) => f.write_str(&token.text()[start..start + len])?,
         }
-        offset = 0;
-        left -= taken;
     }
     Ok(())
 }
@@ -67,6 +61,6 @@ impl fmt::Display for SyntaxText {
 
     fn fmt<W: fmt::Write>(&self, f: &mut fmt::Formatter<W>) -> fmt::Result {
         let part = self.part();
-        write_part(part.node, part.start, part.len, f)
+        write_part(&part.node, part.start as usize, part.len as usize, f)
     }
 }

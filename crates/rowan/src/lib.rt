@@ -24,6 +24,7 @@
 pub mod api;
 pub mod around;
 pub mod ast;
+mod child_parts;
 mod chunks;
 mod cursor;
 mod cursor_pointer;

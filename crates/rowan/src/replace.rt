@@ -44,7 +44,8 @@ impl<L: Language> SyntaxNode<L> {
         requires { replacement.kind ≡ kind_at self.now }
         ensures ok { IfOk result (λ g. g ≡ put self.now.root self.now.up replacement) }
         ensures fits { OnOk result (Fits self.now.root self.now.up replacement) }
-        ensures refused { IfErr result (RefusesUnless (Fits self.now.root self.now.up replacement)) }
+        ensures refused { IfErr result
+            (RefusesUnless (Fits self.now.root self.now.up replacement)) }
     {
         replaced(alloc, self.cursor(), replacement)
     }
@@ -58,7 +59,8 @@ fn token_replaced(
 ) -> Result<GreenNode, GreenError>
     ensures ok { IfOk result (λ g. g ≡ put_token place.now.root place.now.up replacement) }
     ensures fits { OnOk result (FitsWithToken place.now.root place.now.up replacement) }
-    ensures refused { IfErr result (RefusesUnless (FitsWithToken place.now.root place.now.up replacement)) }
+    ensures refused { IfErr result
+        (RefusesUnless (FitsWithToken place.now.root place.now.up replacement)) }
 {
     prove!(place.green().text_len().0 <= u32::MAX);
     let parent = place.parent();
@@ -80,7 +82,8 @@ impl<L: Language> SyntaxToken<L> {
         requires { replacement.kind ≡ kind_at self.now }
         ensures ok { IfOk result (λ g. g ≡ put_token self.now.root self.now.up replacement) }
         ensures fits { OnOk result (FitsWithToken self.now.root self.now.up replacement) }
-        ensures refused { IfErr result (RefusesUnless (FitsWithToken self.now.root self.now.up replacement)) }
+        ensures refused { IfErr result
+            (RefusesUnless (FitsWithToken self.now.root self.now.up replacement)) }
     {
         token_replaced(alloc, self.cursor(), replacement)
     }

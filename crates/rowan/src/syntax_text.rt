@@ -46,13 +46,13 @@ impl SyntaxText {
 
     /// Returns the text as a part of its node's text.
     pub(crate) fn part(&self) -> Part<'_>
-        ensures within { IsPart (tree_text result.node.now) result.start (result.start + result.len) }
-        ensures text { take result.len (drop result.start (tree_text result.node.now)) ≡ self.now }
+        ensures within { IsPart (tree_text result.node) result.start (result.start + result.len) }
+        ensures text { take result.len (drop result.start (tree_text result.node)) ≡ self.now }
         ensures len { result.len ≡ length self.now }
         ensures fits { result.start + result.len < 2 ^ 32 }
     {
         Part {
-            node: &self.green,
+            node: self.green.as_ref(),
             start: self.start,
             len: self.end - self.start,
         }

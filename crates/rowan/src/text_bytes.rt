@@ -2,19 +2,19 @@
 ghost use Rattle.std.specs.Prelude.{◌≡◌, ◌+◌, ◌≤◌, ◌&&◌, max, take, drop, length};
 ghost use Rattle.std.specs.Str.{bytes_eq};
 ghost use Rattle.rowan_green.specs.Forest.{tree_text, tree_count};
-ghost use Rattle.rowan_green.specs.Term.{text_of, texts_of, children_of, term_len, term_count};
-ghost use Rattle.rowan_green.specs.Referred.{referred_term};
+ghost use Rattle.rowan_green.specs.Term.{text_of, term_len, term_count};
 ghost use Rattle.rowan.specs.Matching.{outcome, pending_count};
 
-use rowan_green::{GreenElementRef, GreenNode, NodeOrToken, TextSize};
+use crate::child_parts::{ChildPart, ChildParts};
+use rowan_green::{GreenElementRef, GreenNodeRef, NodeOrToken};
 
 /// A comparison of bytes with a text: the answer, or the node on whose text after an offset it
 /// depends, with the bytes that are to be there.
-#[derive(Clone, Copy)]
+#[derive(Drop)]
 enum Matching<'a> {
     Different,
     Same,
-    Pending(&'a GreenNode, usize, &'a [u8]),
+    Pending(GreenNodeRef<'a>, usize, &'a [u8]),
 }
 
 /// Returns `true` if the node's text has these bytes after the first `skip`. Reads only the nodes
@@ -23,14 +23,15 @@ enum Matching<'a> {
 /// A loop goes on with one child, and only the others are compared by calls. Those have at most
 /// half of the bytes each, so the calls nest to the logarithm of their number.
 #[cycle(has_bytes)]
-pub(crate) fn has_bytes(node: &GreenNode, skip: usize, bytes: &[u8]) -> bool
-    ensures { result ≡ bytes_eq (take (length bytes.now) (drop skip (tree_text node.now))) bytes.now }
+pub(crate) fn has_bytes<'a>(node: GreenNodeRef<'a>, skip: usize, bytes: &'a [u8]) -> bool
+    ensures { result
+        ≡ bytes_eq (take (length bytes.now) (drop skip (tree_text node.entry))) bytes.now }
 {
     let mut inside = node;
     let mut offset = skip;
     let mut left = bytes;
     'down: loop {
-        match children_have(inside, offset, left) {
+        match children_have(&inside, offset, left) {
             Matching::Different => return false,
             Matching::Same => return true,
             Matching::Pending(child, start, part) => {
@@ -42,50 +43,37 @@ pub(crate) fn has_bytes(node: &GreenNode, skip: usize, bytes: &[u8]) -> bool
     }
 }
 
-/// Returns the index of the child whose text has the byte at offset `skip`, and the offset of that
-/// byte in the child's text; 0 and `skip` if the node's text has no such byte. Goes down one path
-/// of the balanced list of children.
-fn child_with(node: &GreenNode, skip: usize) -> (usize, usize)
-    ensures { drop skip (tree_text node.now) ≡ drop result.1 (texts_of (drop result.0 (children_of node.now))) }
+/// Returns `true` if the text has these bytes after the first `skip`.
+fn text_has_bytes(text: &[u8], skip: usize, bytes: &[u8]) -> bool
+    ensures { result ≡ bytes_eq (take (length bytes.now) (drop skip text.now)) bytes.now }
 {
-    let Ok(byte) = u32::try_from(skip) else {
-        return (0, skip);
-    };
-    let Some(found) = node.child_at_offset(TextSize(byte)) else {
-        return (0, skip);
-    };
-    (found.index, skip - found.start.0 as usize)
+    let rest = &text[skip.min(text.len())..];
+    &rest[..bytes.len().min(rest.len())] == bytes
 }
 
-/// Compares the bytes with the texts of the children, except one node's. Begins at the first child
-/// that has some of them.
+/// Compares the bytes with the texts of the children that would have them, except one node's.
 #[cycle(has_bytes)]
-fn children_have<'a>(node: &'a GreenNode, skip: usize, bytes: &'a [u8]) -> Matching<'a>
-    ensures outcome { outcome result ≡ bytes_eq (take (length bytes.now) (drop skip (tree_text node.now))) bytes.now }
+fn children_have<'a>(node: &GreenNodeRef<'a>, skip: usize, bytes: &'a [u8]) -> Matching<'a>
+    ensures outcome { outcome result
+        ≡ bytes_eq (take (length bytes.now) (drop skip (tree_text node.now))) bytes.now }
     ensures below { pending_count result + 1 ≤ tree_count node.now }
 {
-    let (first, start) = child_with(node, skip);
-    let mut matching = Matching::Same;
-    let mut offset = start;
-    let mut left = bytes;
-    for index in first..node.children().len() {
-        if left.is_empty() {
-            return matching;
-        }
-        let Some(child) = node.child(index) else {
-            unreachable!()
+    if let Some(text) = node.flat_text() {
+        return if text_has_bytes(text.as_bytes(), skip, bytes) {
+            Matching::Same
+        } else {
+            Matching::Different
         };
-        let size = child.text_len().0 as usize;
-        if size <= offset {
-            offset -= size;
-            continue;
-        }
-        let (here, after) = left.split_at(left.len().min(size - offset));
-        matching = with_child(matching, child, offset, here);
+    }
+    let mut matching = Matching::Same;
+    let mut left = bytes;
+    for part in ChildParts::of(node, skip, bytes.len()) {
+        let ChildPart { child, start, len } = part;
+        let (here, after) = left.split_at(len);
+        matching = with_child(matching, child, start, here);
         if let Matching::Different = matching {
             return Matching::Different;
         }
-        offset = 0;
         left = after;
     }
     if left.is_empty() {
@@ -103,12 +91,11 @@ fn with_child<'a>(
     skip: usize,
     bytes: &'a [u8],
 ) -> Matching<'a>
-    requires { skip + length bytes.now ≤ term_len (referred_term child) }
+    requires { skip + length bytes.now ≤ term_len child }
     ensures outcome { outcome result ≡ (outcome matching.entry
-        && bytes_eq (take (length bytes.now) (drop skip (text_of (referred_term child.entry))))
-        bytes.now) }
+        && bytes_eq (take (length bytes.now) (drop skip (text_of child.entry))) bytes.now) }
     ensures below { pending_count result
-        ≤ max (pending_count matching.entry) (term_count (referred_term child.entry)) }
+        ≤ max (pending_count matching.entry) (term_count child.entry) }
 {
     match child {
         NodeOrToken::Node(node) => with_node(matching, node, skip, bytes),
@@ -126,13 +113,14 @@ fn with_child<'a>(
 #[cycle(has_bytes)]
 fn with_node<'a>(
     matching: Matching<'a>,
-    node: &'a GreenNode,
+    node: GreenNodeRef<'a>,
     skip: usize,
     bytes: &'a [u8],
 ) -> Matching<'a>
     ensures outcome { outcome result ≡ (outcome matching.entry
-        && bytes_eq (take (length bytes.now) (drop skip (tree_text node.now))) bytes.now) }
-    ensures below { pending_count result ≤ max (pending_count matching.entry) (tree_count node.now) }
+        && bytes_eq (take (length bytes.now) (drop skip (tree_text node.entry))) bytes.now) }
+    ensures below { pending_count result
+        ≤ max (pending_count matching.entry) (tree_count node.entry) }
 {
     match matching {
         Matching::Different => Matching::Different,
@@ -140,7 +128,7 @@ fn with_node<'a>(
         Matching::Pending(other, start, part) => {
             if bytes.len() <= part.len() {
                 if has_bytes(node, skip, bytes) {
-                    matching
+                    Matching::Pending(other, start, part)
                 } else {
                     Matching::Different
                 }

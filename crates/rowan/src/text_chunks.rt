@@ -3,7 +3,7 @@ ghost use Rattle.std.specs.Prelude.{Ok};
 ghost use Rattle.std.specs.Fn.{TakesAt, CalledAt};
 ghost use Rattle.rowan.specs.Pieces.{FoldsText, TakesText, FoldCall, FoldTakes, VisitCall, EachCall, ChunkTakes};
 
-use crate::chunks::{ChunkReader, read_part};
+use crate::chunks::ChunkReader;
 use crate::syntax_text::SyntaxText;
 use std::marker::PhantomData;
 
@@ -147,13 +147,12 @@ impl SyntaxText {
         requires { TakesText (FoldCall F.FnMut) (FoldTakes F.FnMut) f init self.now }
         ensures { (last : F) × FoldsText (FoldCall F.FnMut) f init self.now result last }
     {
-        let part = self.part();
         let folding = Folding {
             total: init,
             call: f,
             refusal: PhantomData,
         };
-        match read_part(part.node, part.start, part.len, 0, folding) {
+        match self.part().read(folding) {
             Ok(folding) => Ok(folding.total),
             Err(error) => Err(error),
         }
@@ -168,12 +167,11 @@ impl SyntaxText {
         requires { TakesText (VisitCall F.FnMut) (ChunkTakes F.FnMut) f tt self.now }
         ensures { (last : F) × FoldsText (VisitCall F.FnMut) f tt self.now result last }
     {
-        let part = self.part();
         let visiting = Visiting {
             call: f,
             refusal: PhantomData,
         };
-        match read_part(part.node, part.start, part.len, 0, visiting) {
+        match self.part().read(visiting) {
             Ok(_) => Ok(()),
             Err(error) => Err(error),
         }
@@ -184,7 +182,6 @@ impl SyntaxText {
         requires { TakesText (EachCall F.FnMut) (ChunkTakes F.FnMut) f tt self.now }
         ensures { (last : F) × FoldsText (EachCall F.FnMut) f tt self.now (Ok tt) last }
     {
-        let part = self.part();
-        let _ = read_part(part.node, part.start, part.len, 0, Calling { call: f });
+        let _ = self.part().read(Calling { call: f });
     }
 }

@@ -3,7 +3,6 @@ ghost use Rattle.std.specs.Prelude.{◌≡◌, ◌+◌, ◌^◌, ◌≤◌, ◌<
 ghost use Rattle.std.specs.Bool.{OnTrue};
 ghost use Rattle.std.specs.Str.{bytes_eq};
 ghost use Rattle.rowan_green.specs.Forest.{tree_text};
-ghost use Rattle.rowan_green.specs.Referred.{referred_term};
 ghost use Rattle.rowan_green.specs.declared.utility_types.NodeOrToken.TheVariants.{Node, Token};
 ghost use Rattle.rowan.specs.Text.{IsPart};
 ghost use Rattle.rowan.specs.Comparing.{IsStretch, IsHead, Passes, PassesBoth, Differ, bytes_left};
@@ -11,13 +10,13 @@ ghost use Rattle.rowan.specs.Comparing.{IsStretch, IsHead, Passes, PassesBoth, D
 use crate::chunks::Part;
 use crate::syntax_text::SyntaxText;
 use crate::text_bytes::has_bytes;
-use rowan_green::{GreenElementRef, GreenNode, GreenToken, NodeOrToken};
+use rowan_green::{GreenElementRef, GreenNodeRef, GreenTokenRef, NodeOrToken};
 
 /// A stretch of a node's text, read from its front: `left` bytes that begin `offset` bytes after
 /// the start of the child of number `index`.
 #[derive(Drop)]
 struct Stretch<'a> {
-    node: &'a GreenNode,
+    node: GreenNodeRef<'a>,
     index: usize,
     offset: u32,
     left: u32,
@@ -25,11 +24,11 @@ struct Stretch<'a> {
 
 impl<'a> Stretch<'a> {
     fn of(part: Part<'a>) -> Stretch<'a>
-        requires part { IsPart (tree_text part.node.now) part.start (part.start + part.len) }
+        requires part { IsPart (tree_text part.node) part.start (part.start + part.len) }
         requires fits { part.start + part.len < 2 ^ 32 }
         ensures sound { IsStretch result }
         ensures bytes { bytes_left result ≡ take part.entry.len
-            (drop part.entry.start (tree_text part.entry.node.now)) }
+            (drop part.entry.start (tree_text part.entry.node)) }
         ensures left { result.left ≡ part.entry.len }
     {
         Stretch {
@@ -46,7 +45,7 @@ impl<'a> Stretch<'a> {
         requires { IsStretch self.old }
         ensures passes { Passes 0 self.old self.new }
         ensures head { MatchOption result (self.new.left ≡ 0)
-            (λ e. IsHead self.new (referred_term e)) }
+            (λ e. IsHead self.new e) }
     {
         let count = self.node.children().len();
         'elements: while self.index < count && self.left > 0 {
@@ -76,9 +75,9 @@ impl<'a> Stretch<'a> {
 /// is the same.
 fn same_tokens(
     a: &mut Stretch<'_>,
-    here: &GreenToken,
+    here: &GreenTokenRef<'_>,
     b: &mut Stretch<'_>,
-    there: &GreenToken,
+    there: &GreenTokenRef<'_>,
 ) -> bool
     requires sound { IsStretch a.old × IsStretch b.old }
     requires here { IsHead a.old (Token here.now) }
@@ -102,9 +101,9 @@ fn same_tokens(
 /// Compares what the first stretch has in the node that it begins in with what the second has, as
 /// far as both have bytes, and passes what is the same.
 #[cycle(same)]
-fn same_within(a: &mut Stretch<'_>, node: &GreenNode, b: &mut Stretch<'_>) -> bool
+fn same_within(a: &mut Stretch<'_>, node: GreenNodeRef<'_>, b: &mut Stretch<'_>) -> bool
     requires sound { IsStretch a.old × IsStretch b.old }
-    requires head { IsHead a.old (Node node.now) }
+    requires head { IsHead a.old (Node node) }
     requires some { 0 < b.old.left }
     ensures same { OnTrue result (PassesBoth a.old b.old a.new b.new × (a.new.left < a.old.left)) }
     ensures differ { result ≡ false → Differ (bytes_left a.old) (bytes_left b.old) }
@@ -151,13 +150,13 @@ fn same_heads(
     there: GreenElementRef<'_>,
 ) -> bool
     requires sound { IsStretch a.old × IsStretch b.old }
-    requires here { IsHead a.old (referred_term here) }
-    requires there { IsHead b.old (referred_term there) }
+    requires here { IsHead a.old here }
+    requires there { IsHead b.old there }
     ensures same { OnTrue result (PassesBoth a.old b.old a.new b.new × (a.new.left < a.old.left)) }
     ensures differ { result ≡ false → Differ (bytes_left a.old) (bytes_left b.old) }
 {
     match (here, there) {
-        (NodeOrToken::Token(here), NodeOrToken::Token(there)) => same_tokens(a, here, b, there),
+        (NodeOrToken::Token(here), NodeOrToken::Token(there)) => same_tokens(a, &here, b, &there),
         (NodeOrToken::Node(here), NodeOrToken::Token(_)) => same_within(a, here, b),
         (NodeOrToken::Token(_), NodeOrToken::Node(there)) => same_within(b, there, a),
         (NodeOrToken::Node(here), NodeOrToken::Node(there)) => {
@@ -182,11 +181,11 @@ impl SyntaxText {
 }
 
 /// Returns `true` if two texts of one length start at the same offset of equal nodes.
-fn stands_alike(a: Part<'_>, b: Part<'_>) -> bool
-    ensures { result ≡ true → take a.entry.len (drop a.entry.start (tree_text a.entry.node.now))
-        ≡ take a.entry.len (drop b.entry.start (tree_text b.entry.node.now)) }
+fn stands_alike(a: &Part<'_>, b: &Part<'_>) -> bool
+    ensures { result ≡ true → take a.now.len (drop a.now.start (tree_text a.now.node))
+        ≡ take a.now.len (drop b.now.start (tree_text b.now.node)) }
 {
-    a.start == b.start && *a.node == *b.node
+    a.start == b.start && a.node == b.node
 }
 
 impl PartialEq for SyntaxText {
@@ -208,7 +207,7 @@ impl PartialEq for SyntaxText {
         if part.len != there.len {
             return false;
         }
-        if stands_alike(part, there) {
+        if stands_alike(&part, &there) {
             return true;
         }
         same_front(&mut Stretch::of(part), &mut Stretch::of(there))

@@ -4,9 +4,9 @@ ghost use Rattle.std.specs.Bool.{MatchBool};
 ghost use Rattle.rowan_green.specs.Forest.{tree_text};
 ghost use Rattle.rowan.specs.Text.{IsCut, Lacks, FirstAt, IsCharAt};
 
-use crate::chunks::{ChunkReader, read_part};
+use crate::chunks::ChunkReader;
 use crate::syntax_text::SyntaxText;
-use rowan_green::{GreenNode, NodeOrToken, TextSize};
+use rowan_green::{GreenNodeRef, NodeOrToken, TextSize};
 
 /// A search for a character, which stops at its offset.
 #[derive(Drop)]
@@ -47,8 +47,7 @@ impl SyntaxText {
     pub fn find_char(&self, wanted: char) -> Option<TextSize>
         ensures { MatchOption result (Lacks wanted self.now) (λ n. FirstAt wanted self.now n.0) }
     {
-        let part = self.part();
-        match read_part(part.node, part.start, part.len, 0, CharSearch { wanted }) {
+        match self.part().read(CharSearch { wanted }) {
             Ok(_) => None,
             Err(byte) => Some(TextSize(byte)),
         }
@@ -76,15 +75,18 @@ impl SyntaxText {
 
 /// Returns the character that starts at offset `byte` of the first `end` bytes of the node's text;
 /// `None` if no character starts there.
-fn char_in(node: &GreenNode, byte: u32, end: u32) -> Option<char>
-    requires cut { IsCut (tree_text node.now) end }
+fn char_in(node: GreenNodeRef<'_>, byte: u32, end: u32) -> Option<char>
+    requires cut { IsCut (tree_text node) end }
     requires before { byte < end }
-    ensures { IsCharAt (take end (tree_text node.now)) byte result }
+    ensures { IsCharAt (take end (tree_text node.entry)) byte result }
 {
     let mut inside = node;
     let mut byte = byte;
     let mut end = end;
     'down: loop {
+        if let Some(text) = inside.flat_text() {
+            return char_of(&text[..end as usize], byte);
+        }
         let found = inside.child_at_offset(TextSize(byte))?;
         let child = inside.child(found.index)?;
         let offset = byte - found.start.0;

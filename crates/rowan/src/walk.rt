@@ -39,7 +39,8 @@ fn step_after_entering(
     element: &SyntaxElement,
     depth: u64,
 ) -> Result<Option<Step>, AllocError>
-    ensures { IfOk result (λ s. left_at false element.now depth ≡ event_of false element.now ∷ left_by s) }
+    ensures { IfOk result
+        (λ s. left_at false element.now depth ≡ event_of false element.now ∷ left_by s) }
 {
     let node = match element {
         NodeOrToken::Node(node) => node,
@@ -74,7 +75,8 @@ fn step_after_leaving(
     element: &SyntaxElement,
     depth: u64,
 ) -> Result<Option<Step>, AllocError>
-    ensures { IfOk result (λ s. left_at true element.now depth ≡ event_of true element.now ∷ left_by s) }
+    ensures { IfOk result
+        (λ s. left_at true element.now depth ≡ event_of true element.now ∷ left_by s) }
 {
     let Some(above) = depth.checked_sub(1) else {
         return Ok(None);

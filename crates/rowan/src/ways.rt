@@ -17,6 +17,14 @@ impl<L: Language> SyntaxNode<L> {
         cursor::same_way(self.cursor(), other.cursor())
     }
 
+    /// Whether the numbers among siblings, from the node up to its root, are those of a token, in
+    /// whatever trees both stand.
+    pub fn has_way_of_token(&self, other: &SyntaxToken<L>) -> bool
+        ensures { result ≡ pointwise nat_eq self.now.up other.now.up }
+    {
+        cursor::same_way_as_token(self.cursor(), other.cursor())
+    }
+
     /// Feeds a hash with the numbers among siblings, from the node up to its root.
     pub fn hash_way<H: Hasher>(&self, state: &mut H)
         ensures { state.new ≡ fold H.write state.old (numbers_fed self.now.up) }

@@ -6,6 +6,10 @@ use Rattle.std.proofs.Math.Seq.{drop-append-add}
 use Rattle.rowan_green.specs.Term.{Term, texts_of, FitsNode}
 use Rattle.std.proofs.Common.{Option, Some, None, false}
 use Rattle.std.specs.Option.{SomeIff, is_some}
+use Rattle.std.specs.Prelude.{MatchOption}
+use Rattle.std.specs.declared.rc.Rc.{Rc}
+use Rattle.std.specs.declared.alloc.Global.{Global}
+use Rattle.rowan_green.specs.declared.element_list.Part.{Part}
 use Rattle.rowan_green.specs.Balanced.{IsJoined, join, CanJoin, IsJoinHeight}
 use Rattle.rowan_green.proofs.Summing.{texts_append, take_right, AtFork}
 
@@ -29,6 +33,11 @@ joined_of f = record {
   right_low = f.fork.right_low;
   fits = f.fits;
 }
+
+-- the two sides of a list
+pub sides_some : (d : List Term × ℕ) (o : Option (Rc Part Global × Rc Part Global)) (l r : Rc Part Global) (none : Type 0) → MatchOption o none (λ s. IsJoined d s.0.value s.1.value) → o ≡ Some (l, r) → IsJoined d l.value r.value
+sides_some d o l r none p e =
+    subst (λ (x : Option (Rc Part Global × Rc Part Global)). MatchOption x none (λ s. IsJoined d s.0.value s.1.value)) e p
 
 -- ---- the left list is higher by two
 

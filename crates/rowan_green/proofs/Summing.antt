@@ -66,7 +66,7 @@ fewest_fork a b n m p q u v =
           subst At k (above_higher b n m w v)
     ]
 
-below_power : (k d n : ℕ) → 2 ^ k ≤ n → n < 2 ^ d → k < d
+pub below_power : (k d n : ℕ) → 2 ^ k ≤ n → n < 2 ^ d → k < d
 below_power k d n p q =
     elim (cases_order k d) [
       | inl e ↦ let w : 2 ^ k ≡ 2 ^ d = ap (λ x. 2 ^ x) e in absurd (omega arith)

@@ -1,31 +1,36 @@
--- Children as a balanced tree: one term alone, or blocks of terms in order, below forks that keep sums.
+-- Children as a balanced tree: one term alone, or blocks of terms and runs of an arena's entries in order, below forks that keep sums.
 use Rattle.std.specs.Prelude.{◌≡◌, ◌≢◌, ℕ, zero, suc, ◌+◌, ◌*◌, ◌/◌, ◌≤◌, max, List, [], ◌∷◌, ◌++◌, length, take, ⊤}
 use Rattle.rowan_green.specs.Term.{Term, texts_of, FitsNode}
+use Rattle.rowan_green.specs.Run.{HasHeight}
 use Rattle.rowan_green.specs.declared.element_list.Link.{Link}
-use Rattle.rowan_green.specs.declared.element_list.Link.TheVariants.{One, Block, Fork}
+use Rattle.rowan_green.specs.declared.element_list.Link.TheVariants.{One, Block, Run, Fork}
 
 -- the terms in order
 abbrev pub terms_in : Link → List Term
 terms_in (One e) = e ∷ []
 terms_in (Block half v) = v.items
+terms_in (Run r) = r.0
 terms_in (Fork half l r n h) = l.value.0 ++ r.value.0
 
 -- how many forks lie above the deepest block
 abbrev pub height_of : Link → ℕ
 height_of (One e) = 0
 height_of (Block half v) = 0
+height_of (Run r) = r.1
 height_of (Fork half l r n h) = h
 
 -- how many terms come before the middle
 abbrev pub middle_of : Link → ℕ
 middle_of (One e) = 0
 middle_of (Block half v) = length v.items / 2
+middle_of (Run r) = 0
 middle_of (Fork half l r n h) = length l.value.0
 
 -- what is kept as the length of the text before the middle
 abbrev pub half_of : Link → ℕ
 half_of (One e) = 0
 half_of (Block half v) = half
+half_of (Run r) = 0
 half_of (Fork half l r n h) = half
 
 -- the least number of terms in a fork of this height; at height 0, in a block below a fork
@@ -49,10 +54,11 @@ pub record IsBlock (xs : List Term) : Type 0 where
   pub not_one : length xs ≢ 1
   pub few : length xs ≤ 16
 
--- the sides of a fork have at least 8, and heights that differ by at most one
+-- a run is as long as its height allows; the sides of a fork have at least 8, and heights that differ by at most one
 abbrev pub IsBalanced : Link → Type 0
 IsBalanced (One e) = ⊤
 IsBalanced (Block half v) = IsBlock v.items
+IsBalanced (Run r) = HasHeight (length r.0) r.1
 IsBalanced (Fork half l r n h) = IsFork l.value.0 l.value.1 r.value.0 r.value.1 n h
 
 -- the list of this link keeps the length of the text before its middle

@@ -8,10 +8,10 @@ use Rattle.rowan_green.specs.declared.equality.Comparison.TheVariants.{Different
 abbrev pub outcome : Comparison → Bool
 outcome Different = false
 outcome Same = true
-outcome (Pending a b) = same_tree a.now b.now
+outcome (Pending a b) = same_tree a b
 
 -- how many nodes and leaves the first of the two nodes has
 abbrev pub pending_count : Comparison → ℕ
 pending_count Different = 0
 pending_count Same = 0
-pending_count (Pending a b) = tree_count a.now
+pending_count (Pending a b) = tree_count a

@@ -3,7 +3,6 @@ pub mod Leaf
 pub mod Forest
 pub mod Same
 pub mod Term
-pub mod Referred
 pub mod Refusal
 pub mod Word
 pub mod Building
@@ -13,3 +12,12 @@ pub mod Balanced
 pub mod Falls
 pub mod Comparing
 pub mod Hashing
+pub mod Arena
+pub mod FlatNode
+pub mod FlatRef
+pub mod Run
+pub mod Kept
+pub mod NodeForm
+pub mod NodeFormRef
+pub mod NodeReader
+pub mod Rest

@@ -1,4 +1,5 @@
-//! A builder of green trees: a node is opened, gets its tokens and nodes in order, and is closed.
+//! A builder of green trees, in one arena for a tree: a node is opened, gets its tokens and nodes in
+//! order, and is closed.
 ghost use Rattle.std.specs.Prelude.{◌≡◌, ◌+◌, ◌-◌, ◌<◌, ◌≤◌, ◌^◌, ◌↔◌, length, IsTrue, IsOk, IfOk, IfErr, OnOk, OnErr, MatchOption, true, List, [], ◌∷◌, ◌++◌, take, drop};
 ghost use Rattle.std.specs.Bool.{OnTrue};
 ghost use Rattle.rowan_green.specs.Forest.{Tree};
@@ -6,10 +7,12 @@ ghost use Rattle.rowan_green.specs.Term.{tree_of, FitsToken, FitsNode};
 ghost use Rattle.rowan_green.specs.Word.{opens, token, words};
 ghost use Rattle.rowan_green.specs.Refusal.{RefusesUnless};
 ghost use Rattle.rowan_green.specs.Building.{nothing_built, with_sign, with_opened, with_closed, current_children, first_or_zero, IsCurrent, OpensAround};
+ghost use Rattle.rowan_green.specs.declared.utility_types.NodeOrToken.TheVariants.{Node, Token};
+ghost use Rattle.rowan_green.specs.Kept.{is_node, terms_done, IsFilled, IsRooted, IsSame};
 
-use crate::element::GreenElement;
+use crate::arena::{Arena, Entry};
 use crate::error::GreenError;
-use crate::fingerprint::{Fingerprint, SmallNode};
+use crate::flat_node::FlatNode;
 use crate::node::GreenNode;
 use crate::node_cache::NodeCache;
 use crate::syntax_kind::SyntaxKind;
@@ -17,25 +20,13 @@ use crate::utility_types::NodeOrToken;
 use std::alloc::{AllocError, Global};
 use std::fmt;
 use std::marker::Model;
+use std::rc::Rc;
 
-/// The builder's own cache, or a borrowed one.
-#[derive(Drop)]
-enum Cache<'c> {
-    Own(NodeCache),
-    Lent(&'c mut NodeCache),
-}
+/// The greatest length of a token in bytes, and the greatest count of children.
+const MOST: usize = u32::MAX as usize;
 
-impl<'c> Cache<'c> {
-    fn get(&mut self) -> &mut NodeCache {
-        match self {
-            Cache::Own(cache) => cache,
-            Cache::Lent(cache) => cache,
-        }
-    }
-}
-
-/// An open node: its children are the complete elements from `first` on, up to where the next
-/// open node begins.
+/// An open node: its children are the complete entries from `first` on, up to where the next open
+/// node begins.
 #[derive(Clone, Copy)]
 struct OpenNode {
     kind: u16,
@@ -43,12 +34,13 @@ struct OpenNode {
     number: u64,
 }
 
-/// A builder of one green tree. A contract sees the word of the calls that it accepted.
+/// A builder of one tree. A contract sees the word of the calls that it accepted.
 pub struct GreenNodeBuilder<'c> {
     alloc: Global,
-    cache: Cache<'c>,
+    cache: Option<&'c mut NodeCache>,
+    arena: Option<Rc<Arena>>,
     open_nodes: Vec<OpenNode>,
-    done: Vec<GreenElement>,
+    done: Vec<Entry>,
     started: u64,
 }
 
@@ -56,12 +48,13 @@ impl Drop for GreenNodeBuilder<'_> {
     fn drop(self) {
         let GreenNodeBuilder {
             alloc: _,
-            cache,
+            cache: _,
+            arena,
             open_nodes: _,
             done: _,
             started: _,
         } = self;
-        drop(cache);
+        drop(arena);
     }
 }
 
@@ -70,12 +63,13 @@ impl<'c> Model for GreenNodeBuilder<'c> {
 
     ghost Value = { Building };
 
-    ghost use Rattle.std.specs.Prelude.{reverse, length};
-    ghost use Rattle.rowan_green.specs.OpenNodes.{IsNested, building_of};
+    ghost use Rattle.rowan_green.specs.Kept.{IsBuilder, terms_done};
+    ghost use Rattle.rowan_green.specs.OpenNodes.{building_of};
 
-    ghost view = { λ b. building_of b.open_nodes.items b.done.items b.started };
+    ghost view = { λ b.
+        building_of b.open_nodes.items (terms_done b.arena b.done.items) b.started };
 
-    ghost invariant = { λ b. IsNested (reverse b.open_nodes.items) (length b.done.items) };
+    ghost invariant = { λ b. IsBuilder b.open_nodes.items b.arena b.done.items };
 }
 
 /// A place in the innermost open node of a builder: before it stand `count` of the node's children.
@@ -110,26 +104,28 @@ impl<'c> From<Unfinished<'c>> for GreenError {
 }
 
 impl<'c> GreenNodeBuilder<'c> {
-    /// A builder with a cache of its own.
+    /// Returns a builder on which nothing was called, without a cache. It does not allocate.
     pub fn new(alloc: Global) -> GreenNodeBuilder<'c>
         ensures { result ≡ nothing_built }
     {
-        GreenNodeBuilder::over(alloc, Cache::Own(NodeCache::new(alloc)))
+        GreenNodeBuilder::over(alloc, None)
     }
 
-    /// A builder that shares what `cache` has, and leaves there what later builders may share.
+    /// Returns a builder that gives an equal tree of `cache` in place of its own, and leaves its own
+    /// there for later builders. It does not allocate.
     pub fn with_cache(alloc: Global, cache: &'c mut NodeCache) -> GreenNodeBuilder<'c>
         ensures { result ≡ nothing_built }
     {
-        GreenNodeBuilder::over(alloc, Cache::Lent(cache))
+        GreenNodeBuilder::over(alloc, Some(cache))
     }
 
-    fn over(alloc: Global, cache: Cache<'c>) -> GreenNodeBuilder<'c>
+    fn over(alloc: Global, cache: Option<&'c mut NodeCache>) -> GreenNodeBuilder<'c>
         ensures { result ≡ nothing_built }
     {
         GreenNodeBuilder {
             alloc,
             cache,
+            arena: None,
             open_nodes: Vec::new(alloc),
             done: Vec::new(alloc),
             started: 0,
@@ -137,20 +133,38 @@ impl<'c> GreenNodeBuilder<'c> {
     }
 
     /// Adds a token.
+    ///
+    /// # Errors
+    ///
+    /// - [`GreenError::TooLong`] if `text` has 2^32 bytes or more.
+    /// - [`GreenError::NoMemory`] if an allocation fails, or if the arena would hold 2^32 bytes.
+    ///
+    /// On error, `self` is unchanged.
     pub fn token(&mut self, kind: SyntaxKind, text: &str) -> Result<(), GreenError>
-        ensures ok { OnOk result (self.new ≡ with_sign self.old (token (record { kind = kind.0; text = text.now }))) }
+        ensures ok { OnOk result
+            (self.new ≡ with_sign self.old (token (record { kind = kind.0; text = text.now }))) }
         ensures fits { OnOk result (FitsToken text.now) }
         ensures refused { IfErr result (RefusesUnless (FitsToken text.now)) }
         ensures err { OnErr result (self.new ≡ self.old) }
     {
-        let token = self.cache.get().token(kind, text)?;
-        self.done.push(NodeOrToken::Token(token))?;
+        if text.len() > MOST {
+            return Err(GreenError::TooLong);
+        }
+        push_token(self.alloc, &mut self.arena, &mut self.done, kind.0, text)?;
         Ok(())
     }
 
     /// Opens a node.
+    ///
+    /// # Errors
+    ///
+    /// - [`GreenError::TooLong`] if 2^64 - 1 nodes were started.
+    /// - [`GreenError::NoMemory`] if an allocation fails.
+    ///
+    /// On error, `self` is unchanged.
     pub fn start_node(&mut self, kind: SyntaxKind) -> Result<(), GreenError>
-        ensures ok { OnOk result (self.new ≡ with_opened self.old (self.old.word ++ opens kind.0 ∷ [])) }
+        ensures ok { OnOk result
+            (self.new ≡ with_opened self.old (self.old.word ++ opens kind.0 ∷ [])) }
         ensures fits { OnOk result (self.old.started + 1 < 2 ^ 64) }
         ensures refused { IfErr result (RefusesUnless (self.old.started + 1 < 2 ^ 64)) }
         ensures err { OnErr result (self.new ≡ self.old) }
@@ -160,29 +174,32 @@ impl<'c> GreenNodeBuilder<'c> {
     }
 
     /// Closes the innermost open node.
+    ///
+    /// # Errors
+    ///
+    /// - [`GreenError::Unbalanced`] if no node is open.
+    /// - [`GreenError::TooLong`] if the node has 2^32 children or more.
+    /// - [`GreenError::NoMemory`] if an allocation fails, or if the arena would hold 2^32 entries.
+    ///
+    /// On error, `self` is unchanged.
     pub fn finish_node(&mut self) -> Result<(), GreenError>
         ensures ok { OnOk result (self.new ≡ with_closed self.old) }
         ensures fits { OnOk result (FitsNode (current_children self.old)) }
-        ensures too_long { result ≡ Err GreenError.TooLong → FitsNode (current_children self.old) → ⊥ }
+        ensures too_long { result ≡ Err GreenError.TooLong
+            → FitsNode (current_children self.old) → ⊥ }
         ensures unbalanced { (result ≡ Err GreenError.Unbalanced) ↔ (self.old.open_numbers ≡ []) }
         ensures err { OnErr result (self.new ≡ self.old) }
     {
         let Some(open) = innermost(&self.open_nodes) else {
             return Err(GreenError::Unbalanced);
         };
-        let kind = SyntaxKind(open.kind);
-        close(
-            self.alloc,
-            self.cache.get(),
-            &mut self.done,
-            kind,
-            open.first,
-        )?;
+        let root = is_root(&self.open_nodes, open);
+        close(self.alloc, &mut self.arena, &mut self.done, open, root)?;
         self.open_nodes.pop();
         Ok(())
     }
 
-    /// The place after all children that the innermost open node has now.
+    /// Returns the place after all children that the innermost open node has now.
     pub fn checkpoint(&self) -> Checkpoint
         ensures number { result.number ≡ first_or_zero self.now.open_numbers }
         ensures count { result.count ≡ length (current_children self.now) }
@@ -210,6 +227,14 @@ impl<'c> GreenNodeBuilder<'c> {
     }
 
     /// Opens a node around the children that came after the checkpoint.
+    ///
+    /// # Errors
+    ///
+    /// - [`GreenError::Unbalanced`] if [`is_checkpoint`](Self::is_checkpoint) is `false`.
+    /// - [`GreenError::TooLong`] if 2^64 - 1 nodes were started.
+    /// - [`GreenError::NoMemory`] if an allocation fails.
+    ///
+    /// On error, `self` is unchanged.
     pub fn start_node_at(
         &mut self,
         checkpoint: Checkpoint,
@@ -230,11 +255,18 @@ impl<'c> GreenNodeBuilder<'c> {
         push_open(&mut self.open_nodes, &mut self.started, kind, first)
     }
 
-    /// The tree, where it is one complete node. A refusal hands the builder back.
+    /// Returns the tree, if it is one complete node. Only a cache allocates, to keep the tree; if
+    /// that fails, the cache does not keep it.
+    ///
+    /// # Errors
+    ///
+    /// [`GreenError::Unbalanced`] with the unchanged builder if the tree is not one complete node.
     pub fn finish(self) -> Result<GreenNode, Unfinished<'c>>
         ensures ok { IfOk result (λ t. self.entry.word ≡ words (NodeOrToken.Node t ∷ [])) }
-        ensures succeeds { (t : Tree) → self.entry.word ≡ words (NodeOrToken.Node t ∷ []) → IsOk result }
-        ensures err { IfErr result (λ e. (e.error ≡ GreenError.Unbalanced) × (e.builder ≡ self.entry)) }
+        ensures succeeds { (t : Tree) → self.entry.word ≡ words (NodeOrToken.Node t ∷ [])
+            → IsOk result }
+        ensures err { IfErr result
+            (λ e. (e.error ≡ GreenError.Unbalanced) × (e.builder ≡ self.entry)) }
     {
         if !is_complete(&self.open_nodes, &self.done) {
             return Err(Unfinished {
@@ -245,31 +277,52 @@ impl<'c> GreenNodeBuilder<'c> {
         let GreenNodeBuilder {
             alloc: _,
             cache,
+            arena,
             open_nodes: _,
-            mut done,
+            done: _,
             started: _,
         } = self;
-        drop(cache);
-        match done.pop() {
-            Some(NodeOrToken::Node(node)) => Ok(node),
-            _ => unreachable!(),
+        match arena {
+            Some(arena) => Ok(share(cache, GreenNode::of_flat(FlatNode::of_last(arena)))),
+            None => unreachable!(),
         }
     }
 }
 
+/// Returns the equal tree of the cache, if there is one, else `tree`, which the cache keeps.
+fn share(cache: Option<&mut NodeCache>, tree: GreenNode) -> GreenNode
+    ensures { result ≡ tree }
+{
+    match cache {
+        Some(cache) => cache.share(tree),
+        None => tree,
+    }
+}
+
+/// Returns the innermost open node.
 fn innermost(open_nodes: &[OpenNode]) -> Option<OpenNode>
-    ensures { let os = open_nodes.now in MatchOption result (os ≡ []) (λ o. os ≡ take (length os - 1) os ++ o ∷ []) }
+    ensures { let os = open_nodes.now in
+        MatchOption result (os ≡ []) (λ o. os ≡ take (length os - 1) os ++ o ∷ []) }
 {
     open_nodes.last().copied()
 }
 
-/// Whether nothing is open, and one node is all there is.
-fn is_complete(open_nodes: &[OpenNode], done: &[GreenElement]) -> bool
-    ensures nothing_open { OnTrue result (open_nodes.now ≡ []) }
-    ensures one_node { OnTrue result ((t : Tree) × (done.now ≡ NodeOrToken.Node t ∷ [])) }
-    ensures complete { (t : Tree) → open_nodes.now ≡ [] → done.now ≡ NodeOrToken.Node t ∷ [] → result ≡ true }
+/// Returns `true` if `open` is the only open node, and all that is done are its children.
+fn is_root(open_nodes: &[OpenNode], open: OpenNode) -> bool
+    ensures whole { OnTrue result (open.first ≡ 0) }
+    ensures alone { length open_nodes.now ≡ 1 → open.first ≡ 0 → result ≡ true }
 {
-    open_nodes.is_empty() && matches!(done, [NodeOrToken::Node(_)])
+    open_nodes.len() == 1 && open.first == 0
+}
+
+/// Returns `true` if nothing is open, and one node is all that is done.
+fn is_complete(open_nodes: &[OpenNode], done: &[Entry]) -> bool
+    ensures nothing_open { OnTrue result (open_nodes.now ≡ []) }
+    ensures one_node { OnTrue result ((e : Entry) × (done.now ≡ e ∷ []) × (is_node e ≡ true)) }
+    ensures complete { (e : Entry) → open_nodes.now ≡ [] → done.now ≡ e ∷ [] → is_node e ≡ true
+        → result ≡ true }
+{
+    open_nodes.is_empty() && matches!(done, [Entry::Few(_, _, _)] | [Entry::Many(_, _)])
 }
 
 /// Opens one more node, whose children begin at `first`.
@@ -299,82 +352,82 @@ fn push_open(
     Ok(())
 }
 
-/// Makes a node of the elements from `first` on.
-fn close(
-    alloc: Global,
-    cache: &mut NodeCache,
-    done: &mut Vec<GreenElement>,
-    kind: SyntaxKind,
-    first: usize,
-) -> Result<(), GreenError>
-    requires { first ≤ length done.old.items }
-    ensures ok { OnOk result (done.new.items ≡ take first done.old.items ++ NodeOrToken.Node
-        (tree_of kind.0 (drop first done.old.items)) ∷ []) }
-    ensures fits { OnOk result (FitsNode (drop first done.old.items)) }
-    ensures refused { IfErr result (RefusesUnless (FitsNode (drop first done.old.items))) }
-    ensures err { OnErr result (done.new.items ≡ done.old.items) }
+/// Makes the arena, if there is none.
+fn make_arena(alloc: Global, arena: &mut Option<Rc<Arena>>) -> Result<(), AllocError>
+    ensures { (done : List Entry) → IsFilled arena.old done → IsSame arena.old arena.new done }
 {
-    if done.len() == first + 1 {
-        return close_one(alloc, cache, done, kind, first);
+    if arena.is_none() {
+        *arena = Some(Rc::new(alloc, Arena::new(alloc))?);
     }
-    done.reserve(1)?;
-    let small = SmallNode::of(kind.0, &done[first..]);
-    if let Some(node) = cache.node(kind, small, &done[first..]) {
-        done.truncate(first);
-        done.push(NodeOrToken::Node(node))?;
-        return Ok(());
-    }
-    cache.reserve_node(small)?;
-    let children = done.split_off(first)?;
-    match GreenNode::from_vec(alloc, kind, Fingerprint::of(small), children) {
-        Ok(node) => {
-            cache.keep_node(small, &node);
-            done.push(NodeOrToken::Node(node))?;
-            Ok(())
-        }
-        Err(mut refused) => {
-            done.append(&mut refused.children)?;
-            Err(refused.error)
-        }
-    }
-}
-
-/// Makes a node of the last element, whose number is `last`.
-fn close_one(
-    alloc: Global,
-    cache: &mut NodeCache,
-    done: &mut Vec<GreenElement>,
-    kind: SyntaxKind,
-    last: usize,
-) -> Result<(), GreenError>
-    requires { last + 1 ≡ length done.old.items }
-    ensures ok { OnOk result (done.new.items ≡ take last done.old.items ++ NodeOrToken.Node
-        (tree_of kind.0 (drop last done.old.items)) ∷ []) }
-    ensures fits { OnOk result (FitsNode (drop last done.old.items)) }
-    ensures refused { IfErr result (λ e. e ≡ GreenError.NoMemory) }
-    ensures err { OnErr result (done.new.items ≡ done.old.items) }
-{
-    let node = parent_of(alloc, cache, kind, &done[last])?;
-    done[last] = NodeOrToken::Node(node);
     Ok(())
 }
 
-/// A node of one child, an old one where the cache has it.
-fn parent_of(
+/// Appends a token to the arena, which is made if there is none.
+fn push_token(
     alloc: Global,
-    cache: &mut NodeCache,
-    kind: SyntaxKind,
-    child: &GreenElement,
-) -> Result<GreenNode, AllocError>
-    ensures ok { IfOk result (λ n. n ≡ tree_of kind.0 (child.now ∷ [])) }
-    ensures fits { OnOk result (FitsNode (child.now ∷ [])) }
+    arena: &mut Option<Rc<Arena>>,
+    done: &mut Vec<Entry>,
+    kind: u16,
+    text: &str,
+) -> Result<(), AllocError>
+    requires { IsFilled arena.old done.old.items }
+    ensures filled { IsFilled arena.new done.new.items }
+    ensures ok { OnOk result (terms_done arena.new done.new.items
+        ≡ terms_done arena.old done.old.items
+        ++ Token (record { kind = kind; text = text.now }) ∷ []) }
+    ensures err { OnErr result
+        (terms_done arena.new done.new.items ≡ terms_done arena.old done.old.items) }
+    ensures rooted { OnErr result (IsRooted arena.old done.old.items
+        → IsRooted arena.new done.new.items) }
 {
-    let small = SmallNode::of_one(kind.0, child);
-    if let Some(node) = cache.node_of_one(kind, small, child) {
-        return Ok(node);
+    make_arena(alloc, arena)?;
+    let Some(shared) = arena else {
+        return Err(AllocError);
+    };
+    let Some(arena) = Rc::get_mut(shared) else {
+        return Err(AllocError);
+    };
+    arena.push_token(done, kind, text)
+}
+
+/// Closes an open node, whose children are `done[open.first..]`. A root becomes the last entry of
+/// the arena.
+fn close(
+    alloc: Global,
+    arena: &mut Option<Rc<Arena>>,
+    done: &mut Vec<Entry>,
+    open: OpenNode,
+    is_root: bool,
+) -> Result<(), GreenError>
+    requires filled { IsFilled arena.old done.old.items }
+    requires within { open.first ≤ length done.old.items }
+    requires whole { OnTrue is_root (open.first ≡ 0) }
+    ensures filled { IsFilled arena.new done.new.items }
+    ensures ok { OnOk result (terms_done arena.new done.new.items
+        ≡ take open.first (terms_done arena.old done.old.items)
+        ++ Node (tree_of open.kind (drop open.first (terms_done arena.old done.old.items))) ∷ []) }
+    ensures fits { OnOk result
+        (FitsNode (drop open.first (terms_done arena.old done.old.items))) }
+    ensures refused { IfErr result
+        (RefusesUnless (FitsNode (drop open.first (terms_done arena.old done.old.items)))) }
+    ensures rooted { OnOk result (OnTrue is_root (IsRooted arena.new done.new.items)) }
+    ensures err { OnErr result
+        (terms_done arena.new done.new.items ≡ terms_done arena.old done.old.items) }
+{
+    if done.len() - open.first > MOST {
+        return Err(GreenError::TooLong);
     }
-    cache.reserve_node(small)?;
-    let node = GreenNode::of_one(alloc, kind, Fingerprint::of(small), child.clone()?)?;
-    cache.keep_node(small, &node);
-    Ok(node)
+    make_arena(alloc, arena)?;
+    let Some(shared) = arena else {
+        return Err(GreenError::NoMemory);
+    };
+    let Some(arena) = Rc::get_mut(shared) else {
+        return Err(GreenError::NoMemory);
+    };
+    if is_root {
+        arena.close_root(done, open.kind)?;
+    } else {
+        arena.close(done, open.kind, open.first)?;
+    }
+    Ok(())
 }

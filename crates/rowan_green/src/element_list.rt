@@ -1,18 +1,21 @@
-//! The children of a node: a balanced tree over blocks of them, whose parts lists share.
+//! The children of a node: a balanced tree over blocks of them and runs of an arena's entries, whose
+//! parts lists share.
 ghost use Rattle.std.specs.Prelude.{◌≡◌, ◌≢◌, ◌+◌, ◌*◌, ◌<◌, ◌≤◌, ◌^◌, ◌++◌, max, length, slice_get, slice_index_or, take, IfOk, IfSome, OnOk, MatchOption, drop, [], ◌∷◌};
-ghost use Rattle.std.specs.Option.{option_copied};
 ghost use Rattle.rowan_green.specs.Forest.{tree_count, forest_count};
 ghost use Rattle.rowan_green.specs.Term.{forest_of, texts_of, FitsNode};
 ghost use Rattle.rowan_green.specs.ChildAt.{IsChildAt};
 ghost use Rattle.rowan_green.specs.Balanced.{fewest, IsJoined};
+ghost use Rattle.rowan_green.specs.Run.{HasHeight};
 
 use crate::element::GreenElement;
+use crate::element_clones::{clones, push_clones};
+use crate::element_ref::GreenElementRef;
 use crate::element_search::{Place, find_in_block, longest_node};
 use crate::node::GreenNode;
+use crate::run::Run;
 use std::alloc::{AllocError, Global};
 use std::marker::Model;
 use std::rc::Rc;
-use std::slice;
 
 /// The most elements of a block.
 pub(crate) const MOST: usize = 16;
@@ -27,7 +30,7 @@ pub(crate) struct ElementList {
     link: Link,
 }
 
-/// One element, a block, or two lists with the count of their elements and their height; of the
+/// One element, a block, a run, or two lists with the count of their elements and their height; of the
 /// latter two first the length of the text before the middle, which takes no room of its own beside
 /// the mark of the variant.
 #[cycle(green)]
@@ -35,6 +38,7 @@ pub(crate) struct ElementList {
 enum Link {
     One(GreenElement),
     Block(u32, Vec<GreenElement>),
+    Run(Run),
     Fork(u32, Rc<Part>, Rc<Part>, u32, u8),
 }
 
@@ -62,7 +66,7 @@ impl Model for ElementList {
 
     ghost invariant = { λ a. IsSummed a.link };
 
-    ghost size = { λ d. 2 * forest_count (forest_of d.0) + 1 };
+    ghost size = { λ d. 3 * forest_count (forest_of d.0) + 2 };
 
     ghost use Rattle.rowan_green.specs.Falls.{falls};
 
@@ -83,7 +87,7 @@ impl Model for Part {
 
     ghost invariant = { λ a. a.text_len ≡ length (texts_of a.list.0) };
 
-    ghost size = { λ d. 2 * forest_count (forest_of d.0) + 2 };
+    ghost size = { λ d. 3 * forest_count (forest_of d.0) + 3 };
 
     ghost use Rattle.std.proofs.Common.{arith};
 
@@ -99,6 +103,7 @@ impl ElementList {
         match &self.link {
             Link::One(_) => 1,
             Link::Block(_, elements) => elements.len(),
+            Link::Run(run) => run.len(),
             Link::Fork(_, _, _, count, _) => *count as usize,
         }
     }
@@ -113,52 +118,39 @@ impl ElementList {
         match &self.link {
             Link::One(_) => 0,
             Link::Block(_, _) => 0,
+            Link::Run(run) => run.height(),
             Link::Fork(_, _, _, _, height) => *height,
         }
     }
 
-    /// The two sides of a list that is no block.
-    pub(crate) fn sides(&self) -> Option<(&Rc<Part>, &Rc<Part>)>
-        ensures { MatchOption result ((self.now.1 ≡ 0) × (length self.now.0 ≤ 16))
-            (λ s. IsJoined self.now s.0.now.value s.1.now.value) }
+    /// Returns the two sides of a list of more than one level: of a fork those below it, of a run
+    /// its halves. Returns `None` for a list of at most 16 elements that has no levels below it.
+    ///
+    /// # Errors
+    ///
+    /// `AllocError` if an allocation fails.
+    pub(crate) fn sides(&self, alloc: Global) -> Result<Option<(Rc<Part>, Rc<Part>)>, AllocError>
+        ensures { IfOk result (λ sides. MatchOption sides
+            ((self.now.1 ≡ 0) × (length self.now.0 ≤ 16))
+            (λ s. IsJoined self.now s.0.value s.1.value)) }
     {
         match &self.link {
-            Link::One(_) => None,
-            Link::Block(_, _) => None,
-            Link::Fork(_, left, right, _, _) => Some((left, right)),
-        }
-    }
-
-    /// The elements, where they are few.
-    pub(crate) fn as_block(&self) -> Option<&[GreenElement]>
-        ensures { IfSome result (λ s. s.now ≡ self.now.0) }
-    {
-        match &self.link {
-            Link::One(element) => Some(slice::from_ref(element)),
-            Link::Block(_, elements) => Some(elements),
-            Link::Fork(_, _, _, _, _) => None,
-        }
-    }
-
-    /// The element, where the list is kept as one alone.
-    pub(crate) fn as_one(&self) -> Option<&GreenElement>
-        ensures { IfSome result (λ e. self.now.0 ≡ e.now ∷ []) }
-    {
-        match &self.link {
-            Link::One(element) => Some(element),
-            Link::Block(_, _) => None,
-            Link::Fork(_, _, _, _, _) => None,
+            Link::One(_) => Ok(None),
+            Link::Block(_, _) => Ok(None),
+            Link::Run(run) => run_sides(alloc, run),
+            Link::Fork(_, left, right, _, _) => Ok(Some((left.clone()?, right.clone()?))),
         }
     }
 
     /// The element of this number.
-    pub(crate) fn at(&self, index: usize) -> &GreenElement
+    pub(crate) fn at(&self, index: usize) -> GreenElementRef<'_>
         requires { index < length self.now.0 }
-        ensures { result.now ≡ slice_index_or self.now.0 index result.now }
+        ensures { result ≡ slice_index_or self.now.0 index result }
     {
         match &self.link {
-            Link::One(element) => element,
-            Link::Block(_, elements) => &elements[index],
+            Link::One(element) => GreenElementRef::of(element),
+            Link::Block(_, elements) => GreenElementRef::of(&elements[index]),
+            Link::Run(run) => run.at(index),
             Link::Fork(_, left, right, _, _) => {
                 let before = left.len();
                 if index < before {
@@ -170,8 +162,8 @@ impl ElementList {
         }
     }
 
-    pub(crate) fn get(&self, index: usize) -> Option<&GreenElement>
-        ensures { option_copied result ≡ slice_get self.now.0 index }
+    pub(crate) fn get(&self, index: usize) -> Option<GreenElementRef<'_>>
+        ensures { result ≡ slice_get self.now.0 index }
     {
         if index < self.len() {
             Some(self.at(index))
@@ -188,6 +180,7 @@ impl ElementList {
         match &self.link {
             Link::One(_) => 0,
             Link::Block(_, elements) => text_sum(&elements[..index]),
+            Link::Run(run) => run.start_of(index),
             Link::Fork(half, left, right, _, _) => {
                 let before = left.len();
                 if index < before {
@@ -214,6 +207,7 @@ impl ElementList {
                 looks: 1,
             },
             Link::Block(half, elements) => find_in_block(elements, *half, offset),
+            Link::Run(run) => run.place_at(offset),
             Link::Fork(half, left, right, _, _) => {
                 if offset < *half {
                     left.list().find(offset).further(0, 0)
@@ -226,22 +220,9 @@ impl ElementList {
 }
 
 impl ElementList {
-    /// The elements of a list that is one block.
-    pub(crate) fn into_block(self) -> Vec<GreenElement>
-        requires low { self.1 ≡ 0 }
-        requires not_one { length self.0 ≢ 1 }
-        ensures { result.items ≡ self.0 }
-    {
-        match self.link {
-            Link::Block(_, elements) => elements,
-            Link::One(_) => unreachable!(),
-            Link::Fork(_, _, _, _, _) => unreachable!(),
-        }
-    }
-
     /// Drops the elements except one node, which it returns: of a fork it drops the side with the
     /// shorter text, of a block all but the node with the longest text. Returns `None` if no node
-    /// is left, or if another list shares the side that is left.
+    /// is left, as of a run, or if another list shares the side that is left.
     #[cycle(node_drop)]
     pub(crate) fn into_longest(self) -> Option<GreenNode>
         ensures { IfSome result (λ n. tree_count n ≤ forest_count (forest_of self.0)) }
@@ -252,6 +233,7 @@ impl ElementList {
             match link {
                 Link::One(element) => return element.into_node(),
                 Link::Block(_, elements) => return longest_node(elements),
+                Link::Run(_) => return None,
                 Link::Fork(_, left, right, _, _) => {
                     let (long, short) = if left.text_len() < right.text_len() {
                         (right, left)
@@ -273,8 +255,8 @@ impl ElementList {
     pub(crate) fn copy(&self, alloc: Global) -> Result<Part, AllocError>
         ensures { IfOk result (λ l. l ≡ self.now) }
     {
-        match self.sides() {
-            Some((left, right)) => Ok(Part::fork(left.clone()?, right.clone()?)),
+        match self.sides(alloc)? {
+            Some((left, right)) => Ok(Part::fork(left, right)),
             None => {
                 let mut elements = Vec::with_capacity(alloc, self.len())?;
                 push_clones(&mut elements, self, 0, self.len())?;
@@ -315,12 +297,13 @@ impl Part {
         self.list.height()
     }
 
-    /// The two sides of a list that is no block.
-    pub(crate) fn sides(&self) -> Option<(&Rc<Part>, &Rc<Part>)>
-        ensures { MatchOption result ((self.now.1 ≡ 0) × (length self.now.0 ≤ 16))
-            (λ s. IsJoined self.now s.0.now.value s.1.now.value) }
+    /// Returns the two sides of a list of more than one level, as [`ElementList::sides`] does.
+    pub(crate) fn sides(&self, alloc: Global) -> Result<Option<(Rc<Part>, Rc<Part>)>, AllocError>
+        ensures { IfOk result (λ sides. MatchOption sides
+            ((self.now.1 ≡ 0) × (length self.now.0 ≤ 16))
+            (λ s. IsJoined self.now s.0.value s.1.value)) }
     {
-        self.list.sides()
+        self.list.sides(alloc)
     }
 
     /// The length of its text, and the list alone.
@@ -374,6 +357,19 @@ impl Part {
         Part { text_len, list }
     }
 
+    /// The list of the elements of a run.
+    pub(crate) fn run(run: Run) -> Part
+        requires fits { FitsNode run.0 }
+        requires height { HasHeight (length run.0) run.1 }
+        ensures { result ≡ run }
+    {
+        let text_len = run.text_len();
+        let list = ElementList {
+            link: Link::Run(run),
+        };
+        Part { text_len, list }
+    }
+
     /// The elements of two lists that are about as high.
     pub(crate) fn fork(left: Rc<Part>, right: Rc<Part>) -> Part
         requires left { 8 ≤ length left.value.0 }
@@ -409,6 +405,22 @@ impl Part {
         Ok(Part::fork(left, right))
     }
 
+    /// Returns the list of these elements.
+    ///
+    /// # Errors
+    ///
+    /// `AllocError` if an allocation fails.
+    pub(crate) fn from_vec(alloc: Global, elements: Vec<GreenElement>) -> Result<Part, AllocError>
+        requires { FitsNode elements.items }
+        ensures { IfOk result (λ l. l.0 ≡ elements.items) }
+    {
+        if elements.len() <= MOST {
+            Ok(Part::few(elements))
+        } else {
+            Part::of_many(alloc, &elements)
+        }
+    }
+
     /// The list of clones of these elements.
     pub(crate) fn of(alloc: Global, elements: &[GreenElement]) -> Result<Part, AllocError>
         requires { FitsNode elements.now }
@@ -431,8 +443,24 @@ impl Part {
     }
 }
 
+/// Returns the two sides of a run, as [`ElementList::sides`] does.
+fn run_sides(alloc: Global, run: &Run) -> Result<Option<(Rc<Part>, Rc<Part>)>, AllocError>
+    requires { FitsNode run.now.0 }
+    ensures { IfOk result (λ sides. MatchOption sides
+        ((run.now.1 ≡ 0) × (length run.now.0 ≤ 16))
+        (λ s. IsJoined run.now s.0.value s.1.value)) }
+{
+    if run.height() == 0 {
+        return Ok(None);
+    }
+    let (front, back) = run.halves()?;
+    let left = Rc::new(alloc, Part::run(front))?;
+    let right = Rc::new(alloc, Part::run(back))?;
+    Ok(Some((left, right)))
+}
+
 /// Returns the number of levels of forks above the blocks of a list of `count` elements.
-fn height_for(count: usize) -> u8
+pub(crate) fn height_for(count: usize) -> u8
     requires many { 8 ≤ count }
     requires fits { count < 2 ^ 32 }
     ensures many { 8 * 2 ^ result ≤ count }
@@ -458,32 +486,4 @@ fn text_sum(elements: &[GreenElement]) -> u32
         sum += element.text_len().0;
     }
     sum
-}
-
-/// Clones of these elements.
-fn clones(alloc: Global, elements: &[GreenElement]) -> Result<Vec<GreenElement>, AllocError>
-    ensures { IfOk result (λ v. v.items ≡ elements.now) }
-{
-    let mut all = Vec::with_capacity(alloc, elements.len())?;
-    for element in elements {
-        all.push(element.clone()?)?;
-    }
-    Ok(all)
-}
-
-/// Adds clones of the elements from `start` to before `end`.
-pub(crate) fn push_clones(
-    to: &mut Vec<GreenElement>,
-    from: &ElementList,
-    start: usize,
-    end: usize,
-) -> Result<(), AllocError>
-    requires ordered { start ≤ end }
-    requires in_bounds { end ≤ length from.now.0 }
-    ensures { OnOk result (to.new.items ≡ to.old.items ++ drop start (take end from.now.0)) }
-{
-    for index in start..end {
-        to.push(from.at(index).clone()?)?;
-    }
-    Ok(())
 }

@@ -6,7 +6,8 @@ ghost use Rattle.rowan_green.specs.Refusal.{RefusesUnless};
 ghost use Rattle.rowan_green.specs.Balanced.{CanJoin, join, IsJoinHeight};
 
 use crate::element::GreenElement;
-use crate::element_list::{ElementList, FEWEST, MOST, Part, push_clones};
+use crate::element_clones::push_clones;
+use crate::element_list::{ElementList, FEWEST, MOST, Part};
 use crate::error::GreenError;
 use std::alloc::{AllocError, Global};
 use std::rc::Rc;
@@ -29,18 +30,18 @@ fn lean_left(alloc: Global, left: &Rc<Part>, right: &Rc<Part>) -> Result<Rc<Part
     ensures not_lower { IfOk result (λ l. left.now.value.1 ≤ l.value.1) }
     ensures not_higher { IfOk result (λ l. l.value.1 ≤ left.now.value.1 + 1) }
 {
-    let Some((outer, inner)) = left.sides() else {
+    let Some((outer, inner)) = left.sides(alloc)? else {
         unreachable!()
     };
     if outer.height() >= inner.height() {
-        let below = forked(alloc, inner, right)?;
-        return forked(alloc, outer, &below);
+        let below = forked(alloc, &inner, right)?;
+        return forked(alloc, &outer, &below);
     }
-    let Some((front, back)) = inner.sides() else {
+    let Some((front, back)) = inner.sides(alloc)? else {
         unreachable!()
     };
-    let below_left = forked(alloc, outer, front)?;
-    let below_right = forked(alloc, back, right)?;
+    let below_left = forked(alloc, &outer, &front)?;
+    let below_right = forked(alloc, &back, right)?;
     forked(alloc, &below_left, &below_right)
 }
 
@@ -53,18 +54,18 @@ fn lean_right(alloc: Global, left: &Rc<Part>, right: &Rc<Part>) -> Result<Rc<Par
     ensures not_lower { IfOk result (λ l. right.now.value.1 ≤ l.value.1) }
     ensures not_higher { IfOk result (λ l. l.value.1 ≤ right.now.value.1 + 1) }
 {
-    let Some((inner, outer)) = right.sides() else {
+    let Some((inner, outer)) = right.sides(alloc)? else {
         unreachable!()
     };
     if outer.height() >= inner.height() {
-        let below = forked(alloc, left, inner)?;
-        return forked(alloc, &below, outer);
+        let below = forked(alloc, left, &inner)?;
+        return forked(alloc, &below, &outer);
     }
-    let Some((front, back)) = inner.sides() else {
+    let Some((front, back)) = inner.sides(alloc)? else {
         unreachable!()
     };
-    let below_left = forked(alloc, left, front)?;
-    let below_right = forked(alloc, back, outer)?;
+    let below_left = forked(alloc, left, &front)?;
+    let below_right = forked(alloc, &back, &outer)?;
     forked(alloc, &below_left, &below_right)
 }
 
@@ -130,18 +131,18 @@ pub(crate) fn joined(
         return merged(alloc, left, right);
     }
     if left_height > right_height + 1 || right.len() < FEWEST {
-        let Some((outer, inner)) = left.sides() else {
+        let Some((outer, inner)) = left.sides(alloc)? else {
             unreachable!()
         };
-        let seam = joined(alloc, inner, right)?;
-        return balanced(alloc, outer, &seam);
+        let seam = joined(alloc, &inner, right)?;
+        return balanced(alloc, &outer, &seam);
     }
     if right_height > left_height + 1 || left.len() < FEWEST {
-        let Some((inner, outer)) = right.sides() else {
+        let Some((inner, outer)) = right.sides(alloc)? else {
             unreachable!()
         };
-        let seam = joined(alloc, left, inner)?;
-        return balanced(alloc, &seam, outer);
+        let seam = joined(alloc, left, &inner)?;
+        return balanced(alloc, &seam, &outer);
     }
     forked(alloc, left, right)
 }
@@ -172,15 +173,15 @@ pub(crate) fn first(alloc: Global, list: &Rc<Part>, count: usize) -> Result<Rc<P
     if count == list.len() {
         return list.clone();
     }
-    let Some((left, right)) = list.sides() else {
+    let Some((left, right)) = list.sides(alloc)? else {
         return part_of_block(alloc, list, 0, count);
     };
     let before = left.len();
     if count <= before {
-        return first(alloc, left, count);
+        return first(alloc, &left, count);
     }
-    let more = first(alloc, right, count - before)?;
-    joined(alloc, left, &more)
+    let more = first(alloc, &right, count - before)?;
+    joined(alloc, &left, &more)
 }
 
 /// The elements of a list from this number on.
@@ -191,15 +192,15 @@ pub(crate) fn last(alloc: Global, list: &Rc<Part>, start: usize) -> Result<Rc<Pa
     if start == 0 {
         return list.clone();
     }
-    let Some((left, right)) = list.sides() else {
+    let Some((left, right)) = list.sides(alloc)? else {
         return part_of_block(alloc, list, start, list.len());
     };
     let before = left.len();
     if start >= before {
-        return last(alloc, right, start - before);
+        return last(alloc, &right, start - before);
     }
-    let more = last(alloc, left, start)?;
-    joined(alloc, &more, right)
+    let more = last(alloc, &left, start)?;
+    joined(alloc, &more, &right)
 }
 
 /// The list with the elements from `start` to before `end` replaced by those of `middle`.
@@ -214,7 +215,8 @@ pub(crate) fn splice(
     requires in_bounds { end ≤ length list.now.0 }
     ensures ok { IfOk result (λ l. l.0 ≡ spliced list.now.0 start end middle.now.value.0) }
     ensures fits { OnOk result (FitsNode (spliced list.now.0 start end middle.now.value.0)) }
-    ensures refused { IfErr result (RefusesUnless (FitsNode (spliced list.now.0 start end middle.now.value.0))) }
+    ensures refused { IfErr result
+        (RefusesUnless (FitsNode (spliced list.now.0 start end middle.now.value.0))) }
 {
     let whole = Rc::new(alloc, list.copy(alloc)?)?;
     let front = first(alloc, &whole, start)?;

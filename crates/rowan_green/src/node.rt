@@ -1,61 +1,64 @@
 //! Nodes: a kind and children, shared by all that hold the node.
-ghost use Rattle.std.specs.Prelude.{ℕ, ◌≡◌, ◌≢◌, [], ◌∷◌, ◌*◌, ◌↔◌, ◌+◌, ◌<◌, ◌≤◌, ◌^◌, length, take, IsSome, IfSome, IfOk, IfErr, OnOk, MatchOption, List, slice_get, option_map};
+ghost use Rattle.std.specs.Prelude.{ℕ, ◌≡◌, ◌*◌, ◌↔◌, ◌+◌, ◌<◌, ◌≤◌, ◌^◌, length, take, IsSome, IfSome, IfOk, IfErr, OnOk, MatchOption, List, slice_get};
 ghost use Rattle.std.specs.Option.{SomeIff};
 ghost use Rattle.std.specs.Iterator.{IsFinite, Drains};
 ghost use Rattle.rowan_green.specs.Forest.{tree_text};
 ghost use Rattle.rowan_green.specs.Term.{Term, texts_of, tree_of, children_of, FitsNode};
-ghost use Rattle.rowan_green.specs.Referred.{referred_term};
 ghost use Rattle.rowan_green.specs.ChildAt.{IsChildAt};
 ghost use Rattle.rowan_green.specs.Refusal.{RefusesUnless};
 
+use crate::arena::Arena;
 use crate::child_at::ChildAt;
 use crate::element::GreenElement;
-use crate::element_list::{ElementList, MOST, Part};
+use crate::element_list::{MOST, Part};
 use crate::element_ref::GreenElementRef;
 use crate::equality::same_node;
 use crate::error::GreenError;
-use crate::fingerprint::{self, Fingerprint, SmallNode};
+use crate::flat_node::FlatNode;
 use crate::node_children::Children;
+use crate::node_data::NodeData;
 use crate::node_hash::hash_child;
 use crate::syntax_kind::SyntaxKind;
 use crate::text_size::TextSize;
-use crate::utility_types::NodeOrToken;
 use std::alloc::{AllocError, Global};
 use std::hash::{Hash, Hasher};
 use std::marker::Model;
 use std::rc::Rc;
 
+/// A node of an arena, by the number of its entry; or a node with a list of children of its own.
 #[cycle(green)]
 #[derive(Drop)]
-struct NodeData {
-    kind: u16,
-    fingerprint: Fingerprint,
-    text_len: u32,
-    children: ElementList,
+pub(crate) enum NodeForm {
+    Flat(u32, Rc<Arena>),
+    Data(Rc<NodeData>),
 }
 
-// (with the two counts of an `Rc` 56 bytes, which is what the allocator has in one of its sizes)
-const _: () = prove!(size_of::<NodeData>() == 40);
-
-/// A node of a green tree. A clone shares the kind and the children; cloning does not allocate.
+/// A node of a green tree. A clone shares the kind and the children; cloning does not allocate. A
+/// node that a builder made keeps the whole tree alive.
 #[cycle(green)]
 pub struct GreenNode {
-    shared: Rc<NodeData>,
+    pub(crate) form: NodeForm,
 }
 
+const _: () = prove!(size_of::<GreenNode>() == 16);
+
 // A loop goes on with one child, and only the other children are dropped by calls. Those have at
-// most half of the node's text each, so the calls nest to the logarithm of the text's length.
+// most half of the node's text each, so the calls nest to the logarithm of the text's length. A node
+// of an arena ends the loop: its children are numbers.
 impl Drop for GreenNode {
     #[cycle(node_drop)]
     fn drop(mut self) {
         'down: loop {
-            let GreenNode { shared } = self;
+            let GreenNode { form } = self;
+            let shared = match form {
+                NodeForm::Flat(_, _) => return,
+                NodeForm::Data(shared) => shared,
+            };
             let Some(data) = Rc::into_inner(shared) else {
                 return;
             };
             let NodeData {
                 kind: _,
-                fingerprint: _,
                 text_len: _,
                 children,
             } = data;
@@ -68,33 +71,24 @@ impl Drop for GreenNode {
 }
 
 impl Model for GreenNode {
-    ghost use Rattle.std.specs.Prelude.{◌≡◌, ◌*◌};
+    ghost use Rattle.std.specs.Prelude.{◌*◌, ◌+◌};
     ghost use Rattle.rowan_green.specs.Forest.{Tree, tree_code, tree_count};
 
     ghost Value = { Tree };
 
     ghost coded = { tree_code };
 
-    ghost use Rattle.std.specs.Prelude.{length};
-    ghost use Rattle.rowan_green.specs.Term.{tree_of, texts_of, FitsNode};
+    ghost use Rattle.rowan_green.specs.NodeForm.{form_tree, IsNodeForm};
 
-    ghost view = { λ a. tree_of a.shared.value.kind a.shared.value.children.0 };
+    ghost view = { λ a. form_tree a.form };
 
-    ghost invariant = { λ a. FitsNode a.shared.value.children.0
-        × (a.shared.value.text_len ≡ length (texts_of a.shared.value.children.0)) };
+    ghost invariant = { λ a. IsNodeForm a.form };
 
-    ghost size = { λ t. 2 * tree_count t };
+    ghost size = { λ t. 3 * tree_count t + 1 };
 
-    ghost use Rattle.std.proofs.Common.{arith};
+    ghost use Rattle.rowan_green.specs.Falls.{form_falls};
 
-    ghost size_decreases = { λ a h. Prim.omega arith };
-}
-
-/// A refusal to make a node, with the children that it would have had.
-#[derive(Drop)]
-pub(crate) struct RefusedChildren {
-    pub(crate) error: GreenError,
-    pub(crate) children: Vec<GreenElement>,
+    ghost size_decreases = { λ a h. form_falls a.form };
 }
 
 impl GreenNode {
@@ -113,95 +107,36 @@ impl GreenNode {
     {
         let children = collected(alloc, children)?;
         let children = trim(alloc, children)?;
-        let fingerprint = Fingerprint::of(SmallNode::of(kind.0, &children));
-        match GreenNode::from_vec(alloc, kind, fingerprint, children) {
-            Ok(node) => Ok(node),
-            Err(refused) => Err(refused.error),
-        }
+        GreenNode::from_vec(alloc, kind, children)
     }
 
-    /// The node of these children. A refusal gives them back.
+    /// Returns the node of these children.
+    ///
+    /// # Errors
+    ///
+    /// - [`GreenError::TooLong`] if a node cannot have these children.
+    /// - [`GreenError::NoMemory`] if an allocation fails.
     pub(crate) fn from_vec(
         alloc: Global,
         kind: SyntaxKind,
-        fingerprint: Fingerprint,
         children: Vec<GreenElement>,
-    ) -> Result<GreenNode, RefusedChildren>
+    ) -> Result<GreenNode, GreenError>
         ensures ok { IfOk result (λ n. n ≡ tree_of kind.0 children.items) }
         ensures fits { OnOk result (FitsNode children.items) }
-        ensures refused { IfErr result (λ r. RefusesUnless (FitsNode children.items) r.error) }
-        ensures returned { IfErr result (λ r. r.children.items ≡ children.items) }
+        ensures refused { IfErr result (RefusesUnless (FitsNode children.items)) }
     {
         if fitting_len(&children).is_none() {
-            return Err(RefusedChildren {
-                error: GreenError::TooLong,
-                children,
-            });
+            return Err(GreenError::TooLong);
         }
-        if children.len() <= MOST && children.len() != 1 {
-            return GreenNode::of_few(alloc, kind, fingerprint, children);
-        }
-        match GreenNode::of_clones(alloc, kind, fingerprint, &children) {
-            Ok(node) => Ok(node),
-            Err(_) => Err(RefusedChildren {
-                error: GreenError::NoMemory,
-                children,
-            }),
-        }
+        let list = Part::from_vec(alloc, children)?;
+        Ok(GreenNode::of_list(alloc, kind, list)?)
     }
 
-    /// The node of one child.
-    pub(crate) fn of_one(
-        alloc: Global,
-        kind: SyntaxKind,
-        fingerprint: Fingerprint,
-        child: GreenElement,
-    ) -> Result<GreenNode, AllocError>
-        ensures ok { IfOk result (λ n. n ≡ tree_of kind.0 (child ∷ [])) }
-        ensures fits { OnOk result (FitsNode (child ∷ [])) }
-    {
-        let (text_len, children) = Part::one(child).into_list();
-        let data = NodeData {
-            kind: kind.0,
-            fingerprint,
-            text_len,
-            children,
-        };
-        let shared = Rc::new(alloc, data)?;
-        Ok(GreenNode { shared })
-    }
-
-    /// The node of at most 16 children, and not of one.
-    fn of_few(
-        alloc: Global,
-        kind: SyntaxKind,
-        fingerprint: Fingerprint,
-        children: Vec<GreenElement>,
-    ) -> Result<GreenNode, RefusedChildren>
-        requires not_one { length children.items ≢ 1 }
-        requires few { length children.items ≤ 16 }
-        requires fits { FitsNode children.items }
-        ensures ok { IfOk result (λ n. n ≡ tree_of kind.0 children.items) }
-        ensures refused { IfErr result (λ r. r.error ≡ GreenError.NoMemory) }
-        ensures returned { IfErr result (λ r. r.children.items ≡ children.items) }
-    {
-        let (text_len, children) = Part::block(children).into_list();
-        let data = NodeData {
-            kind: kind.0,
-            fingerprint,
-            text_len,
-            children,
-        };
-        match Rc::new(alloc, data) {
-            Ok(shared) => Ok(GreenNode { shared }),
-            Err(refused) => Err(RefusedChildren {
-                error: GreenError::NoMemory,
-                children: refused.value.children.into_block(),
-            }),
-        }
-    }
-
-    /// The node of many children.
+    /// Returns the node of a list of children.
+    ///
+    /// # Errors
+    ///
+    /// `AllocError` if an allocation fails.
     pub(crate) fn of_list(
         alloc: Global,
         kind: SyntaxKind,
@@ -209,75 +144,34 @@ impl GreenNode {
     ) -> Result<GreenNode, AllocError>
         ensures { IfOk result (λ n. n ≡ tree_of kind.0 children.0) }
     {
-        let (text_len, children) = children.into_list();
-        let data = NodeData {
-            kind: kind.0,
-            fingerprint: fingerprint::LARGE,
-            text_len,
-            children,
-        };
-        let shared = Rc::new(alloc, data)?;
-        Ok(GreenNode { shared })
+        let data = Rc::new(alloc, NodeData::of(kind, children))?;
+        Ok(GreenNode {
+            form: NodeForm::Data(data),
+        })
     }
 
-    /// The node of clones of one child, or of many children.
-    fn of_clones(
-        alloc: Global,
-        kind: SyntaxKind,
-        fingerprint: Fingerprint,
-        children: &[GreenElement],
-    ) -> Result<GreenNode, AllocError>
-        requires one_or_many { length children.now ≤ 7 → length children.now ≡ 1 }
-        requires fits { FitsNode children.now }
-        ensures { IfOk result (λ n. n ≡ tree_of kind.0 children.now) }
+    /// Returns a node of an arena as a green node.
+    pub(crate) fn of_flat(node: FlatNode) -> GreenNode
+        ensures { result ≡ node }
     {
-        if let [child] = children {
-            return GreenNode::of_one(alloc, kind, fingerprint, child.clone()?);
+        let FlatNode { index, arena } = node;
+        GreenNode {
+            form: NodeForm::Flat(index, arena),
         }
-        GreenNode::of_list(alloc, kind, Part::of_many(alloc, children)?)
     }
 
     /// Its kind.
     pub fn kind(&self) -> SyntaxKind
         ensures { result.0 ≡ self.now.kind }
     {
-        SyntaxKind(self.shared.kind)
+        self.as_ref().kind()
     }
 
     /// The length of the text of all tokens below the node.
     pub fn text_len(&self) -> TextSize
         ensures { result.0 ≡ length (tree_text self.now) }
     {
-        TextSize(self.shared.text_len)
-    }
-
-    pub(crate) fn fingerprint(&self) -> Fingerprint {
-        self.shared.fingerprint
-    }
-}
-
-impl GreenNode {
-    pub(crate) fn elements(&self) -> &ElementList
-        ensures children { result.now.0 ≡ children_of self.now }
-        ensures fits { FitsNode (children_of self.now) }
-    {
-        &self.shared.children
-    }
-
-    /// The children, where they are few.
-    pub(crate) fn few_elements(&self) -> Option<&[GreenElement]>
-        ensures children { IfSome result (λ s. s.now ≡ children_of self.now) }
-        ensures fits { FitsNode (children_of self.now) }
-    {
-        self.elements().as_block()
-    }
-
-    /// The child, where it is one that the node holds in place.
-    pub(crate) fn only_element(&self) -> Option<&GreenElement>
-        ensures child { IfSome result (λ e. children_of self.now ≡ e.now ∷ []) }
-        ensures fits { FitsNode (children_of self.now) }
-    {
-        self.elements().as_one()
+        self.as_ref().text_len()
     }
 
     /// The children in order, nodes and tokens.
@@ -285,14 +179,14 @@ impl GreenNode {
         ensures children { result ≡ children_of self.now }
         ensures count { length (children_of self.now) < 2 ^ 32 }
     {
-        Children::of(self.elements())
+        self.as_ref().children()
     }
 
     /// The child of this number, counted from 0, nodes and tokens alike.
     pub fn child(&self, index: usize) -> Option<GreenElementRef<'_>>
-        ensures { option_map referred_term result ≡ slice_get (children_of self.now) index }
+        ensures { result ≡ slice_get (children_of self.now) index }
     {
-        self.elements().get(index).map(GreenElementRef::of)
+        self.as_ref().child(index)
     }
 
     /// Returns the offset of the child's text in the node's text, or `None` if the node has no child
@@ -301,12 +195,7 @@ impl GreenNode {
         ensures { MatchOption result (length (children_of self.now) ≤ index)
             (λ start. start.0 ≡ length (texts_of (take index (children_of self.now)))) }
     {
-        let children = self.elements();
-        if index < children.len() {
-            Some(TextSize(children.start_of(index)))
-        } else {
-            None
-        }
+        self.as_ref().child_start(index)
     }
 
     /// The child whose text has the byte at this offset; none from the length of the text on. It
@@ -314,21 +203,13 @@ impl GreenNode {
     /// the count of children has binary digits, and two.
     pub fn child_at_offset(&self, offset: TextSize) -> Option<ChildAt>
         ensures found { IsSome result ↔ (offset.0 < length (tree_text self.now)) }
-        ensures child { IfSome result (λ c. IsChildAt (children_of self.now) offset.0 c.index c.start.0) }
+        ensures child { IfSome result
+            (λ c. IsChildAt (children_of self.now) offset.0 c.index c.start.0) }
         ensures counted { IfSome result (λ c. 1 ≤ c.looks) }
         ensures looks { (digits : ℕ) → length (children_of self.now) < 2 ^ digits →
             IfSome result (λ c. c.looks ≤ 2 * digits + 2) }
     {
-        let children = self.elements();
-        if offset.0 >= self.text_len().0 {
-            return None;
-        }
-        let place = children.find(offset.0);
-        Some(ChildAt {
-            index: place.index,
-            start: TextSize(place.start),
-            looks: place.looks + 1,
-        })
+        self.as_ref().child_at_offset(offset)
     }
 }
 
@@ -387,8 +268,7 @@ impl Clone for GreenNode {
     ///
     /// `AllocError` if the reference count overflows.
     fn clone(&self) -> Result<GreenNode, AllocError> {
-        let shared = self.shared.clone()?;
-        Ok(GreenNode { shared })
+        self.as_ref().to_owned()
     }
 }
 
@@ -402,7 +282,7 @@ impl PartialEq for GreenNode {
     ghost laws = { partial_equiv_from_equiv same_tree-equiv };
 
     fn eq(&self, other: &GreenNode) -> bool {
-        same_node(self, other)
+        same_node(self.as_ref(), other.as_ref())
     }
 }
 
@@ -424,12 +304,12 @@ impl Hash for GreenNode {
     ghost respects_eq = { λ x y p. ap hashed_node ((same_tree-Decides x y).0 p) };
 
     fn hash<H: Hasher>(&self, state: &mut H) {
-        let children = self.elements();
-        let count = children.len();
-        self.shared.kind.hash(state);
-        self.text_len().0.hash(state);
+        let node = self.as_ref();
+        let count = node.child_count();
+        node.kind().0.hash(state);
+        node.text_len().0.hash(state);
         (count as u32).hash(state);
-        hash_child(children.get(0), state);
-        hash_child(children.get(count.saturating_sub(1)), state);
+        hash_child(node.child(0), state);
+        hash_child(node.child(count.saturating_sub(1)), state);
     }
 }

@@ -3,8 +3,9 @@ ghost use Rattle.std.specs.Prelude.{◌≡◌, length, IfSome};
 ghost use Rattle.std.specs.Iterator.{UpTo, at_most};
 ghost use Rattle.std.specs.Iterator.SizeHint.{IsWithinCount};
 
-use crate::element_list::ElementList;
 use crate::element_ref::GreenElementRef;
+use crate::flat_children::FlatChildren;
+use crate::list_children::ListChildren;
 use std::iter::{DoubleEndedIterator, ExactSizeIterator, FusedIterator};
 use std::marker::Model;
 
@@ -12,13 +13,18 @@ use std::marker::Model;
 /// left.
 #[derive(Drop)]
 pub struct Children<'a> {
-    all: &'a ElementList,
-    start: usize,
-    end: usize,
+    rest: Rest<'a>,
+}
+
+/// The remaining children, in the form of their node.
+#[derive(Drop)]
+enum Rest<'a> {
+    Flat(FlatChildren<'a>),
+    Data(ListChildren<'a>),
 }
 
 impl<'a> Model for Children<'a> {
-    ghost use Rattle.std.specs.Prelude.{List, ◌≤◌, length, take, drop};
+    ghost use Rattle.std.specs.Prelude.{List};
     ghost use Rattle.std.specs.Coded.{codes};
     ghost use Rattle.rowan_green.specs.Forest.{tree_code};
     ghost use Rattle.rowan_green.specs.Term.{Term};
@@ -27,19 +33,27 @@ impl<'a> Model for Children<'a> {
 
     ghost coded = { Prim.hlevel (codes, tree_code) };
 
-    ghost view = { λ c. drop c.start (take c.end c.all.now.0) };
+    ghost use Rattle.rowan_green.specs.Rest.{terms_left};
 
-    ghost invariant = { λ c. (c.start ≤ c.end) × (c.end ≤ length c.all.now.0) };
+    ghost view = { λ c. terms_left c.rest };
 }
 
 impl<'a> Children<'a> {
-    pub(crate) fn of(children: &'a ElementList) -> Children<'a>
-        ensures { result ≡ children.entry.now.0 }
+    /// Returns the children of a node of an arena.
+    pub(crate) fn of_flat(children: FlatChildren<'a>) -> Children<'a>
+        ensures { result ≡ children.entry }
     {
         Children {
-            all: children,
-            start: 0,
-            end: children.len(),
+            rest: Rest::Flat(children),
+        }
+    }
+
+    /// Returns the elements of a list.
+    pub(crate) fn of_list(children: ListChildren<'a>) -> Children<'a>
+        ensures { result ≡ children.entry }
+    {
+        Children {
+            rest: Rest::Data(children),
         }
     }
 }
@@ -47,20 +61,17 @@ impl<'a> Children<'a> {
 impl<'a> Iterator for Children<'a> {
     type Item = GreenElementRef<'a>;
 
-    ghost use Rattle.std.specs.Iterator.{YieldsFirstBy, item_count};
-    ghost use Rattle.rowan_green.specs.Referred.{referred_term};
+    ghost use Rattle.std.specs.Iterator.{YieldsFirst, item_count};
 
-    ghost next_gives = { YieldsFirstBy referred_term (λ s. s) };
+    ghost next_gives = { YieldsFirst (λ s. s) };
 
     ghost remaining = { item_count (λ s. s) };
 
     fn next(&mut self) -> Option<GreenElementRef<'a>> {
-        if self.start >= self.end {
-            return None;
+        match &mut self.rest {
+            Rest::Flat(children) => children.next(),
+            Rest::Data(children) => children.next(),
         }
-        let first = GreenElementRef::of(self.all.at(self.start));
-        self.start += 1;
-        Some(first)
     }
 
     fn size_hint(&self) -> (usize, Option<usize>)
@@ -74,23 +85,24 @@ impl<'a> Iterator for Children<'a> {
 }
 
 impl<'a> DoubleEndedIterator for Children<'a> {
-    ghost use Rattle.std.specs.Iterator.{YieldsLastBy};
-    ghost use Rattle.rowan_green.specs.Referred.{referred_term};
+    ghost use Rattle.std.specs.Iterator.{YieldsLast};
 
-    ghost next_back_gives = { YieldsLastBy referred_term (λ s. s) };
+    ghost next_back_gives = { YieldsLast (λ s. s) };
 
     fn next_back(&mut self) -> Option<GreenElementRef<'a>> {
-        if self.start >= self.end {
-            return None;
+        match &mut self.rest {
+            Rest::Flat(children) => children.next_back(),
+            Rest::Data(children) => children.next_back(),
         }
-        self.end -= 1;
-        Some(GreenElementRef::of(self.all.at(self.end)))
     }
 }
 
 impl<'a> ExactSizeIterator for Children<'a> {
     fn len(&self) -> usize {
-        self.end - self.start
+        match &self.rest {
+            Rest::Flat(children) => children.len(),
+            Rest::Data(children) => children.len(),
+        }
     }
 }
 

@@ -1,16 +1,17 @@
 //! Nodes made of others by a change of their children.
-ghost use Rattle.std.specs.Prelude.{◌≡◌, ◌+◌, ◌≤◌, ◌<◌, length, IfOk, IfErr, OnOk, IsOkUnless, List, [], ◌∷◌};
+ghost use Rattle.std.specs.Prelude.{◌≡◌, ◌+◌, ◌≤◌, ◌<◌, ◌++◌, length, take, drop, IfOk, IfErr, OnOk, IsOkUnless, List, [], ◌∷◌};
 ghost use Rattle.std.specs.Iterator.{IsFinite, Drains};
 ghost use Rattle.rowan_green.specs.Term.{Term, tree_of, children_of, spliced, FitsNode};
 ghost use Rattle.rowan_green.specs.Refusal.{RefusesUnless};
 
 use crate::element::GreenElement;
-use crate::element_list::{MOST, Part, push_clones};
+use crate::element_list::{MOST, Part};
 use crate::element_list_join;
+use crate::element_ref::{GreenNodeRef, NodeReader};
 use crate::error::GreenError;
-use crate::fingerprint::{Fingerprint, SmallNode};
+use crate::flat_ref::FlatNodeRef;
 use crate::node::{GreenNode, collected, fitting_len};
-use std::alloc::Global;
+use std::alloc::{AllocError, Global};
 use std::ops::Range;
 use std::rc::Rc;
 
@@ -25,11 +26,12 @@ impl GreenNode {
         requires { index < length (children_of self.now) }
         ensures ok { IfOk result (λ n. n ≡ tree_of self.now.kind
             (spliced (children_of self.now) index (index + 1) (new_child ∷ []))) }
-        ensures fits { OnOk result (FitsNode (spliced (children_of self.now) index (index + 1) (new_child ∷ []))) }
+        ensures fits { OnOk result
+            (FitsNode (spliced (children_of self.now) index (index + 1) (new_child ∷ []))) }
         ensures refused { IfErr result (RefusesUnless
             (FitsNode (spliced (children_of self.now) index (index + 1) (new_child ∷ [])))) }
     {
-        prove!(index < self.elements().len());
+        prove!(index < self.as_ref().child_count());
         let new_children = vec![in alloc; new_child]?;
         self.splice(alloc, index, index + 1, new_children)
     }
@@ -44,9 +46,11 @@ impl GreenNode {
         requires { index ≤ length (children_of self.now) }
         ensures ok { IfOk result (λ n. n ≡ tree_of self.now.kind
             (spliced (children_of self.now) index index (new_child ∷ []))) }
-        ensures fits { OnOk result (FitsNode (spliced (children_of self.now) index index (new_child ∷ []))) }
+        ensures fits { OnOk result
+            (FitsNode (spliced (children_of self.now) index index (new_child ∷ []))) }
         ensures refused { IfErr result
-            (RefusesUnless (FitsNode (spliced (children_of self.now) index index (new_child ∷ [])))) }
+            (RefusesUnless (FitsNode
+            (spliced (children_of self.now) index index (new_child ∷ [])))) }
     {
         let new_children = vec![in alloc; new_child]?;
         self.splice(alloc, index, index, new_children)
@@ -59,7 +63,9 @@ impl GreenNode {
             (λ n. n ≡ tree_of self.now.kind (spliced (children_of self.now) index (index + 1) [])) }
         ensures refused { IsOkUnless result GreenError.NoMemory }
     {
-        prove!(index < self.elements().len());
+        prove!(index < self.as_ref().child_count());
+        // (that the length of the text is a `u32` shows that a node can have these children)
+        let _text_len = self.text_len();
         self.splice(alloc, index, index + 1, Vec::new(alloc))
     }
 
@@ -96,24 +102,23 @@ impl GreenNode {
         requires in_bounds { end ≤ length (children_of self.now) }
         ensures ok { IfOk result (λ n. n ≡ tree_of self.now.kind
             (spliced (children_of self.now) start end new_children.items)) }
-        ensures fits { OnOk result (FitsNode (spliced (children_of self.now) start end new_children.items)) }
+        ensures fits { OnOk result
+            (FitsNode (spliced (children_of self.now) start end new_children.items)) }
         ensures refused { IfErr result
-            (RefusesUnless (FitsNode (spliced (children_of self.now) start end new_children.items))) }
+            (RefusesUnless (FitsNode
+            (spliced (children_of self.now) start end new_children.items))) }
     {
-        let kept = self.elements().len() - (end - start);
+        let node = self.as_ref();
+        let count = node.child_count();
+        let kept = count - (end - start);
         if kept.saturating_add(new_children.len()) > MOST {
             return self.splice_many(alloc, start, end, &new_children);
         }
-        let old = self.elements();
         let mut children = Vec::with_capacity(alloc, kept + new_children.len())?;
-        push_clones(&mut children, old, 0, start)?;
+        push_children(&mut children, &node, 0, start)?;
         children.append(&mut new_children)?;
-        push_clones(&mut children, old, end, old.len())?;
-        let fingerprint = Fingerprint::of(SmallNode::of(self.kind().0, &children));
-        match GreenNode::from_vec(alloc, self.kind(), fingerprint, children) {
-            Ok(node) => Ok(node),
-            Err(refused) => Err(refused.error),
-        }
+        push_children(&mut children, &node, end, count)?;
+        GreenNode::from_vec(alloc, self.kind(), children)
     }
 
     /// Variant of `splice` for a result of many children. The node shares parts of the old list.
@@ -128,7 +133,8 @@ impl GreenNode {
         requires in_bounds { end ≤ length (children_of self.now) }
         ensures ok { IfOk result (λ n. n ≡ tree_of self.now.kind
             (spliced (children_of self.now) start end new_children.now)) }
-        ensures fits { OnOk result (FitsNode (spliced (children_of self.now) start end new_children.now)) }
+        ensures fits { OnOk result
+            (FitsNode (spliced (children_of self.now) start end new_children.now)) }
         ensures refused { IfErr result
             (RefusesUnless (FitsNode (spliced (children_of self.now) start end new_children.now))) }
     {
@@ -136,7 +142,81 @@ impl GreenNode {
             return Err(GreenError::TooLong);
         }
         let middle = Rc::new(alloc, Part::of(alloc, new_children)?)?;
-        let children = element_list_join::splice(alloc, self.elements(), start, end, &middle)?;
+        let children = spliced_list(alloc, &self.as_ref(), start, end, &middle)?;
         Ok(GreenNode::of_list(alloc, self.kind(), children)?)
     }
+}
+
+/// Returns the list of a node's children, with those from `start` to before `end` replaced by the
+/// elements of `middle`.
+fn spliced_list(
+    alloc: Global,
+    node: &GreenNodeRef<'_>,
+    start: usize,
+    end: usize,
+    middle: &Rc<Part>,
+) -> Result<Part, GreenError>
+    requires ordered { start ≤ end }
+    requires in_bounds { end ≤ length (children_of node.now) }
+    ensures ok { IfOk result
+        (λ l. l.0 ≡ spliced (children_of node.now) start end middle.now.value.0) }
+    ensures fits { OnOk result
+        (FitsNode (spliced (children_of node.now) start end middle.now.value.0)) }
+    ensures refused { IfErr result
+        (RefusesUnless (FitsNode (spliced (children_of node.now) start end middle.now.value.0))) }
+{
+    match node.reader() {
+        NodeReader::Flat(flat) => {
+            let list = list_of(alloc, &flat)?;
+            element_list_join::splice(alloc, list.list(), start, end, middle)
+        }
+        NodeReader::Data(data) => {
+            element_list_join::splice(alloc, data.elements(), start, end, middle)
+        }
+    }
+}
+
+/// Returns the children of a node of an arena as a list: up to 16 are cloned, more stay entries of
+/// the arena.
+fn list_of(alloc: Global, node: &FlatNodeRef<'_>) -> Result<Part, AllocError>
+    ensures { IfOk result (λ l. l.0 ≡ children_of node.now) }
+{
+    if node.children().len() <= MOST {
+        return list_of_clones(alloc, node);
+    }
+    // (that the length of the text is a `u32` shows that a list can have these children)
+    let _text_len = node.text_len();
+    Ok(Part::run(node.run()?))
+}
+
+/// Returns the list of clones of the children of a node of an arena.
+fn list_of_clones(alloc: Global, node: &FlatNodeRef<'_>) -> Result<Part, AllocError>
+    ensures { IfOk result (λ l. l.0 ≡ children_of node.now) }
+{
+    let children = node.children();
+    let mut elements = Vec::with_capacity(alloc, children.len())?;
+    for child in children {
+        elements.push(child.to_owned()?)?;
+    }
+    // (that the length of the text is a `u32` shows that a list can have these children)
+    let _text_len = node.text_len();
+    Part::from_vec(alloc, elements)
+}
+
+/// Appends clones of a node's children from `start` to before `end`.
+fn push_children(
+    to: &mut Vec<GreenElement>,
+    from: &GreenNodeRef<'_>,
+    start: usize,
+    end: usize,
+) -> Result<(), AllocError>
+    requires ordered { start ≤ end }
+    requires in_bounds { end ≤ length (children_of from.now) }
+    ensures { OnOk result
+        (to.new.items ≡ to.old.items ++ drop start (take end (children_of from.now))) }
+{
+    for index in start..end {
+        to.push(from.child_at(index).to_owned()?)?;
+    }
+    Ok(())
 }

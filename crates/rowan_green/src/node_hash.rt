@@ -1,10 +1,8 @@
 //! Hashes of children, without a walk over what lies below them.
 ghost use Rattle.std.specs.Prelude.{◌≡◌, fold};
-ghost use Rattle.std.specs.Option.{option_copied};
 ghost use Rattle.rowan_green.specs.Hashing.{hashed_token, hashed_child};
 
-use crate::element::GreenElement;
-use crate::token::GreenToken;
+use crate::element_ref::{GreenElementRef, GreenTokenRef};
 use crate::utility_types::NodeOrToken;
 use std::hash::{Hash, Hasher};
 
@@ -12,8 +10,8 @@ use std::hash::{Hash, Hasher};
 const MOST_TEXT: usize = 64;
 
 /// Hashes a child: the kind and the length of a node, and a token as [`hash_token`] does.
-pub(crate) fn hash_child<H: Hasher>(child: Option<&GreenElement>, state: &mut H)
-    ensures { state.new ≡ fold H.write state.old (hashed_child (option_copied child.entry)) }
+pub(crate) fn hash_child<H: Hasher>(child: Option<GreenElementRef<'_>>, state: &mut H)
+    ensures { state.new ≡ fold H.write state.old (hashed_child child.entry) }
 {
     match child {
         None => {}
@@ -21,12 +19,12 @@ pub(crate) fn hash_child<H: Hasher>(child: Option<&GreenElement>, state: &mut H)
             node.kind().0.hash(state);
             node.text_len().0.hash(state);
         }
-        Some(NodeOrToken::Token(token)) => hash_token(token, state),
+        Some(NodeOrToken::Token(token)) => hash_token(&token, state),
     }
 }
 
 /// Hashes a token: the kind, and the text if it has at most [`MOST_TEXT`] bytes, else the length.
-fn hash_token<H: Hasher>(token: &GreenToken, state: &mut H)
+fn hash_token<H: Hasher>(token: &GreenTokenRef<'_>, state: &mut H)
     ensures { state.new ≡ fold H.write state.old (hashed_token token.now) }
 {
     token.kind().0.hash(state);

@@ -103,7 +103,8 @@ impl TextRange {
     pub fn intersect(self, other: TextRange) -> Option<TextRange>
         ensures start { IfSome result (λ r. r.start.0 ≡ max self.start.0 other.start.0) }
         ensures end { IfSome result (λ r. r.end.0 ≡ min self.end.0 other.end.0) }
-        ensures apart { IsNone result ↔ (min self.end.0 other.end.0 < max self.start.0 other.start.0) }
+        ensures apart { IsNone result
+            ↔ (min self.end.0 other.end.0 < max self.start.0 other.start.0) }
     {
         let start = self.start.0.max(other.start.0);
         let end = self.end.0.min(other.end.0);

@@ -3,8 +3,8 @@ ghost use Rattle.std.specs.Prelude.{◌≡◌, length, IfOk, IfErr, OnOk};
 ghost use Rattle.rowan_green.specs.Term.{FitsToken};
 ghost use Rattle.rowan_green.specs.Refusal.{RefusesUnless};
 
+use crate::arena::Arena;
 use crate::error::GreenError;
-use crate::fingerprint;
 use crate::syntax_kind::SyntaxKind;
 use crate::text_size::TextSize;
 use std::alloc::{AllocError, Global};
@@ -12,32 +12,30 @@ use std::hash::{Hash, Hasher};
 use std::marker::Model;
 use std::rc::Rc;
 
-#[derive(Drop)]
-struct TokenData {
-    kind: u16,
-    fingerprint: u32,
-    text: String,
-}
-
-/// A token of a green tree. A clone shares the kind and the text; cloning does not allocate.
+/// A token of a green tree: an entry of an arena. A clone shares the arena; cloning does not
+/// allocate. A token of a tree that a builder made keeps the whole tree alive.
 #[derive(Drop)]
 pub struct GreenToken {
-    shared: Rc<TokenData>,
+    pub(crate) index: u32,
+    pub(crate) arena: Rc<Arena>,
 }
 
+const _: () = prove!(size_of::<GreenToken>() == 16);
+
 impl Model for GreenToken {
-    ghost use Rattle.std.specs.Prelude.{◌<◌, ◌^◌, length, string_bytes};
     ghost use Rattle.rowan_green.specs.Leaf.{Leaf};
 
     ghost Value = { Leaf };
 
-    ghost view = { λ a. record { kind = a.shared.value.kind; text = string_bytes a.shared.value.text } };
+    ghost use Rattle.rowan_green.specs.FlatRef.{IsTokenAt, leaf_at};
 
-    ghost invariant = { λ a. length (string_bytes a.shared.value.text) < 2 ^ 32 };
+    ghost view = { λ t. leaf_at t.arena.value t.index };
+
+    ghost invariant = { λ t. IsTokenAt t.arena.value t.index };
 }
 
 impl GreenToken {
-    /// Returns a token of this kind and text.
+    /// Returns a token of this kind and text, in an arena of its own.
     ///
     /// # Errors
     ///
@@ -51,38 +49,34 @@ impl GreenToken {
         if text.len() > u32::MAX as usize {
             return Err(GreenError::TooLong);
         }
-        let data = TokenData {
-            kind: kind.0,
-            fingerprint: fingerprint::of_token(kind.0, text),
-            text: String::from_str(alloc, text)?,
-        };
-        let shared = Rc::new(alloc, data)?;
-        Ok(GreenToken { shared })
+        let mut arena = Arena::new(alloc);
+        let mut done = Vec::new(alloc);
+        arena.push_token(&mut done, kind.0, text)?;
+        let index = arena.push_root(&done, 0)?;
+        arena.shrink();
+        let arena = Rc::new(alloc, arena)?;
+        Ok(GreenToken { index, arena })
     }
 
     /// Its kind.
     pub fn kind(&self) -> SyntaxKind
         ensures { result.0 ≡ self.now.kind }
     {
-        SyntaxKind(self.shared.kind)
+        self.as_ref().kind()
     }
 
     /// Its text.
     pub fn text(&self) -> &str
         ensures { result.now ≡ self.now.text }
     {
-        self.shared.text.as_str()
+        self.as_ref().text()
     }
 
     /// The length of its text, in bytes.
     pub fn text_len(&self) -> TextSize
         ensures { result.0 ≡ length self.now.text }
     {
-        TextSize(self.shared.text.len() as u32)
-    }
-
-    pub(crate) fn fingerprint(&self) -> u32 {
-        self.shared.fingerprint
+        self.as_ref().text_len()
     }
 }
 
@@ -95,8 +89,7 @@ impl Clone for GreenToken {
     ///
     /// `AllocError` if the reference count overflows.
     fn clone(&self) -> Result<GreenToken, AllocError> {
-        let shared = self.shared.clone()?;
-        Ok(GreenToken { shared })
+        self.as_ref().to_owned()
     }
 }
 
@@ -110,7 +103,7 @@ impl PartialEq for GreenToken {
     ghost laws = { partial_equiv_from_equiv same_leaf-equiv };
 
     fn eq(&self, other: &GreenToken) -> bool {
-        self.shared.kind == other.shared.kind && self.text() == other.text()
+        self.as_ref() == other.as_ref()
     }
 }
 
@@ -132,7 +125,7 @@ impl Hash for GreenToken {
     ghost respects_eq = { λ x y p. ap (λ (t : Leaf). fed.u16 t.kind ++ fed.str t.text) ((same_leaf-Decides x y).0 p) };
 
     fn hash<H: Hasher>(&self, state: &mut H) {
-        self.shared.kind.hash(state);
+        self.kind().0.hash(state);
         self.text().hash(state);
     }
 }

@@ -12,13 +12,13 @@ use Rattle.rust_document.specs.declared.bare.Comparison.TheVariants.{Different, 
 abbrev pub outcome : Comparison → Bool
 outcome Different = false
 outcome Same = true
-outcome (Pending a b) = same_tree (bare_tree a.now) (bare_tree b.now)
+outcome (Pending a b) = same_tree (bare_tree a) (bare_tree b)
 
 -- how many nodes and leaves the first of the two nodes has
 abbrev pub pending_count : Comparison → ℕ
 pending_count Different = 0
 pending_count Same = 0
-pending_count (Pending a b) = tree_count a.now
+pending_count (Pending a b) = tree_count a
 
 -- whether two elements are the same, without the whitespace and comments inside them
 abbrev pub same_bare_term : Term → Term → Bool

@@ -2,14 +2,15 @@
 ghost use Rattle.std.specs.Prelude.{◌≡◌, ◌+◌, ◌<◌, ◌≤◌, ◌^◌, length, option_map, IfSome, MatchOption};
 ghost use Rattle.rowan_green.specs.Forest.{tree_text};
 ghost use Rattle.rowan_green.specs.Term.{forest_of, texts_of};
-ghost use Rattle.rowan_green.specs.Referred.{referred_term};
 ghost use Rattle.syntax_tree.specs.Language.{kind_of_raw};
 ghost use Rattle.rust_document.specs.Difference.{first_apart, nothing, placed, told, told_of, tree_apart, Finds};
 
 use crate::bare::is_left_out;
 use parser_input::SyntaxKind;
 use rowan::Language;
-use rowan_green::{Children, GreenElementRef, GreenNode, NodeOrToken, TextRange, TextSize};
+use rowan_green::{
+    Children, GreenElementRef, GreenNode, GreenNodeRef, NodeOrToken, TextRange, TextSize,
+};
 use syntax_tree::RustLanguage;
 
 /// The first difference between a rewritten tree and the reading of its text, whitespace and
@@ -34,7 +35,7 @@ pub struct Apart {
 }
 
 /// A child with its bytes.
-#[derive(Clone, Copy)]
+#[derive(Drop)]
 struct Placed<'a> {
     element: GreenElementRef<'a>,
     start: u32,
@@ -46,14 +47,14 @@ struct Placed<'a> {
 fn next_placed<'a>(children: &mut Children<'a>, at: &mut u32) -> Option<Placed<'a>>
     requires { at.old + length (texts_of children.old) < 2 ^ 32 }
     ensures { MatchOption result (placed at.old (forest_of children.old) ≡ nothing)
-        (λ x. Finds at.old children.old (referred_term x.element) x.start x.end children.new
+        (λ x. Finds at.old children.old x.element x.start x.end children.new
         × (at.new ≡ x.end)) }
 {
     'children: while let Some(element) = children.next() {
         let start = *at;
         let end = start + element.text_len().0;
         *at = end;
-        if !is_left_out(element) {
+        if !is_left_out(&element) {
             return Some(Placed {
                 element,
                 start,
@@ -65,7 +66,12 @@ fn next_placed<'a>(children: &mut Children<'a>, at: &mut u32) -> Option<Placed<'
 }
 
 /// Returns the first difference between the children of two nodes, which start at these offsets.
-fn apart_below(wanted: &GreenNode, read: &GreenNode, wanted_at: u32, read_at: u32) -> Option<Apart>
+fn apart_below(
+    wanted: &GreenNodeRef<'_>,
+    read: &GreenNodeRef<'_>,
+    wanted_at: u32,
+    read_at: u32,
+) -> Option<Apart>
     requires wanted_fits { wanted_at + length (tree_text wanted.now) < 2 ^ 32 }
     requires read_fits { read_at + length (tree_text read.now) < 2 ^ 32 }
     ensures first { result
@@ -121,7 +127,7 @@ fn tree_apart(wanted: &GreenNode, read: &GreenNode) -> Option<Apart>
     // (this shows that the other text fits, too)
     let _fits = read.text_len().0;
     if wanted.kind() == read.kind() {
-        return apart_below(wanted, read, 0, 0);
+        return apart_below(&wanted.as_ref(), &read.as_ref(), 0, 0);
     }
     Some(Apart {
         start: 0,

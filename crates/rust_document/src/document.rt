@@ -307,7 +307,8 @@ impl Document {
         ids: &mut TreeIds,
     ) -> Result<Edited, EditError>
         requires { can_edit self.old.text range.start.0 range.end.0 ≡ true }
-        ensures accepted { OnOk result (IsOpened (edited self.old.text range.start.0 range.end.0 text.now)) }
+        ensures accepted { OnOk result
+            (IsOpened (edited self.old.text range.start.0 range.end.0 text.now)) }
         ensures state { OnOk result (self.new ≡
             record {
               edition = self.old.edition;
@@ -321,7 +322,8 @@ impl Document {
         ensures core { OnOk result (IsReadAsCore self.new) }
         ensures counts { IfOk result (λ e.
             KeepsTokens self.old.edition self.old.text self.new.text range.start.0
-            → IsKept (content_edit self.old.text range.start.0 range.end.0 text.now) (counts_of e)) }
+            → IsKept (content_edit self.old.text range.start.0 range.end.0 text.now)
+            (counts_of e)) }
         ensures no_counts { IfOk result (λ e.
             (KeepsTokens self.old.edition self.old.text self.new.text range.start.0 → ⊥)
             → KeepsNoToken self.old.edition self.new.text e) }
@@ -432,7 +434,8 @@ impl Document {
         ids: &mut TreeIds,
     ) -> Result<(), TreeError>
         requires fits { length (string_bytes text) ≤ MAX_TEXT }
-        requires is_next { IsNextReading self.old.grammar self.old.edition (chars (string_bytes text))
+        requires is_next { IsNextReading self.old.grammar self.old.edition
+            (chars (string_bytes text))
             (tokens_in self.old.grammar self.old.edition (chars self.old.text)) next }
         ensures state { OnOk result (self.new ≡
             record {

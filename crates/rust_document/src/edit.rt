@@ -15,7 +15,8 @@ pub fn edited(alloc: Global, text: &str, range: TextRange, put: &str) -> Result<
     ensures edited { IfOk result (λ new. string_bytes new
         ≡ edited text.now range.start.0 range.end.0 put.now) }
     ensures fits { IfOk result (λ new. length (string_bytes new) ≤ MAX_TEXT) }
-    ensures refused { IfErr result (IsUnedited (edited text.now range.start.0 range.end.0 put.now)) }
+    ensures refused { IfErr result
+        (IsUnedited (edited text.now range.start.0 range.end.0 put.now)) }
 {
     let front = &text[..usize::from(range.start())];
     let back = &text[usize::from(range.end())..];

@@ -53,7 +53,8 @@ pub(crate) fn parser_messages(
     lexed: &LexedStr<'_>,
     output: &Output,
 ) -> Result<Vec<SyntaxError>, AllocError>
-    ensures { IfOk result (λ errors. AreMessages output.now.steps (leaves_of lexed.now.leaves) errors.items) }
+    ensures { IfOk result
+        (λ errors. AreMessages output.now.steps (leaves_of lexed.now.leaves) errors.items) }
 {
     let mut sink = MessageSink {
         errors: Vec::new(alloc),

@@ -103,7 +103,8 @@ fn plain_names<'a, 'b>(
     edit: &TextEdit<'a, 'b, '_>,
     range: TextRange,
 ) -> Option<Names<'a, 'b>>
-    ensures { IfSome result (ArePlainNames edition edit.now.before.now edit.now.after.now range.start.0 range.end.0) }
+    ensures { IfSome result
+        (ArePlainNames edition edit.now.before.now edit.now.after.now range.start.0 range.end.0) }
 {
     let start = usize::from(range.start());
     let end = usize::from(range.end());

@@ -29,7 +29,8 @@ pub(crate) fn parse_input(
     tokens: &Input,
 ) -> Result<Output, AllocError>
     requires { length tokens.now ≤ 16777216 }
-    ensures parsed { IfOk result (λ o. o.steps ≡ steps (entry whole (production_of top) tokens.now)) }
+    ensures parsed { IfOk result
+        (λ o. o.steps ≡ steps (entry whole (production_of top) tokens.now)) }
     ensures looked { IfOk result (λ o. 1 ≤ o.looks) }
     ensures looks { IfOk result (λ o. o.looks ≤ steps_for tokens.now) }
 {

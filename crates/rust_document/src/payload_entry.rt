@@ -54,7 +54,8 @@ pub fn payload(
     text: &str,
     ids: &mut TreeIds,
 ) -> Result<SyntaxElement, PayloadError>
-    ensures given { IfOk result (λ e. IsDetached ids.old (payload_of entry edition text.now) (element_of e)) }
+    ensures given { IfOk result
+        (λ e. IsDetached ids.old (payload_of entry edition text.now) (element_of e)) }
     ensures number { OnOk result (ids.new ≡ ids.old + 1) }
     ensures refused { IfErr result (RefusesPayload ids.old (payload_of entry edition text.now)) }
     ensures kept { IfErr result (λ _. ids.new ≡ ids.old) }
@@ -79,7 +80,8 @@ pub(crate) fn payload_by(
     ids: &mut TreeIds,
 ) -> Result<SyntaxElement, PayloadError>
     ensures given { IfOk result (λ e. IsDetached ids.old
-        (payload_in entry text.entry.grammar text.entry.edition text.entry.text.now) (element_of e)) }
+        (payload_in entry text.entry.grammar text.entry.edition text.entry.text.now)
+        (element_of e)) }
     ensures number { OnOk result (ids.new ≡ ids.old + 1) }
     ensures refused { IfErr result (RefusesPayload ids.old
         (payload_in entry text.entry.grammar text.entry.edition text.entry.text.now)) }

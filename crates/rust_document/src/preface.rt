@@ -44,7 +44,8 @@ fn has_frontmatter(source: &ScriptSource<'_>) -> bool
 /// Finds the preface of a text. A refused frontmatter is none.
 pub(crate) fn parts_of(text: &str) -> Parts<'_>
     ensures shebang { result.shebang ≡ shebang (chars text.now) }
-    ensures frontmatter { result.has_frontmatter ≡ is_some (frontmatter_end (source (chars text.now))) }
+    ensures frontmatter { result.has_frontmatter
+        ≡ is_some (frontmatter_end (source (chars text.now))) }
     ensures content { chars result.content.now ≡ content (chars text.now) }
     ensures text { IsUtf8 result.content.now }
 {

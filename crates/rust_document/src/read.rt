@@ -66,7 +66,8 @@ fn append_fault(
 ) -> Result<(), AllocError>
     requires { leaf < length lexed.now.leaves }
     ensures { OnOk result
-        (map message_of_error errors.new.items ≡ map message_of_error errors.old.items ++ of_leaf_at lexed.now.leaves leaf) }
+        (map message_of_error errors.new.items ≡ map message_of_error errors.old.items
+        ++ of_leaf_at lexed.now.leaves leaf) }
 {
     let Some(words) = lexed.error(leaf) else {
         return Ok(());
@@ -132,7 +133,8 @@ fn read_leaves(
     requires fits { length text.now ≤ 16777216 }
     requires whole { lexed.now ≡ whole_of lexed.now.edition (chars text.now) }
     requires parsed { (top : TopEntryPoint) × ((grammar : Grammar)
-        × AreStepsBy (production_of top) grammar lexed.now.edition (chars text.now) output.now.steps) }
+        × AreStepsBy (production_of top) grammar lexed.now.edition
+        (chars text.now) output.now.steps) }
     ensures { IfOk result (λ r. (top : TopEntryPoint) (grammar : Grammar)
         → AreStepsBy (production_of top) grammar lexed.now.edition (chars text.now) output.now.steps
         → IsReadingBy (production_of top) grammar lexed.now.edition (chars text.now)
@@ -159,7 +161,8 @@ fn read_around(
     ensures { IfOk result (λ r. (grammar : Grammar)
         → AreStepsBy source_file grammar lexed.now.edition (chars text.now) output.now.steps
         → root ≡ tree_in grammar lexed.now.edition (chars text.now)
-        → IsReading grammar lexed.now.edition (chars text.now) r.tokens.items r.root r.errors.items) }
+        → IsReading grammar lexed.now.edition
+        (chars text.now) r.tokens.items r.root r.errors.items) }
 {
     let errors = parser_messages(alloc, lexed, output)?;
     read_built(alloc, text, lexed, Built { root, errors })
@@ -238,7 +241,8 @@ pub fn read_next(
 ) -> Result<NextReading, AllocError>
     requires next { IsNextText grammar edition before.now.input next }
     requires before { IsOwnParse before.now }
-    ensures { IfOk result (IsNextReading grammar edition (chars next.entry.text.now) before.now.input) }
+    ensures { IfOk result
+        (IsNextReading grammar edition (chars next.entry.text.now) before.now.input) }
 {
     let NextText { text, kept, root } = next;
     let lexed = leaves_of(alloc, edition, text, &kept)?;

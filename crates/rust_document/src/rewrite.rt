@@ -139,7 +139,8 @@ pub fn rewrite(
         (string_bytes r.text) r.reading r.changed.items) }
     ensures green { IfOk result (λ r. IsNode (rewriting editor.now) r.green) }
     ensures says { IfOk result (λ r. Say r.pieces.items (rewriting editor.now)) }
-    ensures annotated { IfOk result (λ r. map annotated_ends r.annotated.items ≡ annotated editor.now) }
+    ensures annotated { IfOk result
+        (λ r. map annotated_ends r.annotated.items ≡ annotated editor.now) }
     ensures refused { IfErr result (RefusesRewritten grammar edition editor.now) }
 {
     let rewritten = editor.rewritten(alloc)?;

@@ -36,7 +36,8 @@ fn put_token(
 ) -> Result<(), GreenError>
     ensures ok { OnOk result (builder.new
         ≡ built builder.old (texts.Token (raw_of kind) (chars text.now))) }
-    ensures refused { IfErr result (MayRefuse builder.old (texts.Token (raw_of kind) (chars text.now))) }
+    ensures refused { IfErr result
+        (MayRefuse builder.old (texts.Token (raw_of kind) (chars text.now))) }
     ensures err { OnErr result (builder.new ≡ builder.old) }
 {
     let kind = rowan_green::SyntaxKind(kind.to_raw());
@@ -128,7 +129,8 @@ pub(crate) fn build(
     output: &Output,
 ) -> Result<Built, AllocError>
     requires { IsTreeOf output.now.steps (leaves_of lexed.now.leaves) }
-    ensures { IfOk result (λ b. IsBuilt output.now.steps (leaves_of lexed.now.leaves) b.root b.errors.items) }
+    ensures { IfOk result
+        (λ b. IsBuilt output.now.steps (leaves_of lexed.now.leaves) b.root b.errors.items) }
 {
     let mut sink = TreeSink {
         builder: GreenNodeBuilder::new(alloc),

@@ -4,3 +4,5 @@
 
 pub mod condition;
 pub mod grammar;
+pub mod marker;
+pub mod parser;

@@ -1,5 +1,5 @@
 -- An accepted rewrite is within the limit.
-use Rattle.std.proofs.Common.{◌≡◌, ◌≤◌, Bool, true, false, ◌||◌, not, nat_lt, refl, sym, ◌∙◌, arith, length}
+use Rattle.std.proofs.Common.{◌≡◌, ◌≤◌, ◌<◌, Bool, true, false, ◌||◌, not, nat_lt, refl, sym, ◌∙◌, arith, length}
 use Rattle.rustc_lexer.specs.Rows.{first_fit}
 use Rattle.rowan_green.specs.Forest.{tree_text}
 use Rattle.tree_rewrite.specs.Change.{has_collision}
@@ -24,3 +24,9 @@ accepted-fits d e h =
     within (length (tree_text (rewritten e))) _
     (not-long (is_foreign d e) (has_collision e.changes) (misses e) (is_too_long e) (not (is_faithful d.grammar d.edition (rewritten e)))
     (sym (verdict-is d e _ _ _ _ _ refl refl refl refl refl) ∙ h))
+
+-- an accepted text has less than 2^32 bytes
+pub accepted-short : (d : State) (e : Editing) → verdict d e ≡ Accepted → length (tree_text (rewritten e)) < 4294967296
+accepted-short d e h =
+    let fits = accepted-fits d e h in
+    search (arith)

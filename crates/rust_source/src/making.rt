@@ -271,7 +271,8 @@ impl Source {
     /// On error, the source is unchanged.
     pub fn make_token(&mut self, kind: SyntaxKind, text: &str) -> Result<SyntaxToken, MakeError>
         ensures made { IfOk result (λ t. t ≡ element_at self.old.next
-            (tree_of TOMBSTONE (Token (record { kind = raw_of kind; text = text.now }) ∷ [])) (0 ∷ [])) }
+            (tree_of TOMBSTONE (Token (record { kind = raw_of kind; text = text.now }) ∷ []))
+            (0 ∷ [])) }
         ensures document { self.new.document ≡ self.old.document }
         ensures alloc { self.new.alloc ≡ self.old.alloc }
         ensures number { OnOk result (self.new.next ≡ self.old.next + 1) }

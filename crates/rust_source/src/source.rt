@@ -209,12 +209,15 @@ impl Source {
         ensures core { OnOk result (IsReadAsCore self.new.document) }
         ensures counts { IfOk result (λ e.
             KeepsTokens self.old.document.edition self.old.document.text self.new.document.text range.start.0
-            → IsKept (content_edit self.old.document.text range.start.0 range.end.0 text.now) (counts_of e)) }
+            → IsKept (content_edit self.old.document.text range.start.0 range.end.0 text.now)
+            (counts_of e)) }
         ensures no_counts { IfOk result (λ e.
             (KeepsTokens self.old.document.edition self.old.document.text self.new.document.text range.start.0 → ⊥)
             → KeepsNoToken self.old.document.edition self.new.document.text e) }
-        ensures output { IfOk result (λ e. KeepsOutput self.old.document self.new.document e.steps) }
-        ensures steps { IfOk result (λ e. e.steps ≤ most_steps self.old.document.grammar self.old.document.edition
+        ensures output { IfOk result
+            (λ e. KeepsOutput self.old.document self.new.document e.steps) }
+        ensures steps { IfOk result
+            (λ e. e.steps ≤ most_steps self.old.document.grammar self.old.document.edition
             (chars (edited self.old.document.text range.start.0 range.end.0 text.now))) }
         ensures refused { IfErr result (RefusesEdit
             (edited self.old.document.text range.start.0 range.end.0 text.now) self.old.next) }
@@ -254,7 +257,8 @@ impl Source {
         text: &str,
     ) -> Result<SyntaxElement, PayloadError>
         ensures given { IfOk result (λ e. IsDetached self.old.next
-            (payload_in entry self.old.document.grammar self.old.document.edition text.now) (element_of e)) }
+            (payload_in entry self.old.document.grammar self.old.document.edition text.now)
+            (element_of e)) }
         ensures document { self.new.document ≡ self.old.document }
         ensures alloc { self.new.alloc ≡ self.old.alloc }
         ensures number { OnOk result (self.new.next ≡ self.old.next + 1) }
@@ -282,7 +286,8 @@ impl Source {
     /// As of [`Document::difference`].
     pub fn difference(&self, editor: &SyntaxEditor) -> Result<Option<Difference>, CommitError>
         ensures told { IfOk result (λ r. option_map told_of r
-            ≡ difference self.now.document.grammar self.now.document.edition (rewritten editor.now)) }
+            ≡ difference self.now.document.grammar self.now.document.edition
+            (rewritten editor.now)) }
         ensures faithful { IfOk result (λ r. MatchOption r
             (verdict self.now.document editor.now ≡ Accepted)
             (λ _. verdict self.now.document editor.now ≡ Unfaithful)) }
@@ -329,11 +334,15 @@ impl Source {
         ensures operators { OnOk result (HasPlacedOperators self.new.document) }
         ensures core { OnOk result (IsReadAsCore self.new.document) }
         ensures changed { IfOk result (λ c. map ends_of c.changed.items ≡ changed editor) }
-        ensures annotated { IfOk result (λ c. map annotated_ends c.annotated.items ≡ annotated editor) }
-        ensures output { IfOk result (λ c. KeepsOutput self.old.document self.new.document c.steps) }
-        ensures steps { IfOk result (λ c. c.steps ≤ most_steps self.old.document.grammar self.old.document.edition
+        ensures annotated { IfOk result
+            (λ c. map annotated_ends c.annotated.items ≡ annotated editor) }
+        ensures output { IfOk result
+            (λ c. KeepsOutput self.old.document self.new.document c.steps) }
+        ensures steps { IfOk result
+            (λ c. c.steps ≤ most_steps self.old.document.grammar self.old.document.edition
             (chars (tree_text (rewritten editor)))) }
-        ensures refused { IfErr result (RefusesCommit (verdict self.old.document editor) self.old.next) }
+        ensures refused { IfErr result
+            (RefusesCommit (verdict self.old.document editor) self.old.next) }
         ensures renames { IfErr result (λ error. IsPlainRenaming self.old.document editor
             → length (tree_text (rewritten editor)) ≤ MAX_TEXT
             → RefusesCommit Accepted self.old.next error) }
@@ -373,11 +382,15 @@ impl Source {
         ensures operators { OnOk result (HasPlacedOperators self.new.document) }
         ensures core { OnOk result (IsReadAsCore self.new.document) }
         ensures changed { IfOk result (λ c. map ends_of c.changed.items ≡ changed editor) }
-        ensures annotated { IfOk result (λ c. map annotated_ends c.annotated.items ≡ annotated editor) }
-        ensures output { IfOk result (λ c. KeepsOutput self.old.document self.new.document c.steps) }
-        ensures steps { IfOk result (λ c. c.steps ≤ most_steps self.old.document.grammar self.old.document.edition
+        ensures annotated { IfOk result
+            (λ c. map annotated_ends c.annotated.items ≡ annotated editor) }
+        ensures output { IfOk result
+            (λ c. KeepsOutput self.old.document self.new.document c.steps) }
+        ensures steps { IfOk result
+            (λ c. c.steps ≤ most_steps self.old.document.grammar self.old.document.edition
             (chars (tree_text (rewritten editor)))) }
-        ensures refused { IfErr result (RefusesWithoutMessages self.old.document editor self.old.next) }
+        ensures refused { IfErr result
+            (RefusesWithoutMessages self.old.document editor self.old.next) }
         ensures renamed { OnOk result (IsPlainRenaming self.old.document editor
             → IsReadExactly self.old.document editor) }
         ensures spaced { IfErr result (λ error. IsWellSpacedRewrite self.old.document editor

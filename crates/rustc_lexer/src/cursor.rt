@@ -220,7 +220,8 @@ impl<'a> Cursor<'a> {
 
     /// On to before the next `"` or `\`, or the end.
     pub(crate) fn eat_plain(&mut self)
-        ensures { self.new ≡ drop (run_len (λ c. not (c == double_quote || c == backslash)) self.old) self.old }
+        ensures { self.new ≡ drop
+            (run_len (λ c. not (c == double_quote || c == backslash)) self.old) self.old }
     {
         let rest = self.rest;
         let n = bytes::plain_len(rest.as_bytes());

@@ -270,7 +270,8 @@ impl<'a> Cursor<'a> {
 
     // A string in quotes, with the letter before them.
     fn string_literal(&mut self, kind: StringKind) -> TokenKind
-        ensures { Reads (literal (string (letters kind) (quoted_kind kind))) self.old result self.new }
+        ensures { Reads (literal
+            (string (letters kind) (quoted_kind kind))) self.old result self.new }
     {
         let start = self.remaining();
         self.eat_letter(kind);
@@ -285,7 +286,8 @@ impl<'a> Cursor<'a> {
 
     // A raw string, with the letters before its hashes.
     fn raw_string_literal(&mut self, kind: StringKind) -> TokenKind
-        ensures { Reads (literal (raw_string (letters kind) (raw_kind kind))) self.old result self.new }
+        ensures { Reads (literal
+            (raw_string (letters kind) (raw_kind kind))) self.old result self.new }
     {
         let start = self.remaining();
         self.eat_letter(kind);

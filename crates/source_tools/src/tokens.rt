@@ -27,7 +27,8 @@ fn push_token(
     token: LexedToken,
     rows: &mut Vec<u8>,
 ) -> Result<(), AllocError>
-    ensures { OnOk result (rows.new.items ≡ rows.old.items ++ row_of_token text.now (span_of token)) }
+    ensures { OnOk result
+        (rows.new.items ≡ rows.old.items ++ row_of_token text.now (span_of token)) }
 {
     let start = usize::from(token.range.start());
     let end = usize::from(token.range.end());

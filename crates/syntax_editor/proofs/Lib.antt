@@ -1,3 +1,4 @@
+pub mod ByWayLemmas
 pub mod NotedLemmas
 pub mod Singles
 pub mod Sound

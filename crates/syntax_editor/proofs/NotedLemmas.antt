@@ -1,20 +1,26 @@
 -- Changes of elements that were named alone, and what is noted of them.
-use Rattle.std.proofs.Common.{◌≡◌, ℕ, zero, suc, ◌+◌, ◌<◌, ◌≤◌, List, [], ◌∷◌, ◌++◌, length, map, Bool, true, false, ◌&&◌, ◌||◌, cond, get_or, set, take, drop, refl, ap, sym, ◌∙◌, arith, Option, Some, None, option_map, is_some, Vec, subst, length-set}
+use Rattle.std.proofs.Common.{◌≡◌, ℕ, zero, suc, ◌+◌, ◌<◌, ◌≤◌, List, [], ◌∷◌, ◌++◌, length, map, Bool, true, false, ◌&&◌, ◌||◌, cond, get_or, set, take, drop, refl, ap, sym, ◌∙◌, arith, Option, Some, None, option_map, is_some, subst, length-set}
 use Rattle.std.specs.HashMap.{HashMap}
-use Rattle.std.specs.List.{list_any}
+use Rattle.std.specs.List.{All, list_any}
 use Rattle.std.specs.Option.{unwrap_or}
 use Rattle.std.specs.Cmp.Lexicographic.{nat_list_eq_equiv, bytes_decides}
 use Rattle.std.proofs.lemmas.Bool.{and_parts, false≢true}
 use Rattle.std.proofs.lemmas.List.{take_more, length-take}
 use Rattle.std.proofs.Math.Seq.{drop-nil}
-use Rattle.syntax_tree.specs.Element.{Way, same_way}
+use Rattle.rowan.specs.Place.{term_by}
+use Rattle.syntax_tree.specs.Element.{Way, same_way, Element, term_of}
+use Rattle.syntax_tree.specs.Handle.{element_of}
+use Rattle.syntax_tree.specs.declared.element.SyntaxElement.{SyntaxElement}
 use Rattle.tree_rewrite.specs.Change.{Change, insert, replace}
+use Rattle.tree_rewrite.specs.Moved.{same_kind}
 use Rattle.tree_rewrite.specs.Recorded.{recorded}
-use Rattle.tree_rewrite.specs.Rewrite.{payload_of}
 use Rattle.tree_rewrite.specs.declared.change.Change as declared
-use Rattle.tree_rewrite.specs.WayMap.{number_at}
+use Rattle.tree_rewrite.specs.declared.change.Change.TheVariants.{Insert, Replace}
+use Rattle.syntax_editor.specs.Inside.{IsSound}
 use Rattle.syntax_editor.specs.Recording.{is_single_at, is_deletion_at, is_empty}
-use Rattle.syntax_editor.specs.Noted.{first_single, HasSingles, AreNoted}
+use Rattle.syntax_editor.specs.Noted.{first_single, is_deletion_of, HasSingles, AreNoted}
+use Rattle.syntax_editor.specs.ByWay.{way_of, number_at}
+use Rattle.syntax_editor.specs.declared.by_way.Named.{Named}
 
 -- ---- a change of an element that was named alone is one of that element only
 
@@ -63,11 +69,11 @@ same-first w cs c h = by_option (first_single w cs) refl
     by_option (Some n) e = of-some w cs (c ∷ []) n e ∙ sym e
 
 -- it is none of an element that was named alone
-pub note-other : {Z S : Type 0} (m : HashMap (Vec ℕ Z) ℕ S) (cs : List Change) (c : Change) → ((w : Way) → is_single_at w c ≡ false) → HasSingles m cs → HasSingles m (cs ++ c ∷ [])
+pub note-other : {S : Type 0} (m : HashMap Named ℕ S) (cs : List Change) (c : Change) → ((w : Way) → is_single_at w c ≡ false) → HasSingles m cs → HasSingles m (cs ++ c ∷ [])
 note-other m cs c h has = record { singles = λ w. has.singles w ∙ sym (same-first w cs c (h w)) }
 
 -- it is one of an element of which there was one
-pub note-later : {Z S : Type 0} (m : HashMap (Vec ℕ Z) ℕ S) (cs : List Change) (c : Change) (v : Way) → is_single_at v c ≡ true → is_some (number_at m v) ≡ true → HasSingles m cs
+pub note-later : {S : Type 0} (m : HashMap Named ℕ S) (cs : List Change) (c : Change) (v : Way) → is_single_at v c ≡ true → is_some (number_at m v) ≡ true → HasSingles m cs
     → HasSingles m (cs ++ c ∷ [])
 note-later m cs c v h some has = record { singles = λ w. by_test w (same_way v w) refl }
   where
@@ -80,7 +86,7 @@ note-later m cs c v h some has = record { singles = λ w. by_test w (same_way v 
     by_test w false e = has.singles w ∙ sym (same-first w cs c (single-of v c h w ∙ e))
 
 -- it is the first of its element
-pub note-first : {Z S : Type 0} (m k : HashMap (Vec ℕ Z) ℕ S) (cs : List Change) (c : Change) (v : Way) → is_single_at v c ≡ true → is_some (number_at m v) ≡ false
+pub note-first : {S : Type 0} (m k : HashMap Named ℕ S) (cs : List Change) (c : Change) (v : Way) → is_single_at v c ≡ true → is_some (number_at m v) ≡ false
     → ((w : Way) → number_at k w ≡ cond (same_way v w) (Some (length cs)) (number_at m w)) → HasSingles m cs → HasSingles k (cs ++ c ∷ [])
 note-first m k cs c v h none put has = record { singles = λ w. put w ∙ by_test w (same_way v w) refl }
   where
@@ -98,7 +104,7 @@ take-step : (cs : List Change) (n : ℕ) (d : Change) → n < length cs → take
 take-step cs n d h = take_more cs n d h
 
 -- the next change is noted
-pub noted-next : {Z S : Type 0} (m k : HashMap (Vec ℕ Z) ℕ S) (n : ℕ) (cs : List Change) (c : Change) → n < length cs → c ≡ get_or cs n c
+pub noted-next : {S : Type 0} (m k : HashMap Named ℕ S) (n : ℕ) (cs : List Change) (c : Change) → n < length cs → c ≡ get_or cs n c
     → (length (take n cs) ≡ n → HasSingles m (take n cs) → HasSingles k (take n cs ++ c ∷ [])) → AreNoted m n cs → AreNoted k (n + 1) cs
 noted-next m k n cs c h is step noted = record {
   within = omega arith;
@@ -106,7 +112,7 @@ noted-next m k n cs c h is step noted = record {
 }
 
 -- another map with the same numbers
-pub noted-same : {Z S : Type 0} (m k : HashMap (Vec ℕ Z) ℕ S) (n : ℕ) (cs : List Change) → ((w : Way) → number_at k w ≡ number_at m w) → AreNoted m n cs → AreNoted k n cs
+pub noted-same : {S : Type 0} (m k : HashMap Named ℕ S) (n : ℕ) (cs : List Change) → ((w : Way) → number_at k w ≡ number_at m w) → AreNoted m n cs → AreNoted k n cs
 noted-same m k n cs h noted = record { within = noted.within; singles = record { singles = λ w. h w ∙ noted.singles.singles w } }
 
 first-set : (w : Way) (cs : List Change) (n i : ℕ) (d : Change) → is_single_at w d ≡ is_single_at w (get_or cs i d) → first_single w (take n (set cs i d)) ≡ first_single w (take n cs)
@@ -116,7 +122,7 @@ first-set w (c ∷ cs) (suc n) zero d h = ap (λ b. cond b (Some 0) (option_map 
 first-set w (c ∷ cs) (suc n) (suc i) d h = ap (λ o. cond (is_single_at w c) (Some 0) (option_map suc o)) (first-set w cs n i d h)
 
 -- a change of the same element comes over one
-pub noted-set : {Z S : Type 0} (m : HashMap (Vec ℕ Z) ℕ S) (n : ℕ) (cs : List Change) (i : ℕ) (d : Change) → ((w : Way) → is_single_at w d ≡ is_single_at w (get_or cs i d)) → AreNoted m n cs → AreNoted m n (set cs i d)
+pub noted-set : {S : Type 0} (m : HashMap Named ℕ S) (n : ℕ) (cs : List Change) (i : ℕ) (d : Change) → ((w : Way) → is_single_at w d ≡ is_single_at w (get_or cs i d)) → AreNoted m n cs → AreNoted m n (set cs i d)
 noted-set m n cs i d h noted = record {
   within = omega (arith, noted.within, length-set {A = Change});
   singles = record { singles = λ w. noted.singles.singles w ∙ sym (first-set w cs n i d (h w)) };
@@ -139,25 +145,69 @@ first-there w (c ∷ cs) n d h = by_test (is_single_at w c) refl (first_single w
 
 -- ---- deletions
 
-map-drop : (n : ℕ) (xs : List declared.Change) → map recorded (drop n xs) ≡ drop n (map recorded xs)
-map-drop zero xs = refl
-map-drop (suc n) [] = refl
-map-drop (suc n) (x ∷ xs) = map-drop n xs
+and-false : (k : Bool) → (k && false) ≡ false
+and-false true = refl
+and-false false = refl
+
+and-or : (k a b : Bool) → ((k && a) || (k && b)) ≡ (k && (a || b))
+and-or true a b = refl
+and-or false a b = refl
+
+-- it names no element there alone
+not-deleted : (x : SyntaxElement) (c : declared.Change) → is_single_at (way_of x) (recorded c) ≡ false → is_deletion_of x c ≡ false
+not-deleted x (Insert p new) h = refl
+not-deleted x (Replace f l new s) h = by_test s (same_way (way_of f) (way_of x)) _ _ h
+  where
+    by_test : (s b e k : Bool) → (s && b) ≡ false → (s && b && e && k) ≡ false
+    by_test false b e k h = refl
+    by_test true false e k h = refl
+    by_test true true e k h = absurd (false≢true (sym h))
+
+-- the element has the kind of the term at its path in the tree
+abbrev pub has_kind : Element → SyntaxElement → Bool
+has_kind top x = same_kind (term_by top.place.root (way_of x)) (term_of (element_of x))
+
+of-deletion : (top : Element) (x : SyntaxElement) (c : declared.Change) → IsSound top c → is_deletion_of x c ≡ (has_kind top x && is_deletion_at (way_of x) (recorded c))
+of-deletion top x (Insert p new) sound = sym (and-false (has_kind top x))
+of-deletion top x (Replace f l new s) sound = by_test s (same_way (way_of f) (way_of x)) (is_empty (map element_of new.items)) (same_kind (term_of (element_of f)) (term_of (element_of x))) there
+  where
+    there : same_way (way_of f) (way_of x) ≡ true → same_kind (term_of (element_of f)) (term_of (element_of x)) ≡ has_kind top x
+    there y = ap (λ r. same_kind (term_by r (way_of f)) (term_of (element_of x))) sound.own.0.1 ∙ ap (λ w. same_kind (term_by top.place.root w) (term_of (element_of x))) ((bytes_decides (way_of f) (way_of x)).0 y)
+
+    swap : (e k : Bool) → (e && k) ≡ (k && e)
+    swap true true = refl
+    swap true false = refl
+    swap false true = refl
+    swap false false = refl
+
+    by_test : (s b e k : Bool) → (b ≡ true → k ≡ has_kind top x) → (s && b && e && k) ≡ (has_kind top x && ((s && b) && e))
+    by_test false b e k h = sym (and-false (has_kind top x))
+    by_test true false e k h = sym (and-false (has_kind top x))
+    by_test true true e k h = swap e k ∙ ap (λ j. j && e) (h refl)
+
+-- of the changes of a tree
+pub any-deletion : (top : Element) (x : SyntaxElement) (cs : List declared.Change) → All (IsSound top) cs
+    → list_any (is_deletion_of x) cs ≡ (has_kind top x && list_any (is_deletion_at (way_of x)) (map recorded cs))
+any-deletion top x [] sound = sym (and-false (has_kind top x))
+any-deletion top x (c ∷ cs) sound =
+    ap (λ b. b || list_any (is_deletion_of x) cs) (of-deletion top x c (sound 0 c (omega arith)))
+    ∙ ap (λ b. (has_kind top x && is_deletion_at (way_of x) (recorded c)) || b) (any-deletion top x cs (λ k d h. sound (suc k) d (omega (arith, h))))
+    ∙ and-or (has_kind top x) (is_deletion_at (way_of x) (recorded c)) (list_any (is_deletion_at (way_of x)) (map recorded cs))
 
 -- none is before the first single of the element, nor among those noted where there is no such
-pub deleted-from : (w : Way) (cs : List Change) (n : ℕ)
-    → list_any (is_deletion_at w) (drop (unwrap_or (first_single w (take n cs)) n) cs) ≡ list_any (is_deletion_at w) cs
-deleted-from w [] n = ap (list_any (is_deletion_at w)) (drop-nil (unwrap_or (first_single w (take n [])) n))
-deleted-from w (c ∷ cs) zero = refl
-deleted-from w (c ∷ cs) (suc n) = by_test (is_single_at w c) refl (first_single w (take n cs)) (deleted-from w cs n)
+deleted-from : (x : SyntaxElement) (cs : List declared.Change) (n : ℕ)
+    → list_any (is_deletion_of x) (drop (unwrap_or (first_single (way_of x) (take n (map recorded cs))) n) cs) ≡ list_any (is_deletion_of x) cs
+deleted-from x [] n = ap (list_any (is_deletion_of x)) (drop-nil (unwrap_or (first_single (way_of x) (take n [])) n))
+deleted-from x (c ∷ cs) zero = refl
+deleted-from x (c ∷ cs) (suc n) = by_test (is_single_at (way_of x) (recorded c)) refl (first_single (way_of x) (take n (map recorded cs))) (deleted-from x cs n)
   where
-    by_test : (b : Bool) → is_single_at w c ≡ b → (o : Option ℕ) → list_any (is_deletion_at w) (drop (unwrap_or o n) cs) ≡ list_any (is_deletion_at w) cs
-        → list_any (is_deletion_at w) (drop (unwrap_or (cond b (Some 0) (option_map suc o)) (suc n)) (c ∷ cs)) ≡ list_any (is_deletion_at w) (c ∷ cs)
+    by_test : (b : Bool) → is_single_at (way_of x) (recorded c) ≡ b → (o : Option ℕ) → list_any (is_deletion_of x) (drop (unwrap_or o n) cs) ≡ list_any (is_deletion_of x) cs
+        → list_any (is_deletion_of x) (drop (unwrap_or (cond b (Some 0) (option_map suc o)) (suc n)) (c ∷ cs)) ≡ list_any (is_deletion_of x) (c ∷ cs)
     by_test true y o e = refl
-    by_test false y None e = e ∙ sym (ap (λ k. (k && is_empty (payload_of c)) || list_any (is_deletion_at w) cs) y)
-    by_test false y (Some k) e = e ∙ sym (ap (λ b. (b && is_empty (payload_of c)) || list_any (is_deletion_at w) cs) y)
+    by_test false y None e = e ∙ sym (ap (λ b. b || list_any (is_deletion_of x) cs) (not-deleted x c y))
+    by_test false y (Some k) e = e ∙ sym (ap (λ b. b || list_any (is_deletion_of x) cs) (not-deleted x c y))
 
-pub start-within : {Z S : Type 0} (m : HashMap (Vec ℕ Z) ℕ S) (n : ℕ) (cs : List Change) (w : Way) → AreNoted m n cs → unwrap_or (number_at m w) n ≤ length cs
+pub start-within : {S : Type 0} (m : HashMap Named ℕ S) (n : ℕ) (cs : List Change) (w : Way) → AreNoted m n cs → unwrap_or (number_at m w) n ≤ length cs
 start-within m n cs w noted = by_option (number_at m w) refl
   where
     by_option : (o : Option ℕ) → number_at m w ≡ o → unwrap_or o n ≤ length cs
@@ -167,11 +217,15 @@ start-within m n cs w noted = by_option (number_at m w) refl
         omega (arith, there.0, length-take n cs, noted.within)
 
 -- a deletion among the changes from there on is all that there is
-pub deleted-after : {Z S : Type 0} (m : HashMap (Vec ℕ Z) ℕ S) (n : ℕ) (xs ys : List declared.Change) (w : Way) (s : ℕ) → ys ≡ drop s xs → s ≡ unwrap_or (number_at m w) n → AreNoted m n (map recorded xs)
-    → list_any (is_deletion_at w) (map recorded ys) ≡ list_any (is_deletion_at w) (map recorded xs)
-deleted-after m n xs ys w s rest at noted =
-    let any = λ (l : List Change). list_any (is_deletion_at w) l in
-    ap (λ l. any (map recorded l)) rest
-    ∙ ap any (map-drop s xs)
-    ∙ ap (λ k. any (drop k (map recorded xs))) (at ∙ ap (λ o. unwrap_or o n) (noted.singles.singles w))
-    ∙ deleted-from w (map recorded xs) n
+pub deleted-after : {S : Type 0} (m : HashMap Named ℕ S) (n : ℕ) (cs ds : List declared.Change) (x : SyntaxElement) (s : ℕ) → ds ≡ drop s cs → s ≡ unwrap_or (number_at m (way_of x)) n → AreNoted m n (map recorded cs)
+    → list_any (is_deletion_of x) ds ≡ list_any (is_deletion_of x) cs
+deleted-after m n cs ds x s rest at noted =
+    let any = λ (l : List declared.Change). list_any (is_deletion_of x) l in
+    ap any rest
+    ∙ ap (λ k. any (drop k cs)) (at ∙ ap (λ o. unwrap_or o n) (noted.singles.singles (way_of x)))
+    ∙ deleted-from x cs n
+
+-- a test that is made first
+pub and-first : (a k l : Bool) → ((a && k) && l) ≡ (a && (k && l))
+and-first true k l = refl
+and-first false k l = refl

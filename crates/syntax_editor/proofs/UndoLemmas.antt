@@ -1,5 +1,5 @@
 -- Recorded deletions, undone one after another.
-use Rattle.std.proofs.Common.{◌≡◌, ℕ, ◌-◌, ◌<◌, List, [], ◌∷◌, ◌++◌, length, take, set, get_or, Bool, true, false, ◌&&◌, not, cond, refl, ap, sym, ◌∙◌, subst, arith, length-set, Vec}
+use Rattle.std.proofs.Common.{◌≡◌, ℕ, ◌-◌, ◌<◌, List, [], ◌∷◌, ◌++◌, length, take, set, get_or, Bool, true, false, ◌&&◌, not, cond, refl, ap, sym, ◌∙◌, subst, arith, length-set}
 use Rattle.std.specs.HashMap.{HashMap}
 use Rattle.std.specs.Map.{lookup}
 use Rattle.std.proofs.Math.Seq.{take-append_seam}
@@ -10,6 +10,8 @@ use Rattle.tree_rewrite.specs.Change.{Change, insert, replace}
 use Rattle.tree_rewrite.specs.Recorded.{recorded}
 use Rattle.syntax_editor.specs.Editing.{Editing, with_changes}
 use Rattle.syntax_editor.specs.Noted.{AreNoted}
+use Rattle.syntax_editor.specs.ByWay.{way_of}
+use Rattle.syntax_editor.specs.declared.by_way.Named.{Named}
 use Rattle.syntax_editor.specs.Recording.{Foreign, BadTarget, Recorded, is_target, is_root, is_one_node, over, with_single, replacing}
 use Rattle.syntax_editor.specs.Undo.{undone, all_undone, IsWithin, AreWithin, IsSoundUndo, Undoes, IsUndoOf}
 use Rattle.syntax_editor.specs.declared.undo.Undo.{Undo}
@@ -84,8 +86,8 @@ pub editor-back : (e f : Editing) (us : List Undo) → f ≡ with_changes e f.ch
 editor-back e f us rest back = ap (λ (v : Editing). with_changes v (all_undone us f.changes)) rest ∙ ap (with_changes e) back
 
 -- an empty map has what is noted of no change
-pub nothing-noted : {Z S : Type 0} (m : HashMap (Vec ℕ Z) ℕ S) (cs : List Change) → m.entries ≡ [] → AreNoted m 0 cs
+pub nothing-noted : {S : Type 0} (m : HashMap Named ℕ S) (cs : List Change) → m.entries ≡ [] → AreNoted m 0 cs
 nothing-noted m cs empty = record {
   within = omega arith;
-  singles = record { singles = λ w. ap (lookup (λ k. same_way w k.items)) empty };
+  singles = record { singles = λ w. ap (lookup (λ k. same_way w (way_of k.0))) empty };
 }

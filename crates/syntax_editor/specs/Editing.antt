@@ -31,6 +31,10 @@ untouched top = record { top = top; changes = []; mapping = []; annotations = []
 abbrev pub with_changes : Editing → List Change → Editing
 with_changes e cs = record { top = e.top; changes = cs; mapping = e.mapping; annotations = e.annotations }
 
+-- with these annotated elements after its own
+abbrev pub with_annotated : Editing → List Annotated → Editing
+with_annotated e more = record { top = e.top; changes = e.changes; mapping = e.mapping; annotations = e.annotations ++ more }
+
 -- a root is edited itself; of an inner node a copy is, as a new tree of this number
 abbrev pub IsEdited : Element → ℕ → Element → Type 0
 IsEdited e n top = is_edited e.place.up

@@ -3,6 +3,7 @@ pub mod Recording
 pub mod Rewriting
 pub mod Refusal
 pub mod Inside
+pub mod ByWay
 pub mod Noted
 pub mod Undo
 pub mod Lending

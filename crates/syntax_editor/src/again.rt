@@ -34,7 +34,8 @@ impl SyntaxEditor {
         origins: &[SyntaxElement],
     ) -> Result<Vec<(SyntaxElement, SyntaxAnnotation)>, AllocError>
         ensures { AreOrigins (rewriting self.now) root.now (map element_of origins.now)
-            → IfOk result (λ v. map annotated v.items ≡ map (annotated_at root.now) (found_again self.now)) }
+            → IfOk result (λ v. map annotated v.items
+            ≡ map (annotated_at root.now) (found_again self.now)) }
     {
         annotated(alloc, &self.mapping, &self.annotations, root, origins)
     }

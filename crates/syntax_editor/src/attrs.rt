@@ -68,7 +68,8 @@ impl SyntaxEditor {
         ensures recorded { OnOk result (deleting_each self.old (map element_of elements.now)
             ≡ Recorded self.new.changes) }
         ensures rest { OnOk result (self.new ≡ with_changes self.old self.new.changes) }
-        ensures refused { IfErr result (RefusesRecord (deleting_each self.old (map element_of elements.now))) }
+        ensures refused { IfErr result
+            (RefusesRecord (deleting_each self.old (map element_of elements.now))) }
         ensures kept { IfErr result (λ _. self.new ≡ self.old) }
     {
         let mut undos = Vec::new(alloc);
@@ -92,7 +93,8 @@ impl SyntaxEditor {
     /// Records that the attributes and comments among the children of a node are deleted, and the
     /// whitespace right after them. On error, the editor is unchanged.
     fn remove_attrs(&mut self, alloc: Global, node: &SyntaxNode) -> Result<(), RecordError>
-        ensures recorded { OnOk result (removing_attrs self.old node.now ≡ Recorded self.new.changes) }
+        ensures recorded { OnOk result
+            (removing_attrs self.old node.now ≡ Recorded self.new.changes) }
         ensures rest { OnOk result (self.new ≡ with_changes self.old self.new.changes) }
         ensures refused { IfErr result (RefusesRecord (removing_attrs self.old node.now)) }
         ensures kept { IfErr result (λ _. self.new ≡ self.old) }
@@ -124,7 +126,8 @@ pub trait AttrsOwnerEdit: HasAttrs {
         ensures recorded { OnOk result (removing_attrs editor.old (Self.stands self.now)
             ≡ Recorded editor.new.changes) }
         ensures rest { OnOk result (editor.new ≡ with_changes editor.old editor.new.changes) }
-        ensures refused { IfErr result (RefusesRecord (removing_attrs editor.old (Self.stands self.now))) }
+        ensures refused { IfErr result
+            (RefusesRecord (removing_attrs editor.old (Self.stands self.now))) }
         ensures kept { IfErr result (λ _. editor.new ≡ editor.old) }
     {
         editor.remove_attrs(alloc, self.syntax())

@@ -155,12 +155,16 @@ impl Told {
         origins: &Origins,
     ) -> Result<Told, AllocError>
         ensures changed { (m : Marked) → ArePutMarks m root.now origins.now.put.items → IfOk result
-            (λ t. map element_of t.changed_elements.items ≡ map (element_at root.now.number root.now.place.root) (changed m)) }
-        ensures annotated { (m : Marked) → AreOrigins m root.now (map element_of origins.now.elements.items)
+            (λ t. map element_of t.changed_elements.items
+            ≡ map (element_at root.now.number root.now.place.root) (changed m)) }
+        ensures annotated { (m : Marked)
+            → AreOrigins m root.now (map element_of origins.now.elements.items)
             → IfOk result
-            (λ t. elements_of t.annotated.items ≡ elements_at root.now (annotated mapping.now (elements_of annotations.now) m)) }
+            (λ t. elements_of t.annotated.items
+            ≡ elements_at root.now (annotated mapping.now (elements_of annotations.now) m)) }
         ensures groups { IfOk result (λ t. (n : ℕ) →
-            map element_of (group_of t.groups n) ≡ of_annotation n (map inside.annotated t.annotated.items)) }
+            map element_of (group_of t.groups n)
+            ≡ of_annotation n (map inside.annotated t.annotated.items)) }
     {
         let changed_elements = changed(alloc, root, &origins.put)?;
         let annotated = annotated(alloc, mapping, annotations, root, &origins.elements)?;

@@ -5,25 +5,25 @@ ghost use Rattle.syntax_tree.specs.Element.{Way, Element};
 ghost use Rattle.syntax_tree.specs.Handle.{element_of};
 ghost use Rattle.tree_rewrite.specs.Change.{IsOneNode};
 ghost use Rattle.tree_rewrite.specs.Recorded.{recorded};
-ghost use Rattle.syntax_editor.specs.Editing.{with_annotation, untouched, with_changes, IsEdited, next_number, RefusesEditor};
+ghost use Rattle.syntax_editor.specs.Editing.{with_annotation, with_annotated, untouched, with_changes, IsEdited, next_number, RefusesEditor};
 ghost use Rattle.syntax_editor.specs.Recording.{is_single_at, over, with_single, is_deleted};
 ghost use Rattle.syntax_editor.specs.Inside.{IsOf, IsSound, annotated};
 ghost use Rattle.syntax_editor.specs.Lending.{LendsMapping};
 ghost use Rattle.syntax_editor.specs.Noted.{first_single};
+ghost use Rattle.syntax_editor.specs.ByWay.{way_of};
 
 use crate::annotation::{SyntaxAnnotation, marked};
+use crate::by_way::{Singles, number_at};
 use crate::factory::{FACTORY, SyntaxFactory};
 use crate::make_error::MakeError;
 use crate::noted::{is_deleted, note_all};
 use crate::recorded::puts_nothing;
-use crate::target::target;
 use std::alloc::{AllocError, Global};
 use std::collections::HashMap;
 use std::marker::Model;
 use std::mem;
-use syntax_tree::{SyntaxElement, SyntaxMapping, SyntaxNode, TreeIds};
+use syntax_tree::{Element, SyntaxElement, SyntaxMapping, SyntaxNode, TreeIds};
 use tree_rewrite::change::Change;
-use tree_rewrite::way_map::{WayMap, number_at};
 
 /// The changes, mapped nodes and annotated elements that are recorded on a tree.
 ///
@@ -37,7 +37,7 @@ pub struct SyntaxEditor {
     pub(crate) annotations: Vec<(SyntaxElement, SyntaxAnnotation)>,
     /// Of the first `noted` changes: the index of the first change of each element that was named
     /// alone, by the path of the element.
-    pub(crate) singles: WayMap,
+    pub(crate) singles: Singles,
     pub(crate) noted: usize,
 }
 
@@ -137,18 +137,16 @@ impl SyntaxEditor {
     }
 
     /// Records that `element`, of any tree, is annotated. On error, the editor is unchanged.
-    pub fn add_annotation(
+    pub fn add_annotation<E: Element>(
         &mut self,
-        element: &SyntaxElement,
+        element: E,
         annotation: SyntaxAnnotation,
     ) -> Result<(), AllocError>
-        ensures ok { OnOk result (self.new ≡
-            record self.old {
-              annotations = self.old.annotations ++ (record { annotation = annotation.number; element = element_of element.now }) ∷ [];
-            }) }
+        ensures ok { OnOk result (self.new ≡ with_annotated self.old
+            (with_annotation annotation.number (element_of (E.element element)) ∷ [])) }
         ensures err { OnErr result (self.new ≡ self.old) }
     {
-        let element = element.clone()?;
+        let element = element.syntax_element()?;
         self.annotations.push((element, annotation))?;
         Ok(())
     }
@@ -161,10 +159,8 @@ impl SyntaxEditor {
         elements: &[SyntaxElement],
         annotation: SyntaxAnnotation,
     ) -> Result<(), AllocError>
-        ensures ok { OnOk result (self.new ≡
-            record self.old {
-              annotations = self.old.annotations ++ map (with_annotation annotation.number) (map element_of elements.now);
-            }) }
+        ensures ok { OnOk result (self.new ≡ with_annotated self.old
+            (map (with_annotation annotation.number) (map element_of elements.now))) }
         ensures err { OnErr result (self.new ≡ self.old) }
     {
         let mut marked = marked(alloc, elements, annotation)?;
@@ -172,15 +168,12 @@ impl SyntaxEditor {
         Ok(())
     }
 
-    /// Returns `true` if a deletion of just this element is recorded.
-    pub fn deleted(&self, alloc: Global, element: &SyntaxElement) -> Result<bool, AllocError>
-        ensures { IfOk result (λ b. b ≡ is_deleted self.now (element_of element.now)) }
+    /// Returns `true` if a deletion of just this element is recorded. It allocates nothing.
+    pub fn deleted(&self, element: &SyntaxElement) -> bool
+        ensures { result ≡ is_deleted self.now (element_of element.now) }
     {
-        if target(alloc, &self.root, element)?.is_none() {
-            return Ok(false);
-        }
-        let way = element.way(alloc)?;
-        is_deleted(alloc, &way, &self.changes, self.noted, &self.singles)
+        element.tree() == self.root.tree()
+            && is_deleted(element, &self.changes, self.noted, &self.singles)
     }
 
     /// Appends a change. On error, the editor is unchanged.
@@ -194,24 +187,23 @@ impl SyntaxEditor {
         Ok(())
     }
 
-    /// Returns the index of the first change of the element at `way`, named alone, if any.
+    /// Returns the index of the first change of the element that has the path of `element`, named
+    /// alone, if any.
     pub(crate) fn first_single(
         &mut self,
-        alloc: Global,
-        way: &[usize],
+        element: &SyntaxElement,
     ) -> Result<Option<usize>, AllocError>
-        ensures number { IfOk result (λ n. n ≡ first_single way.now self.old.changes) }
+        ensures number { IfOk result (λ n. n ≡ first_single (way_of element.now) self.old.changes) }
         ensures same { self.new ≡ self.old }
     {
-        note_all(alloc, &self.changes, &mut self.noted, &mut self.singles)?;
-        Ok(number_at(&self.singles, way))
+        note_all(&self.changes, &mut self.noted, &mut self.singles)?;
+        Ok(number_at(&self.singles, element))
     }
 
     /// Records that an element of the tree, named alone, becomes `new`. This replaces a recorded
     /// change of it alone, unless that is a deletion. On error, the editor is unchanged.
     pub(crate) fn put_alone(
         &mut self,
-        alloc: Global,
         old: SyntaxElement,
         new: Vec<SyntaxElement>,
     ) -> Result<(), AllocError>
@@ -221,7 +213,7 @@ impl SyntaxEditor {
             (with_single self.old.changes (element_of old).place.up (map element_of new.items))) }
         ensures err { OnErr result (self.new ≡ self.old) }
     {
-        let way = old.way(alloc)?;
+        let number = self.first_single(&old)?;
         let last = old.clone()?;
         let change = Change::Replace {
             first: old,
@@ -229,7 +221,7 @@ impl SyntaxEditor {
             new,
             single: true,
         };
-        match self.first_single(alloc, &way)? {
+        match number {
             None => self.push(change),
             Some(number) => {
                 self.put_over(number, change);
@@ -243,9 +235,11 @@ impl SyntaxEditor {
         requires within { number < length self.old.changes }
         requires sound { IsSound self.old.top change }
         requires single { (w : Way) →
-            is_single_at w (recorded change) ≡ is_single_at w (get_or self.old.changes number (recorded change)) }
+            is_single_at w (recorded change)
+            ≡ is_single_at w (get_or self.old.changes number (recorded change)) }
         ensures { self.new ≡ with_changes self.old
-            (set self.old.changes number (over (get_or self.old.changes number (recorded change)) (recorded change))) }
+            (set self.old.changes number
+            (over (get_or self.old.changes number (recorded change)) (recorded change))) }
     {
         if !puts_nothing(&self.changes[number]) {
             drop(mem::replace(&mut self.changes[number], change));

@@ -37,7 +37,8 @@ impl SyntaxFactory {
         ids: &mut TreeIds,
     ) -> Result<SyntaxToken, MakeError>
         ensures ok { IfOk result (λ t. t ≡ element_at ids.old
-            (tree_of TOMBSTONE (Token (record { kind = WHITESPACE; text = text.now }) ∷ [])) (0 ∷ [])) }
+            (tree_of TOMBSTONE (Token (record { kind = WHITESPACE; text = text.now }) ∷ []))
+            (0 ∷ [])) }
         ensures number { OnOk result (ids.new ≡ ids.old + 1) }
         ensures refused { IfErr result (RefusesMake text.now ids.old) }
         ensures kept { IfErr result (λ _. ids.new ≡ ids.old) }
@@ -62,7 +63,8 @@ impl SyntaxFactory {
         ids: &mut TreeIds,
     ) -> Result<SyntaxToken, MakeError>
         ensures ok { IfOk result (λ t. t ≡ element_at ids.old
-            (tree_of TOMBSTONE (Token (record { kind = raw_of kind; text = text.now }) ∷ [])) (0 ∷ [])) }
+            (tree_of TOMBSTONE (Token (record { kind = raw_of kind; text = text.now }) ∷ []))
+            (0 ∷ [])) }
         ensures number { OnOk result (ids.new ≡ ids.old + 1) }
         ensures refused { IfErr result (RefusesMake text.now ids.old) }
         ensures kept { IfErr result (λ _. ids.new ≡ ids.old) }

@@ -31,7 +31,8 @@ fn push_to(
     groups: &mut Groups,
 ) -> Result<(), AllocError>
     ensures { (n : ℕ) → OnOk result
-        (group_of groups.new n ≡ group_of groups.old n ++ (if number == n then element ∷ [] else [])) }
+        (group_of groups.new n ≡ group_of groups.old n
+        ++ (if number == n then element ∷ [] else [])) }
 {
     let mut elements = groups.remove(&number).unwrap_or(Vec::new(alloc));
     elements.push(element)?;

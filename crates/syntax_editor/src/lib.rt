@@ -7,6 +7,7 @@
 pub mod again;
 pub mod annotation;
 pub mod attrs;
+mod by_way;
 pub mod edit;
 pub mod editor;
 pub mod error;

@@ -5,9 +5,12 @@ ghost use Rattle.syntax_tree.specs.Element.{Element};
 ghost use Rattle.syntax_tree.specs.Handle.{element_of};
 ghost use Rattle.tree_rewrite.specs.Recorded.{recorded, IsOrdered};
 ghost use Rattle.tree_rewrite.specs.Rewrite.{payload_of};
-ghost use Rattle.syntax_editor.specs.Recording.{is_single_at, is_deletion_at, is_empty};
+ghost use Rattle.syntax_editor.specs.Noted.{is_deletion_of};
+ghost use Rattle.syntax_editor.specs.Recording.{is_empty};
 ghost use Rattle.syntax_editor.specs.Inside.{IsOwn};
 
+use crate::by_way::has_way_of;
+use crate::target::same_kind;
 use std::alloc::{AllocError, Global};
 use syntax_tree::{Position, SyntaxElement};
 use tree_rewrite::change::Change;
@@ -22,36 +25,28 @@ pub(crate) fn puts_nothing(change: &Change) -> bool
     }
 }
 
-/// Returns `true` if the change is one of the element at `way`, named alone.
-pub(crate) fn is_single_at(
-    alloc: Global,
-    way: &[usize],
-    change: &Change,
-) -> Result<bool, AllocError>
-    ensures { IfOk result (λ b. b ≡ is_single_at way.now (recorded change.now)) }
+/// Returns `true` if the change deletes the element that has the path of `element`, named alone,
+/// and both have the same kind.
+fn deletes(element: &SyntaxElement, change: &Change) -> bool
+    ensures { result ≡ is_deletion_of element.now change.now }
 {
     match change {
-        Change::Insert { .. } => Ok(false),
-        Change::Replace { first, single, .. } => {
-            Ok(*single && first.way(alloc)?.as_slice() == way)
-        }
+        Change::Insert { .. } => false,
+        Change::Replace {
+            first,
+            new,
+            single,
+            ..
+        } => *single && has_way_of(first, element) && new.is_empty() && same_kind(first, element),
     }
 }
 
-/// Returns `true` if a deletion of the element at `way`, named alone, is among `changes`.
-pub(crate) fn has_deletion_at(
-    alloc: Global,
-    way: &[usize],
-    changes: &[Change],
-) -> Result<bool, AllocError>
-    ensures { IfOk result (λ b. b ≡ list_any (is_deletion_at way.now) (map recorded changes.now)) }
+/// Returns `true` if one of the changes deletes the element that has the path of `element`, named
+/// alone, and both have the same kind.
+pub(crate) fn has_deletion_of(element: &SyntaxElement, changes: &[Change]) -> bool
+    ensures { result ≡ list_any (is_deletion_of element.now) changes.now }
 {
-    for change in changes {
-        if puts_nothing(change) && is_single_at(alloc, way, change)? {
-            return Ok(true);
-        }
-    }
-    Ok(false)
+    changes.iter().any(|change| deletes(element, change))
 }
 
 /// Returns copies of `elements`.

@@ -11,7 +11,7 @@ use crate::editor::SyntaxEditor;
 use crate::error::RecordError;
 use crate::target::{are_in_order, gap, is_one_node, target};
 use std::alloc::{AllocError, Global};
-use syntax_tree::{Position, SyntaxElement};
+use syntax_tree::{Element, Position, SyntaxElement};
 use tree_rewrite::change::Change;
 
 /// A range of siblings of the edited tree, by its ends.
@@ -31,21 +31,21 @@ impl SyntaxEditor {
     /// - [`RecordError::NoMemory`] if an allocation fails.
     ///
     /// On error, the editor is unchanged.
-    pub fn insert(
+    pub fn insert<E: Element>(
         &mut self,
         alloc: Global,
         position: Position,
-        new: &SyntaxElement,
+        new: E,
     ) -> Result<(), RecordError>
         ensures recorded { OnOk result (inserting self.old position.parent position.index
-            (element_of new.now ∷ [])
+            (element_of (E.element new) ∷ [])
             ≡ Recorded self.new.changes) }
         ensures rest { OnOk result (self.new ≡ with_changes self.old self.new.changes) }
         ensures refused { IfErr result (RefusesRecord
-            (inserting self.old position.parent position.index (element_of new.now ∷ []))) }
+            (inserting self.old position.parent position.index (element_of (E.element new) ∷ []))) }
         ensures kept { IfErr result (λ _. self.new ≡ self.old) }
     {
-        let new = vec![in alloc; new.clone()?]?;
+        let new = vec![in alloc; new.syntax_element()?]?;
         self.insert_all(alloc, position, new)
     }
 
@@ -93,14 +93,16 @@ impl SyntaxEditor {
     /// - [`RecordError::NoMemory`] if an allocation fails.
     ///
     /// On error, the editor is unchanged.
-    pub fn delete(&mut self, alloc: Global, element: &SyntaxElement) -> Result<(), RecordError>
-        ensures recorded { OnOk result (replacing self.old (element_of element.now) []
+    pub fn delete<E: Element>(&mut self, alloc: Global, element: E) -> Result<(), RecordError>
+        ensures recorded { OnOk result (replacing self.old (element_of (E.element element)) []
             ≡ Recorded self.new.changes) }
         ensures rest { OnOk result (self.new ≡ with_changes self.old self.new.changes) }
-        ensures refused { IfErr result (RefusesRecord (replacing self.old (element_of element.now) [])) }
+        ensures refused { IfErr result (RefusesRecord
+            (replacing self.old (element_of (E.element element)) [])) }
         ensures kept { IfErr result (λ _. self.new ≡ self.old) }
     {
-        self.put_for(alloc, element, Vec::new(alloc))
+        let element = element.syntax_element()?;
+        self.put_for(alloc, &element, Vec::new(alloc))
     }
 
     /// Records that an element is replaced by another one. This replaces its recorded replacement
@@ -113,21 +115,22 @@ impl SyntaxEditor {
     /// - [`RecordError::NoMemory`] if an allocation fails.
     ///
     /// On error, the editor is unchanged.
-    pub fn replace(
+    pub fn replace<O: Element, N: Element + Drop>(
         &mut self,
         alloc: Global,
-        old: &SyntaxElement,
-        new: &SyntaxElement,
+        old: O,
+        new: N,
     ) -> Result<(), RecordError>
-        ensures recorded { OnOk result (replacing self.old (element_of old.now) (element_of new.now ∷ [])
-            ≡ Recorded self.new.changes) }
+        ensures recorded { OnOk result (replacing self.old (element_of (O.element old))
+            (element_of (N.element new) ∷ []) ≡ Recorded self.new.changes) }
         ensures rest { OnOk result (self.new ≡ with_changes self.old self.new.changes) }
         ensures refused { IfErr result (RefusesRecord
-            (replacing self.old (element_of old.now) (element_of new.now ∷ []))) }
+            (replacing self.old (element_of (O.element old)) (element_of (N.element new) ∷ []))) }
         ensures kept { IfErr result (λ _. self.new ≡ self.old) }
     {
-        let new = vec![in alloc; new.clone()?]?;
-        self.put_for(alloc, old, new)
+        let old = old.syntax_element()?;
+        let new = vec![in alloc; new.syntax_element()?]?;
+        self.put_for(alloc, &old, new)
     }
 
     /// Records that an element, named alone, becomes `new`, of at most one element. On error, the
@@ -138,7 +141,8 @@ impl SyntaxEditor {
         old: &SyntaxElement,
         new: Vec<SyntaxElement>,
     ) -> Result<(), RecordError>
-        ensures recorded { OnOk result (replacing self.old (element_of old.now) (map element_of new.items)
+        ensures recorded { OnOk result
+            (replacing self.old (element_of old.now) (map element_of new.items)
             ≡ Recorded self.new.changes) }
         ensures rest { OnOk result (self.new ≡ with_changes self.old self.new.changes) }
         ensures refused { IfErr result (RefusesRecord
@@ -152,7 +156,7 @@ impl SyntaxEditor {
         if way.is_empty() && !is_one_node(&new) {
             return Err(RecordError::BadTarget);
         }
-        self.put_alone(alloc, own, new)?;
+        self.put_alone(own, new)?;
         Ok(())
     }
 
@@ -165,20 +169,21 @@ impl SyntaxEditor {
     /// - [`RecordError::NoMemory`] if an allocation fails.
     ///
     /// On error, the editor is unchanged.
-    pub fn replace_with_many(
+    pub fn replace_with_many<E: Element>(
         &mut self,
         alloc: Global,
-        old: &SyntaxElement,
+        old: E,
         new: Vec<SyntaxElement>,
     ) -> Result<(), RecordError>
-        ensures recorded { OnOk result (replacing_many self.old (element_of old.now) (map element_of new.items)
-            ≡ Recorded self.new.changes) }
+        ensures recorded { OnOk result (replacing_many self.old (element_of (E.element old))
+            (map element_of new.items) ≡ Recorded self.new.changes) }
         ensures rest { OnOk result (self.new ≡ with_changes self.old self.new.changes) }
         ensures refused { IfErr result (RefusesRecord
-            (replacing_many self.old (element_of old.now) (map element_of new.items))) }
+            (replacing_many self.old (element_of (E.element old)) (map element_of new.items))) }
         ensures kept { IfErr result (λ _. self.new ≡ self.old) }
     {
-        let Some(first) = target(alloc, &self.root, old)? else {
+        let old = old.syntax_element()?;
+        let Some(first) = target(alloc, &self.root, &old)? else {
             return Err(RecordError::Foreign);
         };
         let way = first.way(alloc)?;
@@ -212,7 +217,8 @@ impl SyntaxEditor {
         ensures one { IfOk result (λ r. r ≡ None → (new : List Element) (alone : Recording) →
             ranging self.now (element_of first.now) (element_of last.now) new alone ≡ alone) }
         ensures many { IfOk result (λ r. IfSome r (λ row.
-            IsRow self.now (element_of first.now) (element_of last.now) (element_of row.first) (element_of row.last))) }
+            IsRow self.now (element_of first.now) (element_of last.now) (element_of row.first)
+            (element_of row.last))) }
         ensures refused { (new : List Element) (alone : Recording) → IfErr result (RefusesRecord
             (ranging self.now (element_of first.now) (element_of last.now) new alone)) }
     {
@@ -240,7 +246,8 @@ impl SyntaxEditor {
     fn put_row(&mut self, row: Row, new: Vec<SyntaxElement>) -> Result<(), AllocError>
         requires { IsOwnRow self.old.top (element_of row.first) (element_of row.last) }
         ensures ok { OnOk result (self.new ≡ with_changes self.old
-            (self.old.changes ++ row_becomes (element_of row.first) (element_of row.last) (map element_of new.items) ∷ [])) }
+            (self.old.changes ++ row_becomes (element_of row.first) (element_of row.last)
+            (map element_of new.items) ∷ [])) }
         ensures err { OnErr result (self.new ≡ self.old) }
     {
         self.push(Change::Replace {
@@ -274,7 +281,8 @@ impl SyntaxEditor {
             ≡ Recorded self.new.changes) }
         ensures rest { OnOk result (self.new ≡ with_changes self.old self.new.changes) }
         ensures refused { IfErr result (RefusesRecord
-            (replacing_all self.old (element_of first.now) (element_of last.now) (map element_of new.items))) }
+            (replacing_all self.old (element_of first.now) (element_of last.now)
+            (map element_of new.items))) }
         ensures kept { IfErr result (λ _. self.new ≡ self.old) }
     {
         match self.row(alloc, first, last)? {
@@ -300,7 +308,8 @@ impl SyntaxEditor {
         first: &SyntaxElement,
         last: &SyntaxElement,
     ) -> Result<(), RecordError>
-        ensures recorded { OnOk result (deleting_all self.old (element_of first.now) (element_of last.now)
+        ensures recorded { OnOk result
+            (deleting_all self.old (element_of first.now) (element_of last.now)
             ≡ Recorded self.new.changes) }
         ensures rest { OnOk result (self.new ≡ with_changes self.old self.new.changes) }
         ensures refused { IfErr result (RefusesRecord

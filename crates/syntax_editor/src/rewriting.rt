@@ -62,7 +62,8 @@ pub(crate) fn made(
         (rewriting (editing_of root.now changes.items mapping.now))) }
     ensures fits { OnOk result (new_fits (rewriting (editing_of root.now changes.items mapping.now))
         ≡ true) }
-    ensures refused { IfErr result (RefusesRewriting (editing_of root.now changes.items mapping.now)) }
+    ensures refused { IfErr result
+        (RefusesRewriting (editing_of root.now changes.items mapping.now)) }
 {
     let plan = Plan::build(alloc, root, changes, mapping)?;
     let order = plan.order(alloc)?;

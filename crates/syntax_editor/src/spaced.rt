@@ -12,7 +12,7 @@ use crate::target::{gap, raw_kind};
 use crate::whitespace::{Space, is};
 use parser_input::SyntaxKind;
 use std::alloc::{AllocError, Global};
-use syntax_tree::{Position, SyntaxElement, SyntaxNode, SyntaxToken, TreeIds, elements};
+use syntax_tree::{Element, Position, SyntaxElement, SyntaxNode, SyntaxToken, TreeIds, elements};
 use tree_rewrite::change::Change;
 
 /// Returns `true` if elements of this raw kind are statements, or items among them.
@@ -169,11 +169,13 @@ fn spaced(
 ) -> Result<Vec<SyntaxElement>, WhitespaceError>
     ensures ok { IfOk result (λ v. map element_of v.items
         ≡ spaced parent.now index ids.old elements.items) }
-    ensures number { OnOk result (ids.new ≡ ids.old + spaced_count parent.now index elements.items) }
+    ensures number { OnOk result
+        (ids.new ≡ ids.old + spaced_count parent.now index elements.items) }
     ensures refused { IfErr result (RefusesSpaced true
         (ids.old + spaced_count parent.now index elements.items)) }
     ensures forward { IfErr result (λ _. ids.old ≤ ids.new) }
-    ensures within { IfErr result (λ _. ids.new ≤ ids.old + spaced_count parent.now index elements.items) }
+    ensures within { IfErr result
+        (λ _. ids.new ≤ ids.old + spaced_count parent.now index elements.items) }
 {
     let before = space_before_all(alloc, parent, index, &elements)?;
     let after = space_after_all(alloc, parent, index, &elements)?;
@@ -188,26 +190,27 @@ fn spaced(
 impl SyntaxEditor {
     /// Records that an element is inserted into a gap with whitespace around it, as
     /// [`SyntaxEditor::insert_all_with_whitespace`] does.
-    pub fn insert_with_whitespace(
+    pub fn insert_with_whitespace<E: Element>(
         &mut self,
         alloc: Global,
         position: Position,
-        new: &SyntaxElement,
+        new: E,
         ids: &mut TreeIds,
     ) -> Result<(), WhitespaceError>
-        ensures recorded { OnOk result (inserting_spaced self.old position.parent position.index ids.old (new.now ∷ [])
-            ≡ Recorded self.new.changes) }
+        ensures recorded { OnOk result (inserting_spaced self.old position.parent position.index
+            ids.old (E.element new ∷ []) ≡ Recorded self.new.changes) }
         ensures rest { OnOk result (self.new ≡ with_changes self.old self.new.changes) }
         ensures number { OnOk result (ids.new
-            ≡ number_after self.old position.parent position.index ids.old (new.now ∷ [])) }
-        ensures refused { IfErr result (RefusesSpaced (is_gap self.old.top position.parent position.index)
-            (number_after self.old position.parent position.index ids.old (new.now ∷ []))) }
+            ≡ number_after self.old position.parent position.index ids.old (E.element new ∷ [])) }
+        ensures refused { IfErr result
+            (RefusesSpaced (is_gap self.old.top position.parent position.index)
+            (number_after self.old position.parent position.index ids.old (E.element new ∷ []))) }
         ensures kept { IfErr result (λ _. self.new ≡ self.old) }
         ensures forward { IfErr result (λ _. ids.old ≤ ids.new) }
         ensures within { IfErr result (λ _. ids.new ≤
-            number_after self.old position.parent position.index ids.old (new.now ∷ [])) }
+            number_after self.old position.parent position.index ids.old (E.element new ∷ [])) }
     {
-        let new = vec![in alloc; new.clone()?]?;
+        let new = vec![in alloc; new.syntax_element()?]?;
         self.insert_all_with_whitespace(alloc, position, new, ids)
     }
 
@@ -229,12 +232,14 @@ impl SyntaxEditor {
         new: Vec<SyntaxElement>,
         ids: &mut TreeIds,
     ) -> Result<(), WhitespaceError>
-        ensures recorded { OnOk result (inserting_spaced self.old position.parent position.index ids.old new.items
+        ensures recorded { OnOk result
+            (inserting_spaced self.old position.parent position.index ids.old new.items
             ≡ Recorded self.new.changes) }
         ensures rest { OnOk result (self.new ≡ with_changes self.old self.new.changes) }
         ensures number { OnOk result (ids.new
             ≡ number_after self.old position.parent position.index ids.old new.items) }
-        ensures refused { IfErr result (RefusesSpaced (is_gap self.old.top position.parent position.index)
+        ensures refused { IfErr result
+            (RefusesSpaced (is_gap self.old.top position.parent position.index)
             (number_after self.old position.parent position.index ids.old new.items)) }
         ensures kept { IfErr result (λ _. self.new ≡ self.old) }
         ensures forward { IfErr result (λ _. ids.old ≤ ids.new) }

@@ -24,7 +24,7 @@ pub(crate) fn raw_kind(element: &SyntaxElement) -> u16
 }
 
 /// Returns `true` if two elements have the same kind.
-fn same_kind(one: &SyntaxElement, other: &SyntaxElement) -> bool
+pub(crate) fn same_kind(one: &SyntaxElement, other: &SyntaxElement) -> bool
     ensures { result ≡ same_kind (term_of (element_of one.now)) (term_of (element_of other.now)) }
 {
     raw_kind(one) == raw_kind(other)
@@ -96,7 +96,8 @@ pub(crate) fn gap(
     root: &SyntaxNode,
     position: &Position,
 ) -> Result<Option<SyntaxNode>, AllocError>
-    ensures tested { IfOk result (λ t. is_some t ≡ is_gap root.now position.now.parent position.now.index) }
+    ensures tested { IfOk result
+        (λ t. is_some t ≡ is_gap root.now position.now.parent position.now.index) }
     ensures stands { IfOk result (λ t. IfSome t (λ e. e ≡
         element_at root.now.number root.now.place.root position.now.parent.place.up)) }
 {

@@ -29,7 +29,8 @@ impl SyntaxEditor {
         ensures number { OnOk result (ids.new ≡ next_number (T.stands node.now).place.up ids.old) }
         ensures refused { IfErr result (RefusesEditor (T.stands node.now).place.up ids.old) }
         ensures forward { IfErr result (λ _. ids.old ≤ ids.new) }
-        ensures within { IfErr result (λ _. ids.new ≤ next_number (T.stands node.now).place.up ids.old) }
+        ensures within { IfErr result
+            (λ _. ids.new ≤ next_number (T.stands node.now).place.up ids.old) }
     {
         let node = node.syntax().clone()?;
         let (editor, root) = SyntaxEditor::new(alloc, node, ids)?;

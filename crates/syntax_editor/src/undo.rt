@@ -44,8 +44,10 @@ fn apply(changes: &mut Vec<Change>, undo: Undo)
 /// Undoes deletions, the last first.
 fn apply_all(changes: &mut Vec<Change>, undos: Vec<Undo>)
     requires { AreWithin undos.items (map recorded changes.old.items) }
-    ensures undone { map recorded changes.new.items ≡ all_undone undos.items (map recorded changes.old.items) }
-    ensures sound { (top : Element) → All (IsSoundUndo top) undos.items → All (IsSound top) changes.old.items
+    ensures undone { map recorded changes.new.items
+        ≡ all_undone undos.items (map recorded changes.old.items) }
+    ensures sound { (top : Element) → All (IsSoundUndo top) undos.items
+        → All (IsSound top) changes.old.items
         → All (IsSound top) changes.new.items }
 {
     let mut undos = undos;
@@ -57,18 +59,16 @@ fn apply_all(changes: &mut Vec<Change>, undos: Vec<Undo>)
 impl SyntaxEditor {
     /// Returns the step that will undo a deletion of `element`, which is not recorded yet.
     fn undo_of(&mut self, alloc: Global, element: &SyntaxElement) -> Result<Undo, AllocError>
-        ensures undo { IfOk result (λ u. IsUndoOf (element_of element.now).place.up self.old.changes u) }
+        ensures undo { IfOk result
+            (λ u. IsUndoOf (element_of element.now).place.up self.old.changes u) }
         ensures sound { IfOk result (λ u. IsSoundUndo self.old.top u) }
         ensures same { self.new ≡ self.old }
     {
-        let way = element.way(alloc)?;
-        match self.first_single(alloc, &way)? {
-            None => Ok(Undo::Remove),
-            Some(index) => {
-                let change = copy(alloc, &self.changes[index])?;
-                Ok(Undo::Restore(index, change))
-            }
-        }
+        let Some(index) = self.first_single(element)? else {
+            return Ok(Undo::Remove);
+        };
+        let change = copy(alloc, &self.changes[index])?;
+        Ok(Undo::Restore(index, change))
     }
 
     /// Records that an element is deleted, as `delete` does, and appends the step that undoes this.
@@ -82,9 +82,11 @@ impl SyntaxEditor {
         ensures recorded { OnOk result (replacing self.old (element_of element.now) []
             ≡ Recorded self.new.changes) }
         ensures rest { OnOk result (self.new ≡ with_changes self.old self.new.changes) }
-        ensures undoes { OnOk result ((old : List specs.Change) → Undoes self.old.top undos.old.items self.old.changes old
+        ensures undoes { OnOk result
+            ((old : List specs.Change) → Undoes self.old.top undos.old.items self.old.changes old
             → Undoes self.old.top undos.new.items self.new.changes old) }
-        ensures refused { IfErr result (RefusesRecord (replacing self.old (element_of element.now) [])) }
+        ensures refused { IfErr result
+            (RefusesRecord (replacing self.old (element_of element.now) [])) }
         ensures kept { IfErr result (λ _. self.new ≡ self.old) }
         ensures undos { IfErr result (λ _. undos.new.items ≡ undos.old.items) }
     {

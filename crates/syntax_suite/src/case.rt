@@ -207,7 +207,8 @@ fn row(
     parent: &SyntaxNode,
     change: &Value,
 ) -> anyhow::Result<(SyntaxElement, SyntaxElement)>
-    ensures ordered { IfOk result (λ r. index_of (element_of r.0).place ≤ index_of (element_of r.1).place) }
+    ensures ordered { IfOk result
+        (λ r. index_of (element_of r.0).place ≤ index_of (element_of r.1).place) }
     ensures below { IfOk result (λ r. is_none (parent_of (element_of r.0)) ≡ false) }
 {
     let first = child(alloc, parent, number(change, "first")?)?;
@@ -352,7 +353,7 @@ fn are_origins(alloc: Global, case: &Value, origins: &[SyntaxElement]) -> anyhow
 
 /// Returns `true` if `order` is admitted, and the plan, executed in it, results in the tree, the
 /// changed ranges and the origins of the case.
-fn is_made(alloc: Global, case: &Value, plan: &Plan, order: &[usize]) -> anyhow::Result<bool> {
+fn is_made(alloc: Global, case: &Value, plan: Plan, order: &[usize]) -> anyhow::Result<bool> {
     if !plan.is_order(order) {
         return Ok(false);
     }
@@ -364,14 +365,33 @@ fn is_made(alloc: Global, case: &Value, plan: &Plan, order: &[usize]) -> anyhow:
     Ok(rewritten.green == expected && changed && origins)
 }
 
+/// Returns the plan of the case's changes on the tree of `root`.
+fn planned(
+    alloc: Global,
+    case: &Value,
+    root: &SyntaxNode,
+) -> anyhow::Result<Result<Plan, PlanError>>
+    requires { root.now.place.up ≡ [] }
+{
+    let trees = trees(alloc, case)?;
+    let mapping = mapping(alloc, &trees, case)?;
+    let changes = changes(alloc, root, &trees, case)?;
+    Ok(Plan::build(alloc, root, changes, &mapping))
+}
+
 /// Returns `true` if the plan does so in each of `orders`.
 fn is_made_in_each(
     alloc: Global,
     case: &Value,
-    plan: &Plan,
+    root: &SyntaxNode,
     orders: &[Value],
-) -> anyhow::Result<bool> {
+) -> anyhow::Result<bool>
+    requires { root.now.place.up ≡ [] }
+{
     for order in orders {
+        let Ok(plan) = planned(alloc, case, root)? else {
+            return Ok(false);
+        };
         if !is_made(alloc, case, plan, &numbers(alloc, order)?)? {
             return Ok(false);
         }
@@ -394,36 +414,32 @@ fn are_refused(alloc: Global, case: &Value, plan: &Plan) -> anyhow::Result<bool>
 
 /// Returns `true` if the plan does so in its own order and in those of the case, has as many
 /// planned changes as the case, and admits none of the orders that the case says are refused.
-fn is_executed(alloc: Global, case: &Value, plan: &Plan) -> anyhow::Result<bool> {
-    if plan.len() != number(case, "kept")? || !are_refused(alloc, case, plan)? {
+fn is_executed(alloc: Global, case: &Value, root: &SyntaxNode, plan: Plan) -> anyhow::Result<bool>
+    requires { root.now.place.up ≡ [] }
+{
+    if plan.len() != number(case, "kept")? || !are_refused(alloc, case, &plan)? {
         return Ok(false);
     }
     let in_each = match case.get("orders") {
-        Some(orders) => is_made_in_each(alloc, case, plan, list(orders)?)?,
+        Some(orders) => is_made_in_each(alloc, case, root, list(orders)?)?,
         None => true,
     };
-    Ok(in_each && is_made(alloc, case, plan, &plan.order(alloc)?)?)
+    let order = plan.order(alloc)?;
+    Ok(in_each && is_made(alloc, case, plan, &order)?)
 }
 
-/// Returns `true` if `built` agrees with the verdict of the case.
-fn is_verdict(alloc: Global, case: &Value, built: Result<Plan, PlanError>) -> anyhow::Result<bool> {
+/// Returns `true` if the changes of the case, on the tree of `root`, have the expected verdict and
+/// result.
+fn is_met_on(alloc: Global, case: &Value, root: &SyntaxNode) -> anyhow::Result<bool>
+    requires { root.now.place.up ≡ [] }
+{
     let verdict = member(case, "verdict")?.as_str().context("no verdict")?;
-    match built {
-        Ok(plan) => Ok(verdict == "accepted" && is_executed(alloc, case, &plan)?),
+    match planned(alloc, case, root)? {
+        Ok(plan) => Ok(verdict == "accepted" && is_executed(alloc, case, root, plan)?),
         Err(PlanError::Intersecting) => Ok(verdict == "Intersecting"),
         Err(PlanError::MissingMapping) => Ok(verdict == "MissingMapping"),
         Err(PlanError::NoMemory) => bail!("out of memory"),
     }
-}
-
-/// Returns `true` if the changes of the case, on the tree of `root`, have the expected result.
-fn is_met_on(alloc: Global, case: &Value, root: &SyntaxNode) -> anyhow::Result<bool>
-    requires { root.now.place.up ≡ [] }
-{
-    let trees = trees(alloc, case)?;
-    let mapping = mapping(alloc, &trees, case)?;
-    let changes = changes(alloc, root, &trees, case)?;
-    is_verdict(alloc, case, Plan::build(alloc, root, changes, &mapping))
 }
 
 /// Returns the entries of the tree that is edited.

@@ -77,7 +77,8 @@ impl SyntaxNode {
         kind: SyntaxKind,
         range: TextRange,
     ) -> Result<Option<SyntaxElement>, AllocError>
-        ensures { IfOk result (λ found. found ≡ first_of (raw_of kind) range.start.0 range.end.0 self.now) }
+        ensures { IfOk result
+            (λ found. found ≡ first_of (raw_of kind) range.start.0 range.end.0 self.now) }
     {
         if range.is_empty() {
             return self.find_by_walk(alloc, kind, range);
@@ -94,7 +95,8 @@ impl SyntaxNode {
         range: TextRange,
     ) -> Result<Option<SyntaxElement>, AllocError>
         requires { range.start.0 < range.end.0 }
-        ensures { IfOk result (λ found. found ≡ first_of (raw_of kind) range.start.0 range.end.0 self.now) }
+        ensures { IfOk result
+            (λ found. found ≡ first_of (raw_of kind) range.start.0 range.end.0 self.now) }
     {
         let kind = kind.to_raw();
         let mut element = SyntaxElement::Node(self.clone()?);
@@ -115,7 +117,8 @@ impl SyntaxNode {
         kind: SyntaxKind,
         range: TextRange,
     ) -> Result<Option<SyntaxElement>, AllocError>
-        ensures { IfOk result (λ found. found ≡ first_of (raw_of kind) range.start.0 range.end.0 self.now) }
+        ensures { IfOk result
+            (λ found. found ≡ first_of (raw_of kind) range.start.0 range.end.0 self.now) }
     {
         let kind = kind.to_raw();
         let mut walk = self.cursor().preorder_with_tokens(alloc)?;

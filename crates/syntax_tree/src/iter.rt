@@ -232,7 +232,8 @@ impl SyntaxNode {
 
     /// Returns an iterator over the child nodes, in source order.
     pub fn children(&self, alloc: Global) -> Result<SyntaxNodeChildren, AllocError>
-        ensures { IfOk result (λ c. c ≡ map (with_place self.now) (nodes (children self.now.place))) }
+        ensures { IfOk result
+            (λ c. c ≡ map (with_place self.now) (nodes (children self.now.place))) }
     {
         Ok(SyntaxNodeChildren {
             tree: self.tree(),

@@ -4,7 +4,7 @@ ghost use Rattle.rowan.specs.Place.{index_of, terms_below};
 ghost use Rattle.syntax_tree.specs.Handle.{element_of, parent_of};
 ghost use Rattle.syntax_tree.specs.Position.{RefusesPosition};
 
-use crate::element::SyntaxElement;
+use crate::element::Element;
 use crate::error::PositionError;
 use crate::handle::SyntaxNode;
 use std::alloc::AllocError;
@@ -23,12 +23,15 @@ impl Position {
     ///
     /// - [`PositionError::NoParent`] if `element` is a root.
     /// - [`PositionError::NoMemory`] if an allocation fails.
-    pub fn after(element: &SyntaxElement) -> Result<Position, PositionError>
-        ensures parent { IfOk result (λ p. parent_of (element_of element.now) ≡ Some p.parent) }
-        ensures index { IfOk result (λ p. p.index ≡ index_of (element_of element.now).place + 1) }
-        ensures refused { IfErr result (RefusesPosition (element_of element.now)) }
+    pub fn after<E: Element>(element: E) -> Result<Position, PositionError>
+        ensures parent { IfOk result
+            (λ p. parent_of (element_of (E.element element)) ≡ Some p.parent) }
+        ensures index { IfOk result
+            (λ p. p.index ≡ index_of (element_of (E.element element)).place + 1) }
+        ensures refused { IfErr result (RefusesPosition (element_of (E.element element))) }
     {
-        let position = Position::before(element)?;
+        let element = element.syntax_element()?;
+        let position = Position::before(&element)?;
         let index = element.next_index(&position.parent);
         Ok(Position {
             parent: position.parent,
@@ -42,11 +45,14 @@ impl Position {
     ///
     /// - [`PositionError::NoParent`] if `element` is a root.
     /// - [`PositionError::NoMemory`] if an allocation fails.
-    pub fn before(element: &SyntaxElement) -> Result<Position, PositionError>
-        ensures parent { IfOk result (λ p. parent_of (element_of element.now) ≡ Some p.parent) }
-        ensures index { IfOk result (λ p. p.index ≡ index_of (element_of element.now).place) }
-        ensures refused { IfErr result (RefusesPosition (element_of element.now)) }
+    pub fn before<E: Element>(element: E) -> Result<Position, PositionError>
+        ensures parent { IfOk result
+            (λ p. parent_of (element_of (E.element element)) ≡ Some p.parent) }
+        ensures index { IfOk result
+            (λ p. p.index ≡ index_of (element_of (E.element element)).place) }
+        ensures refused { IfErr result (RefusesPosition (element_of (E.element element))) }
     {
+        let element = element.syntax_element()?;
         let Some(parent) = element.parent()? else {
             return Err(PositionError::NoParent);
         };
@@ -57,23 +63,32 @@ impl Position {
     }
 
     /// Returns the gap before all children of `node`.
-    pub fn first_child_of(node: SyntaxNode) -> Position
-        ensures { result ≡ record { parent = node; index = 0 } }
+    ///
+    /// # Errors
+    ///
+    /// `AllocError` if the reference count overflows.
+    pub fn first_child_of(node: &SyntaxNode) -> Result<Position, AllocError>
+        ensures { IfOk result (λ p. p ≡ record { parent = node.now; index = 0 }) }
     {
-        Position {
-            parent: node,
+        Ok(Position {
+            parent: node.clone()?,
             index: 0,
-        }
+        })
     }
 
     /// Returns the gap after all children of `node`.
-    pub fn last_child_of(node: SyntaxNode) -> Position
-        ensures { result ≡ record { parent = node; index = length (terms_below node.place) } }
+    ///
+    /// # Errors
+    ///
+    /// `AllocError` if the reference count overflows.
+    pub fn last_child_of(node: &SyntaxNode) -> Result<Position, AllocError>
+        ensures { IfOk result (λ p. p ≡
+            record { parent = node.now; index = length (terms_below node.now.place) }) }
     {
         let index = node.cursor().green().children().len();
-        Position {
-            parent: node,
+        Ok(Position {
+            parent: node.clone()?,
             index,
-        }
+        })
     }
 }

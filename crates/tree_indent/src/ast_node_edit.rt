@@ -27,7 +27,8 @@ pub trait AstNodeEdit: AstNode {
         level: IndentLevel,
         ids: &mut TreeIds,
     ) -> Result<Self, MakeError>
-        ensures ok { IfOk result (λ x. IsShifted (In level) (Self.stands self.now) ids.old (Self.stands x)) }
+        ensures ok { IfOk result
+            (λ x. IsShifted (In level) (Self.stands self.now) ids.old (Self.stands x)) }
         ensures fits { OnOk result (FitsShifted (In level) (Self.stands self.now)) }
         ensures number { OnOk result (ids.new ≡ ids.old + 1) }
         ensures refused { IfErr result (RefusesShifted (In level) (Self.stands self.now) ids.old) }
@@ -45,7 +46,8 @@ pub trait AstNodeEdit: AstNode {
         mapping: &mut SyntaxMapping,
         ids: &mut TreeIds,
     ) -> Result<Self, IndentError>
-        ensures ok { IfOk result (λ x. IsShifted (In level) (Self.stands self.now) ids.old (Self.stands x)) }
+        ensures ok { IfOk result
+            (λ x. IsShifted (In level) (Self.stands self.now) ids.old (Self.stands x)) }
         ensures mapped { IfOk result (λ x. mapping.new
             ≡ mapping.old ++ pairs_below (Self.stands self.now) (Self.stands x)) }
         ensures after { OnOk result (IsAfter ids.old (Self.stands self.now)) }
@@ -66,7 +68,8 @@ pub trait AstNodeEdit: AstNode {
         level: IndentLevel,
         ids: &mut TreeIds,
     ) -> Result<Self, MakeError>
-        ensures ok { IfOk result (λ x. IsShifted (Out level) (Self.stands self.now) ids.old (Self.stands x)) }
+        ensures ok { IfOk result
+            (λ x. IsShifted (Out level) (Self.stands self.now) ids.old (Self.stands x)) }
         ensures fits { OnOk result (FitsShifted (Out level) (Self.stands self.now)) }
         ensures number { OnOk result (ids.new ≡ ids.old + 1) }
         ensures refused { IfErr result (RefusesShifted (Out level) (Self.stands self.now) ids.old) }
@@ -80,7 +83,8 @@ pub trait AstNodeEdit: AstNode {
     fn reset_indent(&self, alloc: Global, ids: &mut TreeIds) -> Result<Self, MakeError>
         ensures ok { IfOk result (λ x. IsShifted (Out (own_level (Self.stands self.now)))
             (Self.stands self.now) ids.old (Self.stands x)) }
-        ensures fits { OnOk result (FitsShifted (Out (own_level (Self.stands self.now))) (Self.stands self.now)) }
+        ensures fits { OnOk result
+            (FitsShifted (Out (own_level (Self.stands self.now))) (Self.stands self.now)) }
         ensures number { OnOk result (ids.new ≡ ids.old + 1) }
         ensures refused { IfErr result (RefusesShifted (Out (own_level (Self.stands self.now)))
             (Self.stands self.now) ids.old) }

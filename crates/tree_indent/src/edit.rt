@@ -89,7 +89,7 @@ fn shifted(
     ensures refused { IfErr result (RefusesShifted shift node.now ids.old) }
     ensures kept { IfErr result (λ _. ids.new ≡ ids.old) }
 {
-    let green = match shifted_tree(alloc, node.cursor().green(), shift) {
+    let green = match shifted_tree(alloc, &node.cursor().green().as_ref(), shift) {
         Ok(green) => green,
         Err(GreenError::NoMemory) => return Err(MakeError::NoMemory),
         Err(GreenError::TooLong) => return Err(MakeError::TooLong),

@@ -32,8 +32,10 @@ fn map_below(
     mapping: &mut SyntaxMapping,
 ) -> Result<(), MappingError>
     ensures ok { OnOk result (mapping.new ≡ mapping.old ++ pairs_below node.now root.now) }
-    ensures fits { OnOk result (AcceptsNodes root.now (child_nodes node.now) (child_nodes root.now)) }
-    ensures refused { IfErr result (RefusesNodes root.now (child_nodes node.now) (child_nodes root.now)) }
+    ensures fits { OnOk result
+        (AcceptsNodes root.now (child_nodes node.now) (child_nodes root.now)) }
+    ensures refused { IfErr result
+        (RefusesNodes root.now (child_nodes node.now) (child_nodes root.now)) }
     ensures err { OnErr result (mapping.new ≡ mapping.old) }
 {
     let inputs = child_nodes(alloc, node)?;

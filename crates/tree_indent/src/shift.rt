@@ -7,7 +7,7 @@ ghost use Rattle.syntax_editor.specs.Indent.{line_feed};
 ghost use Rattle.tree_indent.specs.Shifted.{set_in, set_out, shifted_text, shifted_leaf};
 
 use parser_input::SyntaxKind;
-use rowan_green::{GreenError, GreenToken};
+use rowan_green::{GreenError, GreenToken, GreenTokenRef};
 use std::alloc::{AllocError, Global};
 use syntax_editor::IndentLevel;
 
@@ -61,7 +61,7 @@ fn shifted_text(alloc: Global, text: &str, shift: Shift) -> Result<String, Alloc
 /// Returns `token`, indented or dedented by `shift` if it is whitespace, else unchanged.
 pub(crate) fn shifted_token(
     alloc: Global,
-    token: &GreenToken,
+    token: &GreenTokenRef<'_>,
     shift: Shift,
 ) -> Result<GreenToken, GreenError>
     ensures ok { IfOk result (λ t. t ≡ shifted_leaf shift token.now) }
@@ -71,7 +71,7 @@ pub(crate) fn shifted_token(
     if token.kind().0 != SyntaxKind::WHITESPACE.to_raw() {
         // Called only for its contract: the length of a token's text fits 32 bits.
         let _len = token.text_len();
-        return Ok(token.clone()?);
+        return Ok(token.to_owned()?);
     }
     let text = shifted_text(alloc, token.text(), shift)?;
     GreenToken::new(alloc, token.kind(), text.as_str())

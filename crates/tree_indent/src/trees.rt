@@ -5,13 +5,13 @@ ghost use Rattle.rowan_green.specs.Term.{tree_of, FitsNode};
 ghost use Rattle.tree_indent.specs.Shifted.{shifted_tree, FitsTree};
 
 use crate::shift::{Shift, shifted_token};
-use rowan_green::{GreenElement, GreenError, GreenNode, NodeOrToken, SyntaxKind};
+use rowan_green::{GreenElement, GreenError, GreenNode, GreenNodeRef, NodeOrToken, SyntaxKind};
 use std::alloc::Global;
 
 /// Returns the tree with each of its whitespace tokens indented or dedented by `shift`.
 pub(crate) fn shifted_tree(
     alloc: Global,
-    node: &GreenNode,
+    node: &GreenNodeRef<'_>,
     shift: Shift,
 ) -> Result<GreenNode, GreenError>
     ensures ok { IfOk result (λ n. n ≡ shifted_tree shift node.now) }
@@ -21,8 +21,8 @@ pub(crate) fn shifted_tree(
     let mut children = Vec::new(alloc);
     for child in node.children() {
         let new = match child {
-            NodeOrToken::Node(inner) => NodeOrToken::Node(shifted_tree(alloc, inner, shift)?),
-            NodeOrToken::Token(token) => NodeOrToken::Token(shifted_token(alloc, token, shift)?),
+            NodeOrToken::Node(inner) => NodeOrToken::Node(shifted_tree(alloc, &inner, shift)?),
+            NodeOrToken::Token(token) => NodeOrToken::Token(shifted_token(alloc, &token, shift)?),
         };
         children.push(new)?;
     }

@@ -53,7 +53,8 @@ impl<'a> Reading<'a> {
     ) -> Result<Reading<'a>, ParseError>
         ensures lexed { IfOk result (λ reading. reading.lexed ≡ whole_of edition (chars text.now)) }
         ensures tree { IfOk result (λ reading.
-            IsTreeOf (tree_of (is_whole grammar) (production_of entry_point) edition (chars text.now))
+            IsTreeOf (tree_of (is_whole grammar) (production_of entry_point) edition
+            (chars text.now))
             reading.rows.items reading.said.items) }
     {
         let lexed = LexedStr::new(alloc, edition, text)?;

@@ -1,7 +1,6 @@
 -- What the code of nested changes goes by.
-use Rattle.std.proofs.Common.{◌≡◌, ℕ, ◌+◌, ◌≤◌, List, [], ◌∷◌, length, drop, slice_index, slice_get, Option, Some, None, is_some, Bool, true, false, ◌&&◌, ◌||◌, cond, refl, ap, sym, ◌∙◌, arith, subst, Bor}
+use Rattle.std.proofs.Common.{◌≡◌, ℕ, ◌+◌, ◌≤◌, List, [], ◌∷◌, length, drop, slice_index, slice_get, Option, Some, None, is_some, Bool, true, false, ◌&&◌, ◌||◌, cond, refl, ap, sym, ◌∙◌, arith, subst}
 use Rattle.std.specs.List.{list_any}
-use Rattle.std.specs.Option.{option_copied}
 use Rattle.std.proofs.lemmas.Bool.{and_parts, false≢true}
 use Rattle.rowan_green.specs.Forest.{Tree}
 use Rattle.rowan_green.specs.Term.{Term}
@@ -77,10 +76,6 @@ first_child t v i c f n es s a q parent r is at there up found =
     ∙ is_node-some (term_by t (a ∷ v))
     ∙ ap (λ x. is_node (term_by t (a ∷ x))) (sym above)
     ∙ sym (ap (λ d. is_node (term_by t (first_way d))) whole)
-
-pub some_copied : {A : Type 0} (o : Option (Bor A)) → is_some o ≡ is_some (option_copied o)
-some_copied None = refl
-some_copied (Some x) = refl
 
 pub no_row : (i : ℕ) (v : Way) (c : Change) (f : Way) (n : ℕ) (es : List Element) (s : Bool) → c ≡ replace f n es s → length f ≡ 0 → replaces c (i ∷ v) ≡ true → ⊥
 no_row i v c [] n es s is at there = false≢true (subst (λ d. replaces d (i ∷ v) ≡ true) is there)

@@ -76,7 +76,8 @@ impl Tracker {
         requires { self.now.offset + bytes_by (Whole element.now) < 2 ^ 32 }
         ensures tracks { (s : Stand) → Tracks self.old s
             → OnOk result (Tracks self.new (after_piece (Whole element.now) s)) }
-        ensures offset { OnOk result (self.new.offset ≡ self.old.offset + bytes_by (Whole element.now)) }
+        ensures offset { OnOk result
+            (self.new.offset ≡ self.old.offset + bytes_by (Whole element.now)) }
     {
         let green = element.green()?;
         let end = self.offset + green.text_len().0;

@@ -120,7 +120,8 @@ fn step(
 
 /// Returns the green elements of `pieces`.
 pub fn green_of(alloc: Global, pieces: &[Piece]) -> Result<Vec<GreenElement>, ExecuteError>
-    ensures elements { (m : Marked) → Say pieces.now m → IfOk result (λ v. v.items ≡ terms (forest_in m)) }
+    ensures elements { (m : Marked) → Say pieces.now m
+        → IfOk result (λ v. v.items ≡ terms (forest_in m)) }
     ensures fits { (m : Marked) → Say pieces.now m → OnOk result (NewFit m) }
     ensures refused { (m : Marked) → Say pieces.now m → IfErr result (RefusesUnless (NewFit m)) }
 {

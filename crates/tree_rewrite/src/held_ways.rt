@@ -20,7 +20,8 @@ fn put_children(
 ) -> Result<bool, AllocError>
     requires row { start + more < 2 ^ 64 }
     requires sound { IsSound held.old }
-    ensures put { IfOk result (IsPutOrTaken (covers (start ∷ above.now) more) number held.old held.new) }
+    ensures put { IfOk result
+        (IsPutOrTaken (covers (start ∷ above.now) more) number held.old held.new) }
     ensures sound { OnOk result (IsSound held.new) }
 {
     let parent = held.enter_way(above)?;

@@ -117,7 +117,8 @@ pub fn jobs_of(
     requires top { root.now.place.up ≡ [] }
     requires apart { has_collision changes.now ≡ false }
     requires holds { Holds held.now changes.now }
-    ensures { IfOk result (λ r. option_map (λ v. v.items) r ≡ jobs root.now changes.now mapping.now) }
+    ensures { IfOk result
+        (λ r. option_map (λ v. v.items) r ≡ jobs root.now changes.now mapping.now) }
 {
     let recording = Recording {
         root,

@@ -1,6 +1,5 @@
 //! The places, in a payload that replaces a node by a node, of the changes inside that node.
 ghost use Rattle.std.specs.Prelude.{◌≡◌, ◌+◌, [], ◌∷◌, option_map, IfOk};
-ghost use Rattle.rowan_green.specs.Referred.{referred_term};
 ghost use Rattle.rowan_green.specs.Term.{children_of};
 ghost use Rattle.rowan.specs.Place.{term_by, children_in, first_number};
 ghost use Rattle.tree_rewrite.specs.Recorded.{change_of};
@@ -11,7 +10,7 @@ use crate::climb::way_to;
 use crate::mapped::MappedNodes;
 use crate::nesting::element_by;
 use crate::tree_change::{Target, TreeChange};
-use rowan_green::{GreenElementRef, GreenNode, NodeOrToken};
+use rowan_green::{GreenElementRef, GreenNode, GreenNodeRef, NodeOrToken};
 use std::alloc::{AllocError, Global};
 use syntax_tree::SyntaxNode;
 
@@ -32,8 +31,7 @@ fn carried(
 
 /// Returns `true` if `new` is a node of the kind of `old` that has a gap `index`.
 fn has_gap(old: Option<GreenElementRef<'_>>, new: Option<GreenElementRef<'_>>, index: usize) -> bool
-    ensures { result ≡ has_gap (option_map referred_term old.entry)
-        (option_map referred_term new.entry) index }
+    ensures { result ≡ has_gap old.entry new.entry index }
 {
     let Some(NodeOrToken::Node(node)) = new else {
         return false;
@@ -46,8 +44,7 @@ fn has_gap(old: Option<GreenElementRef<'_>>, new: Option<GreenElementRef<'_>>, i
 
 /// Returns `true` if both children exist and have the same kind.
 fn same_kind(old: Option<GreenElementRef<'_>>, new: Option<GreenElementRef<'_>>) -> bool
-    ensures { result ≡ same_kind (option_map referred_term old.entry)
-        (option_map referred_term new.entry) }
+    ensures { result ≡ same_kind old.entry new.entry }
 {
     match (old, new) {
         (Some(old), Some(new)) => old.kind() == new.kind(),
@@ -57,7 +54,7 @@ fn same_kind(old: Option<GreenElementRef<'_>>, new: Option<GreenElementRef<'_>>)
 
 /// Returns `true` if the child at `start` and the `more` children after it exist in both nodes,
 /// with the same kinds.
-fn same_kinds(old: &GreenNode, new: &GreenNode, start: usize, more: usize) -> bool
+fn same_kinds(old: &GreenNodeRef<'_>, new: &GreenNodeRef<'_>, start: usize, more: usize) -> bool
     ensures { result ≡ same_kinds (children_of old.now) (children_of new.now) start (more + 1) }
 {
     let count = old.children().len();
@@ -95,12 +92,11 @@ fn same_children(
     start: usize,
     more: usize,
 ) -> bool
-    ensures { result ≡ same_kinds (children_in (option_map referred_term old.entry))
-        (children_in (option_map referred_term new.entry)) start (more + 1) }
+    ensures { result ≡ same_kinds (children_in old.entry) (children_in new.entry) start (more + 1) }
 {
     match (old, new) {
         (Some(NodeOrToken::Node(old)), Some(NodeOrToken::Node(new))) => {
-            same_kinds(old, new, start, more)
+            same_kinds(&old, &new, start, more)
         }
         _ => false,
     }

@@ -1,9 +1,8 @@
 //! Nested changes: which changes are inside replaced elements, and which of them are discarded.
-ghost use Rattle.std.specs.Prelude.{◌≡◌, ◌∷◌, ◌&&◌, ℕ, Some, true, false, if◌then◌else◌, not, slice_get, option_map, IfOk};
+ghost use Rattle.std.specs.Prelude.{◌≡◌, ◌∷◌, ◌&&◌, ℕ, Some, true, false, if◌then◌else◌, not, slice_get, IfOk};
 ghost use Rattle.std.specs.List.{list_any};
 ghost use Rattle.std.specs.Option.{option_copied};
 ghost use Rattle.rowan_green.specs.Forest.{Tree};
-ghost use Rattle.rowan_green.specs.Referred.{referred_term};
 ghost use Rattle.syntax_tree.specs.Element.{Way, is_node};
 ghost use Rattle.rowan.specs.Place.{term_by};
 ghost use Rattle.tree_rewrite.specs.Change.{replaces, is_node_by_node, is_dropped, holder_of, owner_of, has_collision};
@@ -15,7 +14,7 @@ ghost use Rattle.tree_rewrite.specs.WayTrie.{node_at};
 use crate::tree_change::{Target, TreeChange};
 use crate::way_trie::WayTrie;
 use crate::ways::{covers, is_between};
-use rowan_green::{GreenElementRef, GreenNode, NodeOrToken};
+use rowan_green::{GreenElementRef, GreenNode, GreenNodeRef, NodeOrToken};
 use std::alloc::{AllocError, Global};
 
 impl TreeChange {
@@ -48,7 +47,8 @@ fn change_of<'a>(
     node: Option<usize>,
 ) -> Option<&'a TreeChange>
     requires { Holds held.now changes.now }
-    ensures { (w : Way) → node ≡ node_at held.now w → option_copied result ≡ replacing w changes.now }
+    ensures { (w : Way) → node ≡ node_at held.now w → option_copied result
+        ≡ replacing w changes.now }
 {
     let number = held.number(node)?;
     changes.get(number)
@@ -69,7 +69,8 @@ pub(crate) fn change_at<'a>(
 /// Returns `true` if a change replaces the element of a trie node.
 fn is_replaced(changes: &[TreeChange], held: &WayTrie, node: Option<usize>) -> bool
     requires { Holds held.now changes.now }
-    ensures { (w : Way) → node ≡ node_at held.now w → result ≡ list_any (λ r. replaces r w) changes.now }
+    ensures { (w : Way) → node ≡ node_at held.now w → result
+        ≡ list_any (λ r. replaces r w) changes.now }
 {
     change_of(changes, held, node).is_some()
 }
@@ -80,7 +81,8 @@ fn nearer<'a>(
     way: &'a [usize],
     above: Option<&'a [usize]>,
 ) -> Option<&'a [usize]>
-    ensures { option_copied result ≡ (if is_replaced then Some way.now else option_copied above.entry) }
+    ensures { option_copied result
+        ≡ (if is_replaced then Some way.now else option_copied above.entry) }
 {
     if is_replaced { Some(way) } else { above }
 }
@@ -125,34 +127,37 @@ pub fn owner_of<'a>(
 }
 
 /// Returns the child at index `index`, if it is a node.
-fn child_node<'a>(parent: Option<&'a GreenNode>, index: usize) -> Option<&'a GreenNode>
-    ensures { option_copied result ≡ node_in (slice_get (children_below (option_copied parent.entry)) index) }
+fn child_node<'a>(parent: &Option<GreenNodeRef<'a>>, index: usize) -> Option<GreenNodeRef<'a>>
+    ensures { result ≡ node_in (slice_get (children_below parent.now) index) }
 {
-    match parent?.child(index)? {
+    let Some(parent) = parent else {
+        return None;
+    };
+    match parent.child(index)? {
         NodeOrToken::Node(node) => Some(node),
         NodeOrToken::Token(_) => None,
     }
 }
 
 /// Returns the node at up-path `way`, borrowed from the tree.
-fn node_by<'a>(root: &'a GreenNode, way: &[usize]) -> Option<&'a GreenNode>
-    ensures { option_copied result ≡ node_in (term_by root.now way.now) }
+fn node_by<'a>(root: &'a GreenNode, way: &[usize]) -> Option<GreenNodeRef<'a>>
+    ensures { result ≡ node_in (term_by root.now way.now) }
 {
-    let mut node = Some(root);
+    let mut node = Some(root.as_ref());
     let mut depth = way.len();
     while depth > 0 {
         depth -= 1;
-        node = child_node(node, way[depth]);
+        node = child_node(&node, way[depth]);
     }
     node
 }
 
 /// Returns the element at up-path `way`, borrowed from the tree.
 pub fn element_by<'a>(root: &'a GreenNode, way: &[usize]) -> Option<GreenElementRef<'a>>
-    ensures { option_map referred_term result ≡ term_by root.now way.now }
+    ensures { result ≡ term_by root.now way.now }
 {
     let Some((index, up)) = way.split_first() else {
-        return Some(NodeOrToken::Node(root));
+        return Some(NodeOrToken::Node(root.as_ref()));
     };
     node_by(root, up)?.child(*index)
 }
@@ -176,7 +181,8 @@ pub fn is_node_by_node(root: &GreenNode, change: &TreeChange) -> bool
 fn is_gone(root: &GreenNode, changes: &[TreeChange], held: &WayTrie, way: &[usize]) -> bool
     requires apart { has_collision changes.now ≡ false }
     requires holds { Holds held.now changes.now }
-    ensures { result ≡ list_any (λ r. replaces r way.now && not (is_node_by_node root.now r)) changes.now }
+    ensures { result ≡ list_any
+        (λ r. replaces r way.now && not (is_node_by_node root.now r)) changes.now }
 {
     match change_at(changes, held, way) {
         Some(change) => !is_node_by_node(root, change),
@@ -198,8 +204,8 @@ fn names_node(change: &TreeChange) -> bool
 }
 
 /// Returns `true` if `change` replaces children of `parent`, the first of which is a node.
-fn begins_with_node(parent: Option<&GreenNode>, change: &TreeChange) -> bool
-    ensures { (t : Tree) (v : Way) (i : ℕ) → option_copied parent.entry ≡ node_in (term_by t v)
+fn begins_with_node(parent: &Option<GreenNodeRef<'_>>, change: &TreeChange) -> bool
+    ensures { (t : Tree) (v : Way) (i : ℕ) → parent.now ≡ node_in (term_by t v)
         → replaces change.now (i ∷ v) ≡ true → result ≡ is_node (term_by t (first_way change.now)) }
 {
     match change.target() {
@@ -213,8 +219,8 @@ fn begins_with_node(parent: Option<&GreenNode>, change: &TreeChange) -> bool
 
 /// Returns `true` if `change`, which replaces children of `parent`, names a single node and
 /// replaces it by a node.
-fn is_child_by_node(parent: Option<&GreenNode>, change: &TreeChange) -> bool
-    ensures { (t : Tree) (v : Way) (i : ℕ) → option_copied parent.entry ≡ node_in (term_by t v)
+fn is_child_by_node(parent: &Option<GreenNodeRef<'_>>, change: &TreeChange) -> bool
+    ensures { (t : Tree) (v : Way) (i : ℕ) → parent.now ≡ node_in (term_by t v)
         → replaces change.now (i ∷ v) ≡ true → result ≡ is_node_by_node t change.now }
 {
     if !names_node(change) {
@@ -229,12 +235,12 @@ fn is_child_gone(
     changes: &[TreeChange],
     held: &WayTrie,
     node: Option<usize>,
-    parent: Option<&GreenNode>,
+    parent: &Option<GreenNodeRef<'_>>,
 ) -> bool
     requires apart { has_collision changes.now ≡ false }
     requires holds { Holds held.now changes.now }
     ensures { (t : Tree) (v : Way) (i : ℕ) → node ≡ node_at held.now (i ∷ v)
-        → option_copied parent.entry ≡ node_in (term_by t v)
+        → parent.now ≡ node_in (term_by t v)
         → result ≡ list_any (λ r. replaces r (i ∷ v) && not (is_node_by_node t r)) changes.now }
 {
     match change_of(changes, held, node) {
@@ -253,13 +259,13 @@ fn is_lost(root: &GreenNode, changes: &[TreeChange], held: &WayTrie, way: &[usiz
 {
     let mut depth = way.len();
     let mut node = WayTrie::ROOT;
-    let mut parent = Some(root);
+    let mut parent = Some(root.as_ref());
     let mut lost = is_gone(root, changes, held, &[]);
     while depth > 0 {
         depth -= 1;
         node = held.child(node, way[depth]);
-        lost |= is_child_gone(changes, held, node, parent);
-        parent = child_node(parent, way[depth]);
+        lost |= is_child_gone(changes, held, node, &parent);
+        parent = child_node(&parent, way[depth]);
     }
     lost
 }
@@ -274,7 +280,8 @@ struct Gap<'a> {
 /// Returns `true` if `change` replaces the elements on both sides of a gap, unless it replaces a
 /// node by a node.
 fn closes(root: &GreenNode, change: &TreeChange, parent: &[usize], index: usize) -> bool
-    ensures { result ≡ (splits parent.now index change.now && not (is_node_by_node root.now change.now)) }
+    ensures { result ≡ (splits parent.now index change.now
+        && not (is_node_by_node root.now change.now)) }
 {
     change.splits(parent, index) && !is_node_by_node(root, change)
 }

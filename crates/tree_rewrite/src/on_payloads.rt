@@ -64,7 +64,8 @@ impl OnPayloads {
     /// Records that the planned change `job` is executed next.
     pub fn note(&mut self, alloc: Global, job: &Job) -> Result<(), AllocError>
         ensures { (all : List Job) (ps : List Put) (p : Put) → IsListed all ps self.old
-            → slice_get all p.number ≡ Some job.now → OnOk result (IsListed all (ps ++ p ∷ []) self.new) }
+            → slice_get all p.number ≡ Some job.now
+            → OnOk result (IsListed all (ps ++ p ∷ []) self.new) }
     {
         let TargetTree::Payload(way) = job.target() else {
             self.before.push(None)?;

@@ -102,7 +102,8 @@ impl Plan {
         ensures jobs { IfOk result (λ p. jobs root.now (map recorded changes.items) mapping.now
             ≡ Some p.jobs) }
         ensures apart { OnOk result (has_collision (map recorded changes.items) ≡ false) }
-        ensures refused { IfErr result (RefusesPlan root.now (map recorded changes.items) mapping.now) }
+        ensures refused { IfErr result
+            (RefusesPlan root.now (map recorded changes.items) mapping.now) }
     {
         let changes = tree_changes(alloc, changes)?;
         let Some(held) = held_ways(alloc, &changes)? else {
@@ -147,15 +148,15 @@ impl Plan {
     /// - [`ExecuteError::TooLong`] if a new node would have 2^32 or more bytes of text, or 2^32 or
     ///   more children.
     /// - [`ExecuteError::NoMemory`] if an allocation fails.
-    pub fn execute(&self, alloc: Global, order: &[usize]) -> Result<Rewritten, ExecuteError>
-        requires { is_order self.now.jobs order.now ≡ true }
-        ensures green { IfOk result (λ r. IsNode (rewritten self.now.top (reverse self.now.jobs)) r.green) }
+    pub fn execute(self, alloc: Global, order: &[usize]) -> Result<Rewritten, ExecuteError>
+        requires { is_order self.jobs order.now ≡ true }
+        ensures green { IfOk result (λ r. IsNode (rewritten self.top (reverse self.jobs)) r.green) }
         ensures changed { IfOk result (λ r. AreChanged r.changed.items
-            (rewritten self.now.top (reverse self.now.jobs))) }
+            (rewritten self.top (reverse self.jobs))) }
         ensures says { IfOk result (λ r. Say r.pieces.items
-            (rewritten self.now.top (reverse self.now.jobs))) }
-        ensures fits { OnOk result (new_fits (rewritten self.now.top (reverse self.now.jobs)) ≡ true) }
-        ensures refused { IfErr result (RefusesRewrite (rewritten self.now.top (reverse self.now.jobs))) }
+            (rewritten self.top (reverse self.jobs))) }
+        ensures fits { OnOk result (new_fits (rewritten self.top (reverse self.jobs)) ≡ true) }
+        ensures refused { IfErr result (RefusesRewrite (rewritten self.top (reverse self.jobs))) }
     {
         let pieces = self.pieces(alloc, order)?;
         let elements = green_of(alloc, &pieces)?;
@@ -175,7 +176,8 @@ impl Plan {
     /// a time, in the admitted order `order`.
     fn pieces(&self, alloc: Global, order: &[usize]) -> Result<Vec<Piece>, AllocError>
         requires { is_order self.now.jobs order.now ≡ true }
-        ensures says { IfOk result (λ v. Say v.items (rewritten self.now.top (reverse self.now.jobs))) }
+        ensures says { IfOk result
+            (λ v. Say v.items (rewritten self.now.top (reverse self.now.jobs))) }
         ensures node { OnOk result ((t : Tree)
             × IsNode (rewritten self.now.top (reverse self.now.jobs)) t) }
     {

@@ -70,7 +70,8 @@ impl Puts {
     fn enter(&mut self, told: Option<bool>) -> Result<(), AllocError>
         ensures marks { OnOk result (self.new.marks.items ≡ self.old.marks.items) }
         ensures told { OnOk result (self.new.told ≡ told) }
-        ensures around { OnOk result (self.new.around.items ≡ self.old.around.items ++ self.old.told ∷ []) }
+        ensures around { OnOk result
+            (self.new.around.items ≡ self.old.around.items ++ self.old.told ∷ []) }
     {
         self.around.push(self.told)?;
         self.told = told;

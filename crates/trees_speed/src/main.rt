@@ -5,7 +5,7 @@
 #![tactic(auto)]
 
 use rowan::{SyntaxNode, WalkEvent};
-use rowan_green::{GreenNode, NodeOrToken};
+use rowan_green::{GreenNode, GreenNodeRef, NodeOrToken};
 use statements::{Statements, tree};
 use std::alloc::{AllocError, Global};
 use std::time::Instant;
@@ -22,11 +22,11 @@ const ROUNDS: usize = 1000;
 const SEARCHES: u32 = 1_000_000;
 
 /// Returns the number of tokens below `node`.
-fn tokens_below(node: &GreenNode) -> u64 {
+fn tokens_below(node: &GreenNodeRef<'_>) -> u64 {
     let mut tokens: u64 = 0;
     for child in node.children() {
         let more = match child {
-            NodeOrToken::Node(inner) => tokens_below(inner),
+            NodeOrToken::Node(inner) => tokens_below(&inner),
             NodeOrToken::Token(_) => 1,
         };
         tokens = tokens.wrapping_add(more);
@@ -80,7 +80,7 @@ fn measure(rt: &HostRuntime, names: u32) -> io::Result<()> {
         return println!(rt; "out of memory");
     };
     let built = start.elapsed(rt)?.as_micros();
-    let tokens = tokens_below(&green);
+    let tokens = tokens_below(&green.as_ref());
     let counted = start.elapsed(rt)?.as_micros().saturating_sub(built);
     eprintln!(rt; "{names} names: built in {built}, {tokens} tokens in {counted} microseconds")?;
     println!(rt; "{tokens}")?;

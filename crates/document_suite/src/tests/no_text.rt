@@ -51,7 +51,7 @@ fn put_name(
         return Err(Fail::new("no node"));
     };
     let name = payload(alloc, PayloadEntry::Token, Edition::Edition2021, "A", ids)?;
-    editor.insert(alloc, Position::first_child_of(list), &name)?;
+    editor.insert(alloc, Position::first_child_of(&list)?, &name)?;
     Ok(())
 }
 

@@ -24,7 +24,7 @@ fn put(
 ) -> Result<(), Fail> {
     let new = payload(alloc, "-", ids)?;
     mark(alloc, editor, &new)?;
-    editor.insert(alloc, Position::first_child_of(copy), &new)?;
+    editor.insert(alloc, Position::first_child_of(&copy)?, &new)?;
     Ok(())
 }
 

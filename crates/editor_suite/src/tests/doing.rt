@@ -115,7 +115,7 @@ impl Bench {
 
     fn deleted(&mut self, way: &[usize]) -> Result<(), Fail> {
         let element = self.element(way)?;
-        let is_deleted = self.editor.deleted(self.alloc, &element)?;
+        let is_deleted = self.editor.deleted(&element);
         let word = if is_deleted { "true " } else { "false " };
         Ok(self.out.push_str(word)?)
     }

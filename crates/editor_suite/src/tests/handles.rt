@@ -131,7 +131,7 @@ fn gaps_beside(alloc: Global, out: &mut String, node: &SyntaxElement) -> Result<
 
 /// Appends the gap after the children of a root.
 fn last_gap(alloc: Global, out: &mut String, root: &SyntaxNode) -> Result<(), Fail> {
-    show_gap(alloc, out, Ok(Position::last_child_of(root.clone()?)))
+    show_gap(alloc, out, Ok(Position::last_child_of(root)?))
 }
 
 fn gaps(alloc: Global, out: &mut String, root: SyntaxNode) -> Result<(), Fail> {

@@ -13,13 +13,12 @@ ghost use Rattle.rust_productions.specs.declared.condition.Condition.TheVariants
 
 use crate::grammar::expressions::{Level, expect_expression};
 use parser_events::message::Message;
-use parser_events::parser::Parser;
 use parser_input::syntax_kind::SyntaxKind;
 use rust_productions::condition::Condition;
 use rust_productions::grammar::attributes::at_meta;
 use rust_productions::grammar::paths::{expect_path, path};
 use rust_productions::grammar::token_trees::{at_token_tree, token_tree};
-use rust_productions::grammar::{at, at_new, complete, eat, error, expect, start, take};
+use rust_productions::parser::Parser;
 
 /// Parses an attribute.
 // #[inline]
@@ -29,13 +28,13 @@ pub(crate) fn attribute(p: &mut Parser<'_>)
     ensures gives { (c : Condition) → Gives rules.attribute c p.old p.new }
     ensures takes { Takes 4080 p.old p.new }
 {
-    let attribute = start(p);
-    take(p, SyntaxKind::POUND);
-    eat(p, SyntaxKind::BANG);
-    expect(p, SyntaxKind::L_BRACK);
+    let attribute = p.start();
+    p.take(SyntaxKind::POUND);
+    p.eat(SyntaxKind::BANG);
+    p.expect(SyntaxKind::L_BRACK);
     expect_meta(p);
-    expect(p, SyntaxKind::R_BRACK);
-    complete(p, attribute, SyntaxKind::ATTR);
+    p.expect(SyntaxKind::R_BRACK);
+    attribute.complete(p, SyntaxKind::ATTR);
 }
 
 /// Parses attributes before what is no item, in the whole language.
@@ -45,7 +44,7 @@ pub(crate) fn outer_attributes(p: &mut Parser<'_>)
     ensures reads { (c : Condition) → Reads c shared.outer_attributes p.old p.new }
     ensures asks { Asks 1 p.old p.new }
 {
-    'turns: while at_new(p, SyntaxKind::POUND) {
+    'turns: while p.at_new(SyntaxKind::POUND) {
         attribute(p);
     }
 }
@@ -60,7 +59,7 @@ fn expect_meta(p: &mut Parser<'_>)
         meta(p, Condition::Off);
         return;
     }
-    error(p, Message::Expected(SyntaxKind::META));
+    p.error(Message::Expected(SyntaxKind::META));
 }
 
 /// Parses a meta item: a path with an optional value or token tree, in the whole language also in
@@ -73,7 +72,7 @@ pub fn meta(p: &mut Parser<'_>, condition: Condition)
     ensures gives { Gives rules.meta condition p.old p.new }
     ensures takes { Takes 3980 p.old p.new }
 {
-    if at_new(p, SyntaxKind::UNSAFE_KW) {
+    if p.at_new(SyntaxKind::UNSAFE_KW) {
         unsafe_meta(p, condition);
         return;
     }
@@ -89,10 +88,10 @@ fn path_meta(p: &mut Parser<'_>, condition: Condition)
     ensures reads { Reads condition rows.path_meta p.old p.new }
     ensures takes { Takes 3990 p.old p.new }
 {
-    let meta = start(p);
+    let meta = p.start();
     path(p);
     opt_value(p, condition);
-    complete(p, meta, SyntaxKind::META);
+    meta.complete(p, SyntaxKind::META);
 }
 
 /// Parses a meta item in `unsafe(..)`.
@@ -103,13 +102,13 @@ fn unsafe_meta(p: &mut Parser<'_>, condition: Condition)
     ensures reads { Reads condition rows.unsafe_meta p.old p.new }
     ensures takes { Takes 4080 p.old p.new }
 {
-    let meta = start(p);
-    take(p, SyntaxKind::UNSAFE_KW);
-    expect(p, SyntaxKind::L_PAREN);
+    let meta = p.start();
+    p.take(SyntaxKind::UNSAFE_KW);
+    p.expect(SyntaxKind::L_PAREN);
     expect_path(p);
     opt_value(p, condition);
-    expect(p, SyntaxKind::R_PAREN);
-    complete(p, meta, SyntaxKind::META);
+    p.expect(SyntaxKind::R_PAREN);
+    meta.complete(p, SyntaxKind::META);
 }
 
 /// Parses the optional value or token tree of a meta item.
@@ -119,8 +118,8 @@ fn opt_value(p: &mut Parser<'_>, condition: Condition)
     ensures reads { Reads condition ⁅ rows.attr_input ⁆ p.old p.new }
     ensures asks { Asks 2 p.old p.new }
 {
-    if at(p, SyntaxKind::EQ) {
-        take(p, SyntaxKind::EQ);
+    if p.at(SyntaxKind::EQ) {
+        p.take(SyntaxKind::EQ);
         expect_expression(p, Level::Expression, condition);
         return;
     }

@@ -12,14 +12,13 @@ ghost use Rattle.rust_productions.specs.declared.condition.Condition.{Condition}
 use crate::grammar::expressions::blocks::block;
 use crate::grammar::paths::{Mode, path_with_args};
 use parser_events::message::Message;
-use parser_events::parser::Parser;
 use parser_input::syntax_kind::SyntaxKind;
 use rust_productions::grammar::const_args::{
     at_const_arg, at_negated, missing_expr_path, negated_literal,
 };
 use rust_productions::grammar::names::{at_literal, literal};
 use rust_productions::grammar::paths::at_path;
-use rust_productions::grammar::{at, complete, error, start};
+use rust_productions::parser::Parser;
 
 /// Parses a const argument; emits an error if there is none.
 // -1
@@ -32,7 +31,7 @@ pub(crate) fn expect_const_arg(p: &mut Parser<'_>)
         const_arg(p);
         return;
     }
-    error(p, Message::Expected(SyntaxKind::CONST_ARG));
+    p.error(Message::Expected(SyntaxKind::CONST_ARG));
 }
 
 /// Parses a const argument: a block, a literal, a negated literal or a path. Reads a path that has
@@ -43,9 +42,9 @@ pub(crate) fn const_arg(p: &mut Parser<'_>)
     ensures reads { (c : Condition) → Reads c rows.const_arg p.old p.new }
     ensures asks { Asks 7 p.old p.new }
 {
-    let node = start(p);
+    let node = p.start();
     const_value(p);
-    complete(p, node, SyntaxKind::CONST_ARG);
+    node.complete(p, SyntaxKind::CONST_ARG);
 }
 
 /// Parses the value of a const argument.
@@ -55,7 +54,7 @@ fn const_value(p: &mut Parser<'_>)
     ensures reads { (c : Condition) → Reads c rows.const_value p.old p.new }
     ensures asks { Asks 7 p.old p.new }
 {
-    if at(p, SyntaxKind::L_CURLY) {
+    if p.at(SyntaxKind::L_CURLY) {
         block(p);
         return;
     }
@@ -77,9 +76,9 @@ pub(crate) fn const_path(p: &mut Parser<'_>)
     ensures reads { (c : Condition) → Reads c (PATH_EXPR ⟨ ExprPath ⟩) p.old p.new }
     ensures asks { Asks 3 p.old p.new }
 {
-    let node = start(p);
+    let node = p.start();
     expr_path(p);
-    complete(p, node, SyntaxKind::PATH_EXPR);
+    node.complete(p, SyntaxKind::PATH_EXPR);
 }
 
 /// Parses a path with the arguments of an expression, or one that has no segment.

@@ -9,9 +9,8 @@ ghost use Rattle.rust_productions.specs.declared.condition.Condition.TheVariants
 use crate::grammar::expressions::blocks::statements;
 use crate::grammar::items::items;
 use crate::grammar::list_end::ListEnd;
-use parser_events::parser::Parser;
 use parser_input::syntax_kind::SyntaxKind;
-use rust_productions::grammar::{complete, eat, start};
+use rust_productions::parser::Parser;
 
 /// Parses a source file: an optional shebang, an optional frontmatter, and items.
 // mod a; fn f() {}
@@ -20,11 +19,11 @@ pub fn source_file(p: &mut Parser<'_>)
     ensures left { tokens p.new ≤ tokens p.old }
     ensures looks { spent p.new ≤ spent p.old + 4 }
 {
-    let file = start(p);
-    eat(p, SyntaxKind::SHEBANG);
-    eat(p, SyntaxKind::FRONTMATTER);
+    let file = p.start();
+    p.eat(SyntaxKind::SHEBANG);
+    p.eat(SyntaxKind::FRONTMATTER);
     items(p, ListEnd::Input);
-    complete(p, file, SyntaxKind::SOURCE_FILE);
+    file.complete(p, SyntaxKind::SOURCE_FILE);
 }
 
 /// Parses the items that a macro expands to.
@@ -34,9 +33,9 @@ pub fn macro_items(p: &mut Parser<'_>)
     ensures left { tokens p.new ≤ tokens p.old }
     ensures looks { spent p.new ≤ spent p.old + 2 }
 {
-    let list = start(p);
+    let list = p.start();
     items(p, ListEnd::Input);
-    complete(p, list, SyntaxKind::MACRO_ITEMS);
+    list.complete(p, SyntaxKind::MACRO_ITEMS);
 }
 
 /// Parses the statements that a macro expands to.
@@ -46,7 +45,7 @@ pub fn macro_statements(p: &mut Parser<'_>)
     ensures left { tokens p.new ≤ tokens p.old }
     ensures looks { spent p.new ≤ spent p.old + 901 }
 {
-    let list = start(p);
+    let list = p.start();
     statements(p, ListEnd::Input);
-    complete(p, list, SyntaxKind::MACRO_STMTS);
+    list.complete(p, SyntaxKind::MACRO_STMTS);
 }

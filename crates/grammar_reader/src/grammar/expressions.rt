@@ -21,14 +21,14 @@ ghost use Rattle.grammar_reader.specs.Next.{EndsRange};
 use crate::grammar::expressions::layers::{climb, expect_layer, layers};
 use crate::grammar::expressions::operand::prefixed;
 use parser_events::message::Message;
-use parser_events::parser::{Marker, Parser};
 use parser_input::syntax_kind::SyntaxKind;
 use rust_productions::condition::Condition;
 use rust_productions::grammar::expressions::{at_expression, at_operation, at_range_operand};
 use rust_productions::grammar::operators::{
     Operator, RangeMark, current_op, present_mark, range_mark, take_mark, take_operator,
 };
-use rust_productions::grammar::{abandon, complete, error, start, wrap};
+use rust_productions::marker::Marker;
+use rust_productions::parser::Parser;
 
 pub(crate) mod atom;
 pub(crate) mod blocks;
@@ -75,7 +75,7 @@ fn expect_any(p: &mut Parser<'_>, condition: Condition)
         expression(p, condition);
         return;
     }
-    error(p, Message::ExpectedExpression);
+    p.error(Message::ExpectedExpression);
 }
 
 /// Parses an operation; emits an error if there is none.
@@ -89,7 +89,7 @@ fn expect_operation(p: &mut Parser<'_>, condition: Condition)
         operation(p, condition);
         return;
     }
-    error(p, Message::ExpectedExpression);
+    p.error(Message::ExpectedExpression);
 }
 
 /// Parses an operation in condition mode; emits an error if there is none.
@@ -139,11 +139,11 @@ fn operands(p: &mut Parser<'_>, condition: Condition)
     ensures gives { Gives rules.operation condition p.old p.new }
     ensures takes { Takes 2843 p.old p.new }
 {
-    let frame = start(p);
+    let frame = p.start();
     prefixed(p, condition);
     let frame = climb(p, frame, 10, condition);
     let frame = operation_tail(p, frame, condition);
-    abandon(p, frame);
+    frame.abandon(p);
 }
 
 /// Parses an operation that starts with a range operator.
@@ -154,16 +154,16 @@ fn range(p: &mut Parser<'_>, mark: RangeMark, condition: Condition)
     ensures gives { Gives rules.operation condition p.old p.new }
     ensures takes { Takes 4060 p.old p.new }
 {
-    let frame = start(p);
-    let range = start(p);
+    let frame = p.start();
+    let range = p.start();
     let more = range_end(p, mark, condition);
-    complete(p, range, SyntaxKind::RANGE_EXPR);
+    range.complete(p, SyntaxKind::RANGE_EXPR);
     if !more {
-        abandon(p, frame);
+        frame.abandon(p);
         return;
     }
     let frame = operation_tail(p, frame, condition);
-    abandon(p, frame);
+    frame.abandon(p);
 }
 
 /// Parses a range without a start, as an operand.
@@ -174,10 +174,10 @@ pub(crate) fn open_range(p: &mut Parser<'_>, condition: Condition)
     ensures reads { Reads condition (RANGE_EXPR ⟨ rows.open_range ⟩) p.old p.new }
     ensures takes { Takes 4060 p.old p.new }
 {
-    let range = start(p);
+    let range = p.start();
     let mark = present_mark(p);
     range_end(p, mark, condition);
-    complete(p, range, SyntaxKind::RANGE_EXPR);
+    range.complete(p, SyntaxKind::RANGE_EXPR);
 }
 
 /// Parses a range operator and its optional end. Returns `true` if there is an end.
@@ -222,7 +222,7 @@ pub(crate) fn operation_tail(p: &mut Parser<'_>, frame: Marker, condition: Condi
     let mut mark = range_mark(p);
     'ranges: while let Some(found) = mark {
         let more = range_end(p, found, condition);
-        frame = wrap(p, frame, SyntaxKind::RANGE_EXPR);
+        frame = frame.wrap(p, SyntaxKind::RANGE_EXPR);
         if !more {
             return frame;
         }
@@ -245,7 +245,7 @@ fn pipe_tail(p: &mut Parser<'_>, frame: Marker, condition: Condition) -> Marker
     'pipes: while operator.height == 11 {
         take_operator(p, operator);
         expect_expression(p, Level::Disjunction, condition);
-        frame = wrap(p, frame, SyntaxKind::BIN_EXPR);
+        frame = frame.wrap(p, SyntaxKind::BIN_EXPR);
         operator = current_op(p);
     }
     opt_assignment(p, frame, operator, condition)
@@ -270,5 +270,5 @@ fn opt_assignment(
     }
     take_operator(p, operator);
     expect_operation(p, condition);
-    wrap(p, frame, SyntaxKind::BIN_EXPR)
+    frame.wrap(p, SyntaxKind::BIN_EXPR)
 }

@@ -22,15 +22,13 @@ use crate::grammar::items::attributes;
 use crate::grammar::parts::{Part, expect_part};
 use crate::grammar::paths::{Mode, path_with_args};
 use crate::grammar::patterns::rest_pat;
-use parser_events::parser::{Marker, Parser};
 use parser_input::syntax_kind::SyntaxKind;
 use rust_productions::condition::Condition;
 use rust_productions::grammar::expressions::at_expression;
 use rust_productions::grammar::names::{expect_name, name};
 use rust_productions::grammar::patterns::{at_attributed_named_field, at_named_field};
-use rust_productions::grammar::{
-    abandon, at_new, at_pair, complete, current, eat, start, take, take_pair,
-};
+use rust_productions::marker::Marker;
+use rust_productions::parser::Parser;
 
 /// Parses a field of a record expression.
 // a: 1
@@ -42,7 +40,7 @@ pub(crate) fn field_value(p: &mut Parser<'_>, condition: Condition)
     ensures gives { Gives rules.field_value condition p.old p.new }
     ensures takes { Takes 3300 p.old p.new }
 {
-    if at_new(p, SyntaxKind::POUND) {
+    if p.at_new(SyntaxKind::POUND) {
         attributed_value(p, condition);
         return;
     }
@@ -50,7 +48,7 @@ pub(crate) fn field_value(p: &mut Parser<'_>, condition: Condition)
         named_value(p, condition);
         return;
     }
-    if at_pair(p, SyntaxKind::DOT, SyntaxKind::DOT) {
+    if p.at_pair(SyntaxKind::DOT, SyntaxKind::DOT) {
         other_fields(p, condition);
         return;
     }
@@ -62,10 +60,11 @@ pub(crate) fn field_value(p: &mut Parser<'_>, condition: Condition)
 #[cycle(grammar)]
 fn attributed_value(p: &mut Parser<'_>, condition: Condition)
     requires some { 1 ≤ tokens p.old }
-    ensures from_start { FromStart condition (attributed expression_rows.attributed_value) p.old p.new }
+    ensures from_start { FromStart condition
+        (attributed expression_rows.attributed_value) p.old p.new }
     ensures takes { Takes 4000 p.old p.new }
 {
-    let node = start(p);
+    let node = p.start();
     attribute(p);
     attributes(p);
     value_after_attributes(p, node, condition);
@@ -81,18 +80,18 @@ fn value_after_attributes(p: &mut Parser<'_>, node: Marker, condition: Condition
 {
     if at_attributed_named_field(p) {
         name_of_field(p);
-        take(p, SyntaxKind::COLON);
+        p.take(SyntaxKind::COLON);
         expect_expression(p, Level::Expression, condition);
-        complete(p, node, SyntaxKind::RECORD_EXPR_FIELD);
+        node.complete(p, SyntaxKind::RECORD_EXPR_FIELD);
         return;
     }
-    if at_pair(p, SyntaxKind::DOT, SyntaxKind::DOT) {
+    if p.at_pair(SyntaxKind::DOT, SyntaxKind::DOT) {
         other_fields(p, condition);
-        abandon(p, node);
+        node.abandon(p);
         return;
     }
     const_path(p);
-    complete(p, node, SyntaxKind::RECORD_EXPR_FIELD);
+    node.complete(p, SyntaxKind::RECORD_EXPR_FIELD);
 }
 
 /// Parses the token of a field's name or number.
@@ -103,9 +102,9 @@ fn name_or_number(p: &mut Parser<'_>)
     ensures left { tokens p.new + 1 ≡ tokens p.old }
     ensures looks { spent p.new + 4095 ≤ spent p.old }
 {
-    match current(p) {
-        SyntaxKind::IDENT => take(p, SyntaxKind::IDENT),
-        _ => take(p, SyntaxKind::INT_NUMBER),
+    match p.current() {
+        SyntaxKind::IDENT => p.take(SyntaxKind::IDENT),
+        _ => p.take(SyntaxKind::INT_NUMBER),
     }
 }
 
@@ -117,9 +116,9 @@ fn name_of_field(p: &mut Parser<'_>)
     ensures left { tokens p.new + 1 ≡ tokens p.old }
     ensures looks { spent p.new + 4095 ≤ spent p.old }
 {
-    let node = start(p);
+    let node = p.start();
     name_or_number(p);
-    complete(p, node, SyntaxKind::NAME_REF);
+    node.complete(p, SyntaxKind::NAME_REF);
 }
 
 /// Parses a field of a record expression with its value.
@@ -132,11 +131,11 @@ fn named_value(p: &mut Parser<'_>, condition: Condition)
         (RECORD_EXPR_FIELD ⟨ field_name ▸ One ':' ▸ Expression ! ⟩) p.old p.new }
     ensures takes { Takes 7000 p.old p.new }
 {
-    let node = start(p);
+    let node = p.start();
     name_of_field(p);
-    take(p, SyntaxKind::COLON);
+    p.take(SyntaxKind::COLON);
     expect_expression(p, Level::Expression, condition);
-    complete(p, node, SyntaxKind::RECORD_EXPR_FIELD);
+    node.complete(p, SyntaxKind::RECORD_EXPR_FIELD);
 }
 
 /// Parses the `..` of a record expression and its optional base.
@@ -147,7 +146,7 @@ fn other_fields(p: &mut Parser<'_>, condition: Condition)
     ensures reads { Reads condition expression_rows.struct_base p.old p.new }
     ensures takes { Takes 7000 p.old p.new }
 {
-    take_pair(p, SyntaxKind::DOT2);
+    p.take_pair(SyntaxKind::DOT2);
     opt_expression(p, condition);
 }
 
@@ -172,11 +171,11 @@ fn path_value(p: &mut Parser<'_>)
     ensures reads { (c : Condition) → Reads c expression_rows.shorthand p.old p.new }
     ensures takes { Takes 4000 p.old p.new }
 {
-    let node = start(p);
-    let value = start(p);
+    let node = p.start();
+    let value = p.start();
     path_with_args(p, Mode::Expr);
-    complete(p, value, SyntaxKind::PATH_EXPR);
-    complete(p, node, SyntaxKind::RECORD_EXPR_FIELD);
+    value.complete(p, SyntaxKind::PATH_EXPR);
+    node.complete(p, SyntaxKind::RECORD_EXPR_FIELD);
 }
 
 /// Parses a field of a record pattern.
@@ -189,11 +188,11 @@ pub(crate) fn pattern_field(p: &mut Parser<'_>)
     ensures gives { (c : Condition) → Gives rules.pattern_field c p.old p.new }
     ensures takes { Takes 4060 p.old p.new }
 {
-    if at_new(p, SyntaxKind::POUND) {
+    if p.at_new(SyntaxKind::POUND) {
         attributed_pattern_field(p);
         return;
     }
-    if at_pair(p, SyntaxKind::DOT, SyntaxKind::DOT) {
+    if p.at_pair(SyntaxKind::DOT, SyntaxKind::DOT) {
         rest_pat(p);
         return;
     }
@@ -209,10 +208,11 @@ pub(crate) fn pattern_field(p: &mut Parser<'_>)
 #[cycle(grammar)]
 fn attributed_pattern_field(p: &mut Parser<'_>)
     requires some { 1 ≤ tokens p.old }
-    ensures from_start { (c : Condition) → FromStart c (attributed pattern_rows.attributed_field) p.old p.new }
+    ensures from_start { (c : Condition)
+        → FromStart c (attributed pattern_rows.attributed_field) p.old p.new }
     ensures takes { Takes 4070 p.old p.new }
 {
-    let node = start(p);
+    let node = p.start();
     attribute(p);
     attributes(p);
     after_attributes(p, node);
@@ -226,20 +226,20 @@ fn after_attributes(p: &mut Parser<'_>, node: Marker)
     ensures completes { (c : Condition) → Completes c pattern_rows.attributed_field p.old p.new }
     ensures asks { Asks 7 p.old p.new }
 {
-    if at_pair(p, SyntaxKind::DOT, SyntaxKind::DOT) {
-        take_pair(p, SyntaxKind::DOT2);
-        complete(p, node, SyntaxKind::REST_PAT);
+    if p.at_pair(SyntaxKind::DOT, SyntaxKind::DOT) {
+        p.take_pair(SyntaxKind::DOT2);
+        node.complete(p, SyntaxKind::REST_PAT);
         return;
     }
     if at_attributed_named_field(p) {
         name_of_field(p);
-        take(p, SyntaxKind::COLON);
+        p.take(SyntaxKind::COLON);
         expect_part(p, Part::Pattern);
-        complete(p, node, SyntaxKind::RECORD_PAT_FIELD);
+        node.complete(p, SyntaxKind::RECORD_PAT_FIELD);
         return;
     }
     any_binding(p);
-    complete(p, node, SyntaxKind::RECORD_PAT_FIELD);
+    node.complete(p, SyntaxKind::RECORD_PAT_FIELD);
 }
 
 /// Parses the binding of a shorthand field; emits an error if there is no name.
@@ -248,11 +248,11 @@ fn any_binding(p: &mut Parser<'_>)
     ensures reads { (c : Condition) → Reads c (IDENT_PAT ⟨ pattern_rows.binding ⟩) p.old p.new }
     ensures asks { Asks 3 p.old p.new }
 {
-    let node = start(p);
-    eat(p, SyntaxKind::REF_KW);
-    eat(p, SyntaxKind::MUT_KW);
+    let node = p.start();
+    p.eat(SyntaxKind::REF_KW);
+    p.eat(SyntaxKind::MUT_KW);
     expect_name(p);
-    complete(p, node, SyntaxKind::IDENT_PAT);
+    node.complete(p, SyntaxKind::IDENT_PAT);
 }
 
 /// Parses a field of a record pattern with its pattern.
@@ -264,11 +264,11 @@ fn named_pattern(p: &mut Parser<'_>)
         (RECORD_PAT_FIELD ⟨ field_name ▸ One ':' ▸ Pattern ! ⟩) p.old p.new }
     ensures takes { Takes 8000 p.old p.new }
 {
-    let node = start(p);
+    let node = p.start();
     name_of_field(p);
-    take(p, SyntaxKind::COLON);
+    p.take(SyntaxKind::COLON);
     expect_part(p, Part::Pattern);
-    complete(p, node, SyntaxKind::RECORD_PAT_FIELD);
+    node.complete(p, SyntaxKind::RECORD_PAT_FIELD);
 }
 
 /// Parses a shorthand field of a record pattern.
@@ -279,11 +279,11 @@ fn shorthand(p: &mut Parser<'_>)
     ensures reads { (c : Condition) → Reads c pattern_rows.shorthand p.old p.new }
     ensures takes { Takes 4090 p.old p.new }
 {
-    let field = start(p);
-    let pattern = start(p);
+    let field = p.start();
+    let pattern = p.start();
     bound_name(p);
-    complete(p, pattern, SyntaxKind::IDENT_PAT);
-    complete(p, field, SyntaxKind::RECORD_PAT_FIELD);
+    pattern.complete(p, SyntaxKind::IDENT_PAT);
+    field.complete(p, SyntaxKind::RECORD_PAT_FIELD);
 }
 
 /// Parses a name with an optional `ref` and an optional `mut`.
@@ -294,7 +294,7 @@ fn bound_name(p: &mut Parser<'_>)
     ensures reads { (c : Condition) → Reads c pattern_rows.binding p.old p.new }
     ensures takes { Takes 4090 p.old p.new }
 {
-    match current(p) {
+    match p.current() {
         SyntaxKind::REF_KW => name_after_ref(p),
         SyntaxKind::MUT_KW => name_after_mut(p),
         _ => name(p),
@@ -308,8 +308,8 @@ fn name_after_ref(p: &mut Parser<'_>)
     ensures reads { (c : Condition) → Reads c (One 'ref' ▸ ⁅ One 'mut' ⁆ ▸ Name !) p.old p.new }
     ensures takes { Takes 4094 p.old p.new }
 {
-    take(p, SyntaxKind::REF_KW);
-    eat(p, SyntaxKind::MUT_KW);
+    p.take(SyntaxKind::REF_KW);
+    p.eat(SyntaxKind::MUT_KW);
     expect_name(p);
 }
 
@@ -320,6 +320,6 @@ fn name_after_mut(p: &mut Parser<'_>)
     ensures reads { (c : Condition) → Reads c (One 'mut' ▸ Name !) p.old p.new }
     ensures takes { Takes 4095 p.old p.new }
 {
-    take(p, SyntaxKind::MUT_KW);
+    p.take(SyntaxKind::MUT_KW);
     expect_name(p);
 }

@@ -17,14 +17,11 @@ use crate::grammar::paths::{Mode, next_segments, opt_type_args};
 use crate::grammar::patterns::single_pattern;
 use crate::grammar::types::{any_type, opt_ret_type};
 use parser_events::message::Message;
-use parser_events::parser::Parser;
 use parser_input::syntax_kind::SyntaxKind;
 use rust_productions::grammar::item_words::{opt_abi, read_abi};
 use rust_productions::grammar::pattern_ranges::take_three_dots;
 use rust_productions::grammar::types::{at_named_param, at_type};
-use rust_productions::grammar::{
-    abandon, at_dots_dot, at_new, complete, current, error, expect, start, take,
-};
+use rust_productions::parser::Parser;
 
 /// Parses a function pointer type.
 // unsafe extern "C" fn(u8) -> u8
@@ -34,11 +31,11 @@ pub(crate) fn fn_ptr_type(p: &mut Parser<'_>)
     ensures reads { (c : Condition) → Reads c rows.fn_ptr_type p.old p.new }
     ensures takes { Takes 4000 p.old p.new }
 {
-    let node = start(p);
+    let node = p.start();
     fn_ptr_words(p);
     expect_part(p, Part::FnPtrParams);
     opt_ret_type(p);
-    complete(p, node, SyntaxKind::FN_PTR_TYPE);
+    node.complete(p, SyntaxKind::FN_PTR_TYPE);
 }
 
 /// Parses the words before the parameters.
@@ -48,17 +45,17 @@ fn fn_ptr_words(p: &mut Parser<'_>)
     ensures reads { (c : Condition) → Reads c rows.fn_ptr_words p.old p.new }
     ensures takes { Takes 4080 p.old p.new }
 {
-    match current(p) {
+    match p.current() {
         SyntaxKind::UNSAFE_KW => {
-            take(p, SyntaxKind::UNSAFE_KW);
+            p.take(SyntaxKind::UNSAFE_KW);
             opt_abi(p);
-            expect(p, SyntaxKind::FN_KW);
+            p.expect(SyntaxKind::FN_KW);
         }
         SyntaxKind::EXTERN_KW => {
             read_abi(p);
-            expect(p, SyntaxKind::FN_KW);
+            p.expect(SyntaxKind::FN_KW);
         }
-        _ => take(p, SyntaxKind::FN_KW),
+        _ => p.take(SyntaxKind::FN_KW),
     }
 }
 
@@ -71,9 +68,9 @@ pub(crate) fn fn_ptr_param(p: &mut Parser<'_>)
     ensures reads { (c : Condition) → Reads c rows.fn_ptr_param p.old p.new }
     ensures takes { Takes 2700 p.old p.new }
 {
-    let node = start(p);
+    let node = p.start();
     attributed_or_bare(p);
-    complete(p, node, SyntaxKind::PARAM);
+    node.complete(p, SyntaxKind::PARAM);
 }
 
 /// Parses a parameter with its optional attributes, within its node.
@@ -84,7 +81,7 @@ fn attributed_or_bare(p: &mut Parser<'_>)
     ensures reads { (c : Condition) → Reads c rows.in_fn_ptr_param p.old p.new }
     ensures takes { Takes 2700 p.old p.new }
 {
-    if at_new(p, SyntaxKind::POUND) {
+    if p.at_new(SyntaxKind::POUND) {
         attribute(p);
         outer_attributes(p);
         dots_name_or_type(p);
@@ -101,7 +98,7 @@ fn bare_param(p: &mut Parser<'_>)
     ensures reads { (c : Condition) → Reads c rows.dots_name_or_type p.old p.new }
     ensures takes { Takes 2710 p.old p.new }
 {
-    if at_dots_dot(p) {
+    if p.at_dots_dot() {
         take_three_dots(p);
         return;
     }
@@ -119,7 +116,7 @@ fn dots_name_or_type(p: &mut Parser<'_>)
     ensures reads { (c : Condition) → Reads c rows.dots_name_or_type p.old p.new }
     ensures asks { Asks 40 p.old p.new }
 {
-    if at_dots_dot(p) {
+    if p.at_dots_dot() {
         take_three_dots(p);
         return;
     }
@@ -141,9 +138,9 @@ fn missing_type(p: &mut Parser<'_>)
     ensures gives { (c : Condition) → Gives rules.any_type c p.old p.new }
     ensures asks { Asks 14 p.old p.new }
 {
-    let node = start(p);
+    let node = p.start();
     missing_path(p);
-    complete(p, node, SyntaxKind::PATH_TYPE);
+    node.complete(p, SyntaxKind::PATH_TYPE);
 }
 
 /// Parses the path of a type where none starts: emits an error within the nodes of the path.
@@ -153,10 +150,10 @@ fn missing_path(p: &mut Parser<'_>)
     ensures gives { (c : Condition) → Gives rules.type_path c p.old p.new }
     ensures asks { Asks 13 p.old p.new }
 {
-    let frame = start(p);
+    let frame = p.start();
     missing_segment(p);
     let frame = next_segments(p, frame, Mode::Type);
-    abandon(p, frame);
+    frame.abandon(p);
 }
 
 /// Emits an error for the first segment of a path, within the nodes of the path, and parses the
@@ -167,12 +164,12 @@ fn missing_segment(p: &mut Parser<'_>)
     ensures reads { (c : Condition) → Reads c (first_segment type_args) p.old p.new }
     ensures asks { Asks 9 p.old p.new }
 {
-    let path = start(p);
-    let segment = start(p);
-    error(p, Message::Expected(SyntaxKind::NAME_REF));
+    let path = p.start();
+    let segment = p.start();
+    p.error(Message::Expected(SyntaxKind::NAME_REF));
     opt_type_args(p);
-    complete(p, segment, SyntaxKind::PATH_SEGMENT);
-    complete(p, path, SyntaxKind::PATH);
+    segment.complete(p, SyntaxKind::PATH_SEGMENT);
+    path.complete(p, SyntaxKind::PATH);
 }
 
 /// Parses a parameter with a name.
@@ -184,7 +181,7 @@ fn named_param(p: &mut Parser<'_>)
     ensures takes { Takes 2800 p.old p.new }
 {
     single_pattern(p);
-    expect(p, SyntaxKind::COLON);
+    p.expect(SyntaxKind::COLON);
     dots_or_type(p);
 }
 
@@ -195,7 +192,7 @@ fn dots_or_type(p: &mut Parser<'_>)
     ensures reads { (c : Condition) → Reads c rows.dots_or_type p.old p.new }
     ensures asks { Asks 19 p.old p.new }
 {
-    if at_dots_dot(p) {
+    if p.at_dots_dot() {
         take_three_dots(p);
         return;
     }

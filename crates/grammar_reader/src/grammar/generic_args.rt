@@ -22,11 +22,11 @@ use crate::grammar::generic_params::bounds;
 use crate::grammar::parts::{Part, expect_part};
 use crate::grammar::paths::{Mode, next_segments, opt_type_args};
 use crate::grammar::types::{any_type, opt_plus_bounds, type_of_path, word_type};
-use parser_events::parser::{Marker, Parser};
 use parser_input::syntax_kind::SyntaxKind;
 use rust_productions::grammar::generic_args::{at_const_value, at_new_arg, at_single_colon};
 use rust_productions::grammar::names::{at_literal, expect_literal, lifetime, literal, name_ref};
-use rust_productions::grammar::{abandon, at, at_second, complete, current, start, take, wrap};
+use rust_productions::marker::Marker;
+use rust_productions::parser::Parser;
 
 /// Parses a generic argument.
 // T = u8
@@ -38,12 +38,12 @@ pub(crate) fn generic_arg(p: &mut Parser<'_>)
     ensures takes { Takes 2880 p.old p.new }
 {
     if at_new_arg(p) {
-        let frame = start(p);
+        let frame = p.start();
         let frame = new_arg(p, frame);
-        abandon(p, frame);
+        frame.abandon(p);
         return;
     }
-    match current(p) {
+    match p.current() {
         SyntaxKind::LIFETIME_IDENT => lifetime_arg(p),
         SyntaxKind::MINUS => negative_arg(p),
         SyntaxKind::IDENT => word_arg(p),
@@ -66,11 +66,11 @@ fn new_arg(p: &mut Parser<'_>, frame: Marker) -> Marker
     ensures reads { (c : Condition) → Reads c rows.new_arg p.old p.new }
     ensures takes { TakesIn result 2890 p.old p.new }
 {
-    if at(p, SyntaxKind::LIFETIME_IDENT) {
+    if p.at(SyntaxKind::LIFETIME_IDENT) {
         type_arg(p);
         return frame;
     }
-    if at(p, SyntaxKind::L_CURLY) {
+    if p.at(SyntaxKind::L_CURLY) {
         block_arg(p);
         return frame;
     }
@@ -87,9 +87,9 @@ fn block_arg(p: &mut Parser<'_>)
     ensures reads { (c : Condition) → Reads c rows.block_arg p.old p.new }
     ensures takes { Takes 2980 p.old p.new }
 {
-    let node = start(p);
+    let node = p.start();
     block(p);
-    complete(p, node, SyntaxKind::CONST_ARG);
+    node.complete(p, SyntaxKind::CONST_ARG);
 }
 
 /// Parses a generic argument after its name and the arguments of that, within `frame`.
@@ -100,15 +100,15 @@ fn named_arg(p: &mut Parser<'_>, frame: Marker) -> Marker
     ensures reads { (c : Condition) → Reads c rows.named_arg p.old p.new }
     ensures asks { AsksIn result 20 p.old p.new }
 {
-    if at(p, SyntaxKind::EQ) {
-        take(p, SyntaxKind::EQ);
+    if p.at(SyntaxKind::EQ) {
+        p.take(SyntaxKind::EQ);
         const_or_type(p);
-        return wrap(p, frame, SyntaxKind::ASSOC_TYPE_ARG);
+        return frame.wrap(p, SyntaxKind::ASSOC_TYPE_ARG);
     }
     if at_single_colon(p) {
-        take(p, SyntaxKind::COLON);
+        p.take(SyntaxKind::COLON);
         bounds(p);
-        return wrap(p, frame, SyntaxKind::ASSOC_TYPE_ARG);
+        return frame.wrap(p, SyntaxKind::ASSOC_TYPE_ARG);
     }
     front_of_type(p, frame)
 }
@@ -135,12 +135,12 @@ fn front_of_type(p: &mut Parser<'_>, frame: Marker) -> Marker
     ensures reads { (c : Condition) → Reads c rows.front_of_type p.old p.new }
     ensures asks { AsksIn result 7 p.old p.new }
 {
-    let frame = wrap(p, frame, SyntaxKind::PATH_SEGMENT);
-    let frame = wrap(p, frame, SyntaxKind::PATH);
+    let frame = frame.wrap(p, SyntaxKind::PATH_SEGMENT);
+    let frame = frame.wrap(p, SyntaxKind::PATH);
     let frame = next_segments(p, frame, Mode::Type);
     let frame = type_of_path(p, frame);
     let frame = opt_plus_bounds(p, frame);
-    wrap(p, frame, SyntaxKind::TYPE_ARG)
+    frame.wrap(p, SyntaxKind::TYPE_ARG)
 }
 
 /// Parses a lifetime argument.
@@ -151,9 +151,9 @@ fn lifetime_arg(p: &mut Parser<'_>)
     ensures left { tokens p.new + 1 ≡ tokens p.old }
     ensures looks { spent p.new + 4096 ≡ spent p.old }
 {
-    let node = start(p);
+    let node = p.start();
     lifetime(p);
-    complete(p, node, SyntaxKind::LIFETIME_ARG);
+    node.complete(p, SyntaxKind::LIFETIME_ARG);
 }
 
 /// Parses a const argument that is a negative literal.
@@ -163,10 +163,10 @@ fn negative_arg(p: &mut Parser<'_>)
     ensures reads { (c : Condition) → Reads c (CONST_ARG ⟨ One '-' ▸ Literal ! ⟩) p.old p.new }
     ensures takes { Takes 4090 p.old p.new }
 {
-    let node = start(p);
-    take(p, SyntaxKind::MINUS);
+    let node = p.start();
+    p.take(SyntaxKind::MINUS);
     expect_literal(p);
-    complete(p, node, SyntaxKind::CONST_ARG);
+    node.complete(p, SyntaxKind::CONST_ARG);
 }
 
 /// Parses a const argument that is a literal.
@@ -177,9 +177,9 @@ fn literal_arg(p: &mut Parser<'_>)
     ensures left { tokens p.new + 1 ≡ tokens p.old }
     ensures looks { spent p.new + 4095 ≤ spent p.old }
 {
-    let node = start(p);
+    let node = p.start();
     literal(p);
-    complete(p, node, SyntaxKind::CONST_ARG);
+    node.complete(p, SyntaxKind::CONST_ARG);
 }
 
 /// Parses a generic argument that starts with an identifier: an associated type or a type.
@@ -191,7 +191,7 @@ fn word_arg(p: &mut Parser<'_>)
     ensures from_start { (c : Condition) → FromStart c (rule rules.generic_arg) p.old p.new }
     ensures takes { Takes 2900 p.old p.new }
 {
-    if at_second(p, SyntaxKind::EQ) {
+    if p.at_second(SyntaxKind::EQ) {
         assoc_type_arg(p);
         return;
     }
@@ -207,11 +207,11 @@ fn assoc_type_arg(p: &mut Parser<'_>)
         (ASSOC_TYPE_ARG ⟨ NAME_REF ⟨ One 'ident' ⟩ ▸ One '=' ▸ AnyType ! ⟩) p.old p.new }
     ensures takes { Takes 8000 p.old p.new }
 {
-    let node = start(p);
+    let node = p.start();
     word_type(p, SyntaxKind::IDENT, SyntaxKind::NAME_REF);
-    take(p, SyntaxKind::EQ);
+    p.take(SyntaxKind::EQ);
     expect_part(p, Part::Type);
-    complete(p, node, SyntaxKind::ASSOC_TYPE_ARG);
+    node.complete(p, SyntaxKind::ASSOC_TYPE_ARG);
 }
 
 /// Parses a type argument.
@@ -223,7 +223,7 @@ pub(crate) fn type_arg(p: &mut Parser<'_>)
     ensures reads { (c : Condition) → Reads c rows.type_arg p.old p.new }
     ensures takes { Takes 2910 p.old p.new }
 {
-    let node = start(p);
+    let node = p.start();
     any_type(p);
-    complete(p, node, SyntaxKind::TYPE_ARG);
+    node.complete(p, SyntaxKind::TYPE_ARG);
 }

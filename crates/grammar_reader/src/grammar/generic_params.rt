@@ -18,13 +18,12 @@ use crate::grammar::new_bounds::new_bound;
 use crate::grammar::new_params::new_param;
 use crate::grammar::parts::{Part, expect_part, opt_part};
 use crate::grammar::types::{any_type, opt_type_after, path_type};
-use parser_events::parser::Parser;
 use parser_input::syntax_kind::SyntaxKind;
 use rust_productions::grammar::generic_params::{
     at_bound, at_new_bound, at_new_param, at_new_pred, at_where_pred,
 };
 use rust_productions::grammar::names::{lifetime, name};
-use rust_productions::grammar::{at, complete, current, error, expect, start, take};
+use rust_productions::parser::Parser;
 
 /// Parses a bound.
 // ?Sized
@@ -51,9 +50,9 @@ fn plain_bound(p: &mut Parser<'_>)
     ensures reads { (c : Condition) → Reads c (TYPE_BOUND ⟨ rows.lifetime_or_path ⟩) p.old p.new }
     ensures takes { Takes 3990 p.old p.new }
 {
-    let node = start(p);
+    let node = p.start();
     lifetime_or_path(p);
-    complete(p, node, SyntaxKind::TYPE_BOUND);
+    node.complete(p, SyntaxKind::TYPE_BOUND);
 }
 
 /// Parses a lifetime, or a path type with an optional `?`.
@@ -65,7 +64,7 @@ fn lifetime_or_path(p: &mut Parser<'_>)
     ensures reads { (c : Condition) → Reads c rows.lifetime_or_path p.old p.new }
     ensures takes { Takes 3990 p.old p.new }
 {
-    match current(p) {
+    match p.current() {
         SyntaxKind::LIFETIME_IDENT => lifetime(p),
         SyntaxKind::QUESTION => path_after_question(p),
         _ => path_type(p),
@@ -80,7 +79,7 @@ fn path_after_question(p: &mut Parser<'_>)
     ensures reads { (c : Condition) → Reads c (One '?' ▸ shared.path_type !) p.old p.new }
     ensures takes { Takes 4090 p.old p.new }
 {
-    take(p, SyntaxKind::QUESTION);
+    p.take(SyntaxKind::QUESTION);
     expect_part(p, Part::PathType);
 }
 
@@ -91,9 +90,9 @@ pub(crate) fn bounds(p: &mut Parser<'_>)
     ensures gives { (c : Condition) → Gives rules.bounds c p.old p.new }
     ensures asks { Asks 24 p.old p.new }
 {
-    let list = start(p);
+    let list = p.start();
     opt_bounds(p);
-    complete(p, list, SyntaxKind::TYPE_BOUND_LIST);
+    list.complete(p, SyntaxKind::TYPE_BOUND_LIST);
 }
 
 /// Parses optional bounds.
@@ -116,7 +115,7 @@ pub(crate) fn further_bounds(p: &mut Parser<'_>)
     ensures reads { (c : Condition) → Reads c (rows.further_bound *) p.old p.new }
     ensures asks { Asks 1 p.old p.new }
 {
-    'turns: while at(p, SyntaxKind::PLUS) {
+    'turns: while p.at(SyntaxKind::PLUS) {
         further_bound(p);
     }
 }
@@ -129,7 +128,7 @@ fn further_bound(p: &mut Parser<'_>)
     ensures reads { (c : Condition) → Reads c rows.further_bound p.old p.new }
     ensures takes { Takes 4070 p.old p.new }
 {
-    take(p, SyntaxKind::PLUS);
+    p.take(SyntaxKind::PLUS);
     opt_bound(p);
 }
 
@@ -152,8 +151,8 @@ pub(crate) fn bounds_after_colon(p: &mut Parser<'_>)
     ensures reads { (c : Condition) → Reads c ⁅ rows.bounds_after_colon ⁆ p.old p.new }
     ensures asks { Asks 1 p.old p.new }
 {
-    if at(p, SyntaxKind::COLON) {
-        take(p, SyntaxKind::COLON);
+    if p.at(SyntaxKind::COLON) {
+        p.take(SyntaxKind::COLON);
         bounds(p);
     }
 }
@@ -166,7 +165,7 @@ pub(crate) fn for_binder(p: &mut Parser<'_>)
     ensures reads { (c : Condition) → Reads c shared.for_binder p.old p.new }
     ensures takes { Takes 4090 p.old p.new }
 {
-    take(p, SyntaxKind::FOR_KW);
+    p.take(SyntaxKind::FOR_KW);
     expect_part(p, Part::GenericParams);
 }
 
@@ -190,9 +189,9 @@ fn lifetime_param(p: &mut Parser<'_>)
     ensures reads { (c : Condition) → Reads c rows.lifetime_param p.old p.new }
     ensures takes { Takes 4090 p.old p.new }
 {
-    let node = start(p);
+    let node = p.start();
     lifetime_and_bounds(p);
-    complete(p, node, SyntaxKind::LIFETIME_PARAM);
+    node.complete(p, SyntaxKind::LIFETIME_PARAM);
 }
 
 /// Parses a type parameter.
@@ -203,11 +202,11 @@ fn type_param(p: &mut Parser<'_>)
     ensures reads { (c : Condition) → Reads c rows.type_param p.old p.new }
     ensures takes { Takes 4090 p.old p.new }
 {
-    let node = start(p);
+    let node = p.start();
     name(p);
     bounds_after_colon(p);
     opt_type_after(p, SyntaxKind::EQ);
-    complete(p, node, SyntaxKind::TYPE_PARAM);
+    node.complete(p, SyntaxKind::TYPE_PARAM);
 }
 
 /// Parses a generic parameter.
@@ -223,7 +222,7 @@ pub(crate) fn generic_param(p: &mut Parser<'_>)
         new_param(p);
         return;
     }
-    if at(p, SyntaxKind::LIFETIME_IDENT) {
+    if p.at(SyntaxKind::LIFETIME_IDENT) {
         lifetime_param(p);
         return;
     }
@@ -239,7 +238,7 @@ fn lifetime_or_type(p: &mut Parser<'_>)
     ensures reads { (c : Condition) → Reads c rows.lifetime_or_type p.old p.new }
     ensures takes { Takes 2800 p.old p.new }
 {
-    if at(p, SyntaxKind::LIFETIME_IDENT) {
+    if p.at(SyntaxKind::LIFETIME_IDENT) {
         lifetime(p);
         return;
     }
@@ -253,7 +252,7 @@ fn pred_bounds(p: &mut Parser<'_>)
     ensures reads { (c : Condition) → Reads c rows.pred_bounds p.old p.new }
     ensures asks { Asks 25 p.old p.new }
 {
-    expect(p, SyntaxKind::COLON);
+    p.expect(SyntaxKind::COLON);
     bounds(p);
 }
 
@@ -282,11 +281,11 @@ fn binder_pred(p: &mut Parser<'_>)
         (WHERE_PRED ⟨ shared.for_binder ▸ AnyType ! ▸ rows.pred_bounds ⟩) p.old p.new }
     ensures takes { Takes 4000 p.old p.new }
 {
-    let node = start(p);
+    let node = p.start();
     for_binder(p);
     expect_part(p, Part::Type);
     pred_bounds(p);
-    complete(p, node, SyntaxKind::WHERE_PRED);
+    node.complete(p, SyntaxKind::WHERE_PRED);
 }
 
 /// Parses a where predicate without a binder.
@@ -299,10 +298,10 @@ fn plain_pred(p: &mut Parser<'_>)
         (WHERE_PRED ⟨ rows.lifetime_or_type ▸ rows.pred_bounds ⟩) p.old p.new }
     ensures takes { Takes 2710 p.old p.new }
 {
-    let node = start(p);
+    let node = p.start();
     lifetime_or_type(p);
     pred_bounds(p);
-    complete(p, node, SyntaxKind::WHERE_PRED);
+    node.complete(p, SyntaxKind::WHERE_PRED);
 }
 
 /// Parses a where clause.
@@ -314,10 +313,10 @@ pub(crate) fn where_clause(p: &mut Parser<'_>)
     ensures gives { (c : Condition) → Gives rules.where_clause c p.old p.new }
     ensures takes { Takes 4070 p.old p.new }
 {
-    let node = start(p);
-    take(p, SyntaxKind::WHERE_KW);
+    let node = p.start();
+    p.take(SyntaxKind::WHERE_KW);
     opt_preds(p);
-    complete(p, node, SyntaxKind::WHERE_CLAUSE);
+    node.complete(p, SyntaxKind::WHERE_CLAUSE);
 }
 
 /// Parses optional where predicates.
@@ -340,7 +339,7 @@ fn further_preds(p: &mut Parser<'_>)
     ensures reads { (c : Condition) → Reads c (rows.further_pred *) p.old p.new }
     ensures asks { Asks 1 p.old p.new }
 {
-    'turns: while at(p, SyntaxKind::COMMA) {
+    'turns: while p.at(SyntaxKind::COMMA) {
         further_pred(p);
     }
 }
@@ -353,6 +352,6 @@ fn further_pred(p: &mut Parser<'_>)
     ensures reads { (c : Condition) → Reads c rows.further_pred p.old p.new }
     ensures takes { Takes 4070 p.old p.new }
 {
-    take(p, SyntaxKind::COMMA);
+    p.take(SyntaxKind::COMMA);
     opt_part(p, Part::WherePred);
 }

@@ -28,7 +28,6 @@ use crate::grammar::items::new_items::new_item;
 use crate::grammar::items::traits::{impl_item, trait_item};
 use crate::grammar::list_end::{ListEnd, at_end_of};
 use crate::grammar::statements::at_inner_attribute;
-use parser_events::parser::{Marker, Parser};
 use parser_input::syntax_kind::SyntaxKind;
 use rust_productions::condition::Condition;
 use rust_productions::grammar::item_words::at_new_item;
@@ -36,7 +35,8 @@ use rust_productions::grammar::items::{at_fn, at_unsafe, no_item, path_item, use
 use rust_productions::grammar::names::expect_name;
 use rust_productions::grammar::paths::at_path;
 use rust_productions::grammar::visibility::{opt_visibility, visibility};
-use rust_productions::grammar::{at, complete, current, expect, start, take};
+use rust_productions::marker::Marker;
+use rust_productions::parser::Parser;
 
 pub(crate) mod adt;
 pub(crate) mod consts;
@@ -53,7 +53,7 @@ pub(crate) fn item(p: &mut Parser<'_>, condition: Condition)
     ensures gives { Gives rules.item condition p.old p.new }
     ensures takes { Takes 2900 p.old p.new }
 {
-    match current(p) {
+    match p.current() {
         SyntaxKind::POUND => attributed_item(p, condition),
         SyntaxKind::PUB_KW => visible_item(p, condition),
         _ => bare_item(p, condition),
@@ -69,7 +69,7 @@ fn attributed_item(p: &mut Parser<'_>, condition: Condition)
     ensures from_start { FromStart condition (rule rules.item) p.old p.new }
     ensures takes { Takes 4000 p.old p.new }
 {
-    let item = start(p);
+    let item = p.start();
     attributes_and_visibility(p);
     body(p, item, true, condition);
 }
@@ -83,7 +83,7 @@ fn visible_item(p: &mut Parser<'_>, condition: Condition)
     ensures from_start { FromStart condition (rule rules.item) p.old p.new }
     ensures takes { Takes 4000 p.old p.new }
 {
-    let item = start(p);
+    let item = p.start();
     visibility(p);
     body(p, item, true, condition);
 }
@@ -96,7 +96,7 @@ fn bare_item(p: &mut Parser<'_>, condition: Condition)
     ensures from_start { FromStart condition (rule rules.item) p.old p.new }
     ensures takes { Takes 2910 p.old p.new }
 {
-    let item = start(p);
+    let item = p.start();
     body(p, item, false, condition);
 }
 
@@ -107,7 +107,7 @@ pub(crate) fn attributes(p: &mut Parser<'_>)
     ensures reads { (c : Condition) → Reads c (Attribute *) p.old p.new }
     ensures asks { Asks 1 p.old p.new }
 {
-    'turns: while at(p, SyntaxKind::POUND) {
+    'turns: while p.at(SyntaxKind::POUND) {
         attribute(p);
     }
 }
@@ -153,7 +153,7 @@ fn plain_body(p: &mut Parser<'_>, item: Marker, given: bool, condition: Conditio
     ensures completes { CompletesWhere given condition rows.plain_body p.old p.new }
     ensures takes { TakesUnless given 2930 16 p.old p.new }
 {
-    match current(p) {
+    match p.current() {
         SyntaxKind::MOD_KW => module(p, item),
         SyntaxKind::USE_KW => use_item(p, item),
         SyntaxKind::STRUCT_KW => struct_item(p, item, condition),
@@ -165,7 +165,7 @@ fn plain_body(p: &mut Parser<'_>, item: Marker, given: bool, condition: Conditio
                 fn_item(p, item, condition);
                 return;
             }
-            if at(p, SyntaxKind::CONST_KW) {
+            if p.at(SyntaxKind::CONST_KW) {
                 const_item(p, item, condition);
                 return;
             }
@@ -195,10 +195,10 @@ fn module(p: &mut Parser<'_>, item: Marker)
     ensures completes { (c : Condition) → Completes c rows.module_item p.old p.new }
     ensures takes { Takes 4090 p.old p.new }
 {
-    take(p, SyntaxKind::MOD_KW);
+    p.take(SyntaxKind::MOD_KW);
     expect_name(p);
     module_items(p);
-    complete(p, item, SyntaxKind::MODULE);
+    item.complete(p, SyntaxKind::MODULE);
 }
 
 /// Parses the items of a module, or its `;`.
@@ -208,11 +208,11 @@ fn module_items(p: &mut Parser<'_>)
     ensures reads { (c : Condition) → Reads c rows.module_items p.old p.new }
     ensures asks { Asks 2 p.old p.new }
 {
-    if at(p, SyntaxKind::L_CURLY) {
+    if p.at(SyntaxKind::L_CURLY) {
         item_list(p, SyntaxKind::ITEM_LIST);
         return;
     }
-    expect(p, SyntaxKind::SEMICOLON);
+    p.expect(SyntaxKind::SEMICOLON);
 }
 
 /// Parses items in braces, in a node of `kind`.
@@ -224,18 +224,19 @@ pub(crate) fn item_list(p: &mut Parser<'_>, kind: SyntaxKind)
     ensures reads { (c : Condition) → Reads c (raw_of kind ⟨ items_in_braces ⟩) p.old p.new }
     ensures takes { Takes 4080 p.old p.new }
 {
-    let list = start(p);
-    take(p, SyntaxKind::L_CURLY);
+    let list = p.start();
+    p.take(SyntaxKind::L_CURLY);
     items(p, ListEnd::Brace);
-    expect(p, SyntaxKind::R_CURLY);
-    complete(p, list, kind);
+    p.expect(SyntaxKind::R_CURLY);
+    list.complete(p, kind);
 }
 
 /// Parses an item, or an inner attribute. Returns `true` if the list may continue.
 // fn f() {}
 #[cycle(grammar)]
 fn item_turn(p: &mut Parser<'_>, end: ListEnd) -> bool
-    ensures goes { IsTrue result → TakesTurn Off (Unless (ends_of end) item_or_attribute) p.old p.new }
+    ensures goes { IsTrue result
+        → TakesTurn Off (Unless (ends_of end) item_or_attribute) p.old p.new }
     ensures ends { result ≡ false → Reads Off (items_until (ends_of end)) p.old p.new }
     ensures keeps { Keeps p.old p.new }
     ensures asks { Asks 2 p.old p.new }

@@ -5,9 +5,8 @@ ghost use Rattle.rust_productions.specs.Looks.{Peeks};
 ghost use Rattle.rust_productions.specs.Reads.{Saw};
 ghost use Rattle.rust_productions.specs.declared.condition.Condition.{Condition};
 
-use parser_events::parser::Parser;
 use parser_input::syntax_kind::SyntaxKind;
-use rust_productions::grammar::current;
+use rust_productions::parser::Parser;
 
 /// The end of a list: its closing brace or the end of the input, or the end of the input alone.
 #[derive(Clone, Copy)]
@@ -21,7 +20,7 @@ pub(crate) fn at_end_of(p: &mut Parser<'_>, end: ListEnd) -> bool
     ensures sees { (c : Condition) → Saw c (ends_of end) p.old result }
     ensures peeks { Peeks 1 p.old p.new }
 {
-    match current(p) {
+    match p.current() {
         SyntaxKind::EOF => true,
         SyntaxKind::R_CURLY => match end {
             ListEnd::Brace => true,

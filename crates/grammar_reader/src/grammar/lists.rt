@@ -30,7 +30,6 @@ use crate::grammar::or_patterns::pattern;
 use crate::grammar::params::param;
 use crate::grammar::types::any_type;
 use parser_events::message::Message;
-use parser_events::parser::{Marker, Parser};
 use parser_input::syntax_kind::SyntaxKind;
 use rust_productions::condition::Condition;
 use rust_productions::grammar::expressions::at_expression;
@@ -41,7 +40,8 @@ use rust_productions::grammar::lists::{at_list_end, at_unexpected, comma};
 use rust_productions::grammar::params::{at_closure_param, at_param};
 use rust_productions::grammar::patterns::{at_pattern, at_pattern_field};
 use rust_productions::grammar::types::{at_fn_ptr_param, at_type};
-use rust_productions::grammar::{at, complete, expect, skip, start, take, tokens_left, wrap};
+use rust_productions::marker::Marker;
+use rust_productions::parser::Parser;
 
 /// The elements of a list.
 #[derive(Clone, Copy)]
@@ -232,14 +232,14 @@ fn turn(p: &mut Parser<'_>, list: SyntaxKind, element: Element, closing: SyntaxK
     if at_list_end(p, closing) {
         return false;
     }
-    let before = tokens_left(p);
+    let before = p.tokens_left();
     if at_element(p, element) {
         read_element(p, element);
         comma(p, closing);
-        return tokens_left(p) < before;
+        return p.tokens_left() < before;
     }
     if at_unexpected(p) {
-        skip(p, Message::UnexpectedIn(list));
+        p.skip(Message::UnexpectedIn(list));
         return true;
     }
     false
@@ -273,7 +273,7 @@ pub(crate) fn rest_of_list(
     ensures asks { Asks (looks_before element + looks_in element + 11) p.old p.new }
 {
     elements(p, list, element, closing);
-    expect(p, closing);
+    p.expect(closing);
 }
 
 /// Parses a tuple or a parenthesized element after its first element: the rest of the tuple if a
@@ -292,13 +292,13 @@ pub(crate) fn tuple_tail(
         (rows.tuple_tail (raw_of tuple) (raw_of paren) (element_of element)) p.old p.new }
     ensures asks { AsksIn result 2 p.old p.new }
 {
-    if at(p, SyntaxKind::COMMA) {
-        take(p, SyntaxKind::COMMA);
+    if p.at(SyntaxKind::COMMA) {
+        p.take(SyntaxKind::COMMA);
         rest_of_list(p, tuple, element, SyntaxKind::R_PAREN);
-        return wrap(p, frame, tuple);
+        return frame.wrap(p, tuple);
     }
-    expect(p, SyntaxKind::R_PAREN);
-    wrap(p, frame, paren)
+    p.expect(SyntaxKind::R_PAREN);
+    frame.wrap(p, paren)
 }
 
 /// Parses a list.
@@ -310,9 +310,9 @@ pub(crate) fn list(p: &mut Parser<'_>, which: ListKind)
     ensures reads { (c : Condition) → Reads c (list_of which) p.old p.new }
     ensures takes { Takes (left_by (element_in which)) p.old p.new }
 {
-    let node = start(p);
-    take(p, opening(which));
+    let node = p.start();
+    p.take(opening(which));
     let kind = kind_of(which);
     rest_of_list(p, kind, kind_of_element(which), closing(which));
-    complete(p, node, kind);
+    node.complete(p, kind);
 }

@@ -16,11 +16,10 @@ ghost use Rattle.rust_productions.specs.declared.condition.Condition.{Condition}
 use crate::grammar::generic_params::for_binder;
 use crate::grammar::lists::{ListKind, list};
 use crate::grammar::parts::{Part, expect_part};
-use parser_events::parser::Parser;
 use parser_input::syntax_kind::SyntaxKind;
 use rust_productions::grammar::generic_params::{at_binder, at_captures, opt_const_words};
 use rust_productions::grammar::names::lifetime;
-use rust_productions::grammar::{at, complete, eat, expect, start, take};
+use rust_productions::parser::Parser;
 
 /// Parses a bound, perhaps in parentheses.
 // (?Sized)
@@ -29,9 +28,9 @@ pub(crate) fn new_bound(p: &mut Parser<'_>)
     ensures reads { (c : Condition) → Reads c (TYPE_BOUND ⟨ rows.maybe_in_parens ⟩) p.old p.new }
     ensures asks { Asks 12 p.old p.new }
 {
-    let node = start(p);
+    let node = p.start();
     maybe_in_parens(p);
-    complete(p, node, SyntaxKind::TYPE_BOUND);
+    node.complete(p, SyntaxKind::TYPE_BOUND);
 }
 
 /// Parses what a bound holds, perhaps in parentheses.
@@ -41,7 +40,7 @@ fn maybe_in_parens(p: &mut Parser<'_>)
     ensures reads { (c : Condition) → Reads c rows.maybe_in_parens p.old p.new }
     ensures asks { Asks 12 p.old p.new }
 {
-    if at(p, SyntaxKind::L_PAREN) {
+    if p.at(SyntaxKind::L_PAREN) {
         in_parens(p);
         return;
     }
@@ -57,9 +56,9 @@ fn in_parens(p: &mut Parser<'_>)
         (One 'l_paren' ▸ rows.bound_inside ▸ One 'r_paren' !) p.old p.new }
     ensures takes { Takes 4080 p.old p.new }
 {
-    take(p, SyntaxKind::L_PAREN);
+    p.take(SyntaxKind::L_PAREN);
     bound_inside(p);
-    expect(p, SyntaxKind::R_PAREN);
+    p.expect(SyntaxKind::R_PAREN);
 }
 
 /// Parses what a bound holds: a lifetime, captures, or a path type with words before it.
@@ -69,7 +68,7 @@ fn bound_inside(p: &mut Parser<'_>)
     ensures reads { (c : Condition) → Reads c rows.bound_inside p.old p.new }
     ensures asks { Asks 11 p.old p.new }
 {
-    if at(p, SyntaxKind::LIFETIME_IDENT) {
+    if p.at(SyntaxKind::LIFETIME_IDENT) {
         lifetime(p);
         return;
     }
@@ -88,7 +87,7 @@ fn use_captures(p: &mut Parser<'_>)
     ensures reads { (c : Condition) → Reads c (One 'use' ▸ rows.captures) p.old p.new }
     ensures takes { Takes 4090 p.old p.new }
 {
-    take(p, SyntaxKind::USE_KW);
+    p.take(SyntaxKind::USE_KW);
     list(p, ListKind::Captures);
 }
 
@@ -101,8 +100,8 @@ fn words_and_path(p: &mut Parser<'_>)
 {
     opt_binder(p);
     opt_const_words(p);
-    eat(p, SyntaxKind::ASYNC_KW);
-    eat(p, SyntaxKind::QUESTION);
+    p.eat(SyntaxKind::ASYNC_KW);
+    p.eat(SyntaxKind::QUESTION);
     expect_part(p, Part::PathType);
 }
 
@@ -110,7 +109,8 @@ fn words_and_path(p: &mut Parser<'_>)
 // for<'a>
 #[cycle(grammar)]
 fn opt_binder(p: &mut Parser<'_>)
-    ensures reads { (c : Condition) → Reads c ⁅ When shared.binder_begins shared.for_binder ⁆ p.old p.new }
+    ensures reads { (c : Condition)
+        → Reads c ⁅ When shared.binder_begins shared.for_binder ⁆ p.old p.new }
     ensures asks { Asks 2 p.old p.new }
 {
     if at_binder(p) {
@@ -126,7 +126,7 @@ pub(crate) fn lifetime_bound(p: &mut Parser<'_>)
     ensures left { tokens p.new + 1 ≡ tokens p.old }
     ensures looks { spent p.new + 4096 ≡ spent p.old }
 {
-    let bound = start(p);
+    let bound = p.start();
     lifetime(p);
-    complete(p, bound, SyntaxKind::TYPE_BOUND);
+    bound.complete(p, SyntaxKind::TYPE_BOUND);
 }

@@ -18,10 +18,10 @@ use crate::grammar::generic_params::{bounds_after_colon, lifetime_and_bounds};
 use crate::grammar::items::attributes;
 use crate::grammar::parts::{Part, expect_part};
 use crate::grammar::types::opt_type_after;
-use parser_events::parser::{Marker, Parser};
 use parser_input::syntax_kind::SyntaxKind;
 use rust_productions::grammar::names::expect_name;
-use rust_productions::grammar::{at, complete, current, expect, start, take};
+use rust_productions::marker::Marker;
+use rust_productions::parser::Parser;
 
 /// Parses a const parameter, or a parameter with attributes.
 // const N: usize = 3
@@ -31,7 +31,7 @@ pub(crate) fn new_param(p: &mut Parser<'_>)
     ensures from_start { (c : Condition) → FromStart c rows.new_param p.old p.new }
     ensures takes { Takes 4010 p.old p.new }
 {
-    if at(p, SyntaxKind::CONST_KW) {
+    if p.at(SyntaxKind::CONST_KW) {
         const_param(p);
         return;
     }
@@ -46,9 +46,9 @@ fn const_param(p: &mut Parser<'_>)
     ensures reads { (c : Condition) → Reads c (CONST_PARAM ⟨ rows.const_param ⟩) p.old p.new }
     ensures takes { Takes 4030 p.old p.new }
 {
-    let node = start(p);
+    let node = p.start();
     inside_const_param(p);
-    complete(p, node, SyntaxKind::CONST_PARAM);
+    node.complete(p, SyntaxKind::CONST_PARAM);
 }
 
 /// Parses the parts of a const parameter, within its node.
@@ -59,9 +59,9 @@ fn inside_const_param(p: &mut Parser<'_>)
     ensures reads { (c : Condition) → Reads c rows.const_param p.old p.new }
     ensures takes { Takes 4030 p.old p.new }
 {
-    take(p, SyntaxKind::CONST_KW);
+    p.take(SyntaxKind::CONST_KW);
     expect_name(p);
-    expect(p, SyntaxKind::COLON);
+    p.expect(SyntaxKind::COLON);
     expect_part(p, Part::Type);
     const_default(p);
 }
@@ -73,8 +73,8 @@ fn const_default(p: &mut Parser<'_>)
     ensures reads { (c : Condition) → Reads c rows.const_default p.old p.new }
     ensures asks { Asks 1 p.old p.new }
 {
-    if at(p, SyntaxKind::EQ) {
-        take(p, SyntaxKind::EQ);
+    if p.at(SyntaxKind::EQ) {
+        p.take(SyntaxKind::EQ);
         expect_const_arg(p);
     }
 }
@@ -84,10 +84,11 @@ fn const_default(p: &mut Parser<'_>)
 #[cycle(grammar)]
 fn attributed_param(p: &mut Parser<'_>)
     requires some { 1 ≤ tokens p.old }
-    ensures from_start { (c : Condition) → FromStart c (shared.attributed rows.attributed_param) p.old p.new }
+    ensures from_start { (c : Condition)
+        → FromStart c (shared.attributed rows.attributed_param) p.old p.new }
     ensures takes { Takes 4020 p.old p.new }
 {
-    let node = start(p);
+    let node = p.start();
     attribute(p);
     attributes(p);
     after_attributes(p, node);
@@ -101,18 +102,18 @@ fn after_attributes(p: &mut Parser<'_>, node: Marker)
     ensures completes { (c : Condition) → Completes c rows.attributed_param p.old p.new }
     ensures asks { Asks 4 p.old p.new }
 {
-    match current(p) {
+    match p.current() {
         SyntaxKind::LIFETIME_IDENT => {
             lifetime_and_bounds(p);
-            complete(p, node, SyntaxKind::LIFETIME_PARAM);
+            node.complete(p, SyntaxKind::LIFETIME_PARAM);
         }
         SyntaxKind::CONST_KW => {
             inside_const_param(p);
-            complete(p, node, SyntaxKind::CONST_PARAM);
+            node.complete(p, SyntaxKind::CONST_PARAM);
         }
         _ => {
             inside_type_param(p);
-            complete(p, node, SyntaxKind::TYPE_PARAM);
+            node.complete(p, SyntaxKind::TYPE_PARAM);
         }
     }
 }

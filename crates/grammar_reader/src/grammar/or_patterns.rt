@@ -13,10 +13,10 @@ ghost use Rattle.rust_productions.specs.declared.condition.Condition.{Condition}
 
 use crate::grammar::parts::{Part, expect_part};
 use crate::grammar::patterns::{single_or_missing, single_pattern};
-use parser_events::parser::{Marker, Parser};
 use parser_input::syntax_kind::SyntaxKind;
 use rust_productions::grammar::patterns::at_pattern;
-use rust_productions::grammar::{abandon, at, start, take, wrap};
+use rust_productions::marker::Marker;
+use rust_productions::parser::Parser;
 
 /// Parses a pattern.
 // A | B
@@ -28,9 +28,9 @@ pub fn pattern(p: &mut Parser<'_>)
     ensures gives { (c : Condition) → Gives rules.pattern c p.old p.new }
     ensures takes { Takes 2900 p.old p.new }
 {
-    let frame = start(p);
+    let frame = p.start();
     let frame = alternatives(p, frame);
-    abandon(p, frame);
+    frame.abandon(p);
 }
 
 /// Parses a pattern, within `frame`, which the caller abandons.
@@ -42,11 +42,11 @@ fn alternatives(p: &mut Parser<'_>, frame: Marker) -> Marker
     ensures reads { (c : Condition) → Reads c (rule rules.pattern) p.old p.new }
     ensures takes { TakesIn result 2900 p.old p.new }
 {
-    if at(p, SyntaxKind::PIPE) {
-        take(p, SyntaxKind::PIPE);
+    if p.at(SyntaxKind::PIPE) {
+        p.take(SyntaxKind::PIPE);
         expect_part(p, Part::SinglePattern);
         further(p);
-        return wrap(p, frame, SyntaxKind::OR_PAT);
+        return frame.wrap(p, SyntaxKind::OR_PAT);
     }
     single_pattern(p);
     opt_further(p, frame)
@@ -60,7 +60,7 @@ fn one_further(p: &mut Parser<'_>)
     ensures reads { (c : Condition) → Reads c rows.further_alternative p.old p.new }
     ensures takes { Takes 4080 p.old p.new }
 {
-    take(p, SyntaxKind::PIPE);
+    p.take(SyntaxKind::PIPE);
     expect_part(p, Part::SinglePattern);
 }
 
@@ -71,7 +71,7 @@ fn further(p: &mut Parser<'_>)
     ensures reads { (c : Condition) → Reads c (rows.further_alternative *) p.old p.new }
     ensures asks { Asks 1 p.old p.new }
 {
-    'turns: while at(p, SyntaxKind::PIPE) {
+    'turns: while p.at(SyntaxKind::PIPE) {
         one_further(p);
     }
 }
@@ -84,10 +84,10 @@ fn opt_further(p: &mut Parser<'_>, frame: Marker) -> Marker
     ensures reads { (c : Condition) → Reads c ⁅ rows.or_pattern ⁆ p.old p.new }
     ensures asks { AsksIn result 1 p.old p.new }
 {
-    if at(p, SyntaxKind::PIPE) {
+    if p.at(SyntaxKind::PIPE) {
         one_further(p);
         further(p);
-        return wrap(p, frame, SyntaxKind::OR_PAT);
+        return frame.wrap(p, SyntaxKind::OR_PAT);
     }
     frame
 }
@@ -103,8 +103,8 @@ pub(crate) fn pattern_or_missing(p: &mut Parser<'_>)
         pattern(p);
         return;
     }
-    let frame = start(p);
+    let frame = p.start();
     single_or_missing(p);
     let frame = opt_further(p, frame);
-    abandon(p, frame);
+    frame.abandon(p);
 }

@@ -23,15 +23,13 @@ use crate::grammar::items::attributes;
 use crate::grammar::or_patterns::pattern;
 use crate::grammar::parts::{Part, expect_part};
 use crate::grammar::types::word_type;
-use parser_events::parser::{Marker, Parser};
 use parser_input::syntax_kind::SyntaxKind;
 use rust_productions::condition::Condition;
 use rust_productions::grammar::names::opt_lifetime;
 use rust_productions::grammar::params::{at_new_dots, at_new_param};
 use rust_productions::grammar::pattern_ranges::take_three_dots;
-use rust_productions::grammar::{
-    at, at_dots_dot, at_second, at_third, complete, current, eat, expect, nth, start, take,
-};
+use rust_productions::marker::Marker;
+use rust_productions::parser::Parser;
 
 /// Returns `true` if the `&` that is next starts a `self` parameter.
 fn at_self_after_ref(p: &mut Parser<'_>) -> bool
@@ -39,9 +37,9 @@ fn at_self_after_ref(p: &mut Parser<'_>) -> bool
     ensures sees { (c : Condition) → Saw c self_begins p.old result }
     ensures peeks { Peeks 2 p.old p.new }
 {
-    match nth(p, 1) {
+    match p.nth(1) {
         SyntaxKind::SELF_KW | SyntaxKind::LIFETIME_IDENT => true,
-        SyntaxKind::MUT_KW => at_third(p, SyntaxKind::SELF_KW),
+        SyntaxKind::MUT_KW => p.at_third(SyntaxKind::SELF_KW),
         _ => false,
     }
 }
@@ -51,9 +49,9 @@ fn at_self(p: &mut Parser<'_>) -> bool
     ensures sees { (c : Condition) → Saw c self_begins p.old result }
     ensures peeks { Peeks 3 p.old p.new }
 {
-    match current(p) {
+    match p.current() {
         SyntaxKind::SELF_KW => true,
-        SyntaxKind::MUT_KW => at_second(p, SyntaxKind::SELF_KW),
+        SyntaxKind::MUT_KW => p.at_second(SyntaxKind::SELF_KW),
         SyntaxKind::AMP => at_self_after_ref(p),
         _ => false,
     }
@@ -88,7 +86,7 @@ fn new_param(p: &mut Parser<'_>, condition: Condition)
     ensures from_start { FromStart condition rows.new_param p.old p.new }
     ensures takes { Takes 4000 p.old p.new }
 {
-    if at_dots_dot(p) {
+    if p.at_dots_dot() {
         dots_param(p);
         return;
     }
@@ -102,9 +100,9 @@ fn dots_param(p: &mut Parser<'_>)
     ensures reads { (c : Condition) → Reads c (kinds.PARAM ⟨ dots_and_dot ⟩) p.old p.new }
     ensures takes { Takes 8192 p.old p.new }
 {
-    let node = start(p);
+    let node = p.start();
     take_three_dots(p);
-    complete(p, node, SyntaxKind::PARAM);
+    node.complete(p, SyntaxKind::PARAM);
 }
 
 /// Parses a parameter that has attributes.
@@ -115,7 +113,7 @@ fn attributed_param(p: &mut Parser<'_>, condition: Condition)
     ensures from_start { FromStart condition (attributed rows.attributed_param) p.old p.new }
     ensures takes { Takes 4030 p.old p.new }
 {
-    let node = start(p);
+    let node = p.start();
     attribute(p);
     attributes(p);
     after_attributes(p, node, condition);
@@ -131,11 +129,11 @@ fn after_attributes(p: &mut Parser<'_>, node: Marker, condition: Condition)
 {
     if at_self(p) {
         self_rest(p, condition);
-        complete(p, node, SyntaxKind::SELF_PARAM);
+        node.complete(p, SyntaxKind::SELF_PARAM);
         return;
     }
     dots_or_param(p);
-    complete(p, node, SyntaxKind::PARAM);
+    node.complete(p, SyntaxKind::PARAM);
 }
 
 /// Parses the parts of a `self` parameter, within its node.
@@ -146,7 +144,7 @@ fn self_rest(p: &mut Parser<'_>, condition: Condition)
     ensures asks { Asks 4 p.old p.new }
 {
     opt_ref(p);
-    eat(p, SyntaxKind::MUT_KW);
+    p.eat(SyntaxKind::MUT_KW);
     expect_self(p);
     opt_type(p, condition);
 }
@@ -157,8 +155,8 @@ fn opt_ref(p: &mut Parser<'_>)
     ensures reads { (c : Condition) → Reads c ⁅ One '&' ▸ ⁅ Lifetime ⁆ ⁆ p.old p.new }
     ensures asks { Asks 1 p.old p.new }
 {
-    if at(p, SyntaxKind::AMP) {
-        take(p, SyntaxKind::AMP);
+    if p.at(SyntaxKind::AMP) {
+        p.take(SyntaxKind::AMP);
         opt_lifetime(p);
     }
 }
@@ -170,7 +168,7 @@ fn dots_or_param(p: &mut Parser<'_>)
     ensures reads { (c : Condition) → Reads c rows.dots_or_param p.old p.new }
     ensures asks { Asks 33 p.old p.new }
 {
-    if at_dots_dot(p) {
+    if p.at_dots_dot() {
         take_three_dots(p);
         return;
     }
@@ -185,7 +183,7 @@ fn param_type(p: &mut Parser<'_>)
     ensures reads { (c : Condition) → Reads c rows.param_type p.old p.new }
     ensures asks { Asks 20 p.old p.new }
 {
-    expect(p, SyntaxKind::COLON);
+    p.expect(SyntaxKind::COLON);
     dots_or_type(p);
 }
 
@@ -212,10 +210,10 @@ fn pattern_param(p: &mut Parser<'_>, condition: Condition)
     ensures reads { Reads condition rows.pattern_param p.old p.new }
     ensures takes { Takes 2880 p.old p.new }
 {
-    let node = start(p);
+    let node = p.start();
     pattern(p);
     param_type(p);
-    complete(p, node, SyntaxKind::PARAM);
+    node.complete(p, SyntaxKind::PARAM);
 }
 
 /// Parses a `self` parameter.
@@ -227,7 +225,7 @@ fn self_param(p: &mut Parser<'_>, condition: Condition)
     ensures gives { Gives rules.param condition p.old p.new }
     ensures takes { Takes 4080 p.old p.new }
 {
-    match current(p) {
+    match p.current() {
         SyntaxKind::AMP => self_after_ref(p, condition),
         SyntaxKind::MUT_KW => self_after_mut(p, condition),
         _ => self_alone(p, condition),
@@ -240,9 +238,9 @@ fn expect_self(p: &mut Parser<'_>)
     ensures reads { (c : Condition) → Reads c rows.self_name p.old p.new }
     ensures asks { Asks 1 p.old p.new }
 {
-    let name = start(p);
-    expect(p, SyntaxKind::SELF_KW);
-    complete(p, name, SyntaxKind::NAME);
+    let name = p.start();
+    p.expect(SyntaxKind::SELF_KW);
+    name.complete(p, SyntaxKind::NAME);
 }
 
 /// Parses a `self` parameter with `&`.
@@ -254,13 +252,13 @@ fn self_after_ref(p: &mut Parser<'_>, condition: Condition)
         ▸ rows.self_name ▸ ⁅ type_annotation ⁆ ⟩) p.old p.new }
     ensures takes { Takes 4090 p.old p.new }
 {
-    let node = start(p);
-    take(p, SyntaxKind::AMP);
+    let node = p.start();
+    p.take(SyntaxKind::AMP);
     opt_lifetime(p);
-    eat(p, SyntaxKind::MUT_KW);
+    p.eat(SyntaxKind::MUT_KW);
     expect_self(p);
     opt_type(p, condition);
-    complete(p, node, SyntaxKind::SELF_PARAM);
+    node.complete(p, SyntaxKind::SELF_PARAM);
 }
 
 /// Parses a `self` parameter with `mut`.
@@ -272,11 +270,11 @@ fn self_after_mut(p: &mut Parser<'_>, condition: Condition)
         ▸ rows.self_name ▸ ⁅ type_annotation ⁆ ⟩) p.old p.new }
     ensures takes { Takes 4090 p.old p.new }
 {
-    let node = start(p);
-    take(p, SyntaxKind::MUT_KW);
+    let node = p.start();
+    p.take(SyntaxKind::MUT_KW);
     expect_self(p);
     opt_type(p, condition);
-    complete(p, node, SyntaxKind::SELF_PARAM);
+    node.complete(p, SyntaxKind::SELF_PARAM);
 }
 
 /// Parses a `self` parameter without `&` and `mut`.
@@ -288,8 +286,8 @@ fn self_alone(p: &mut Parser<'_>, condition: Condition)
         ⟨ NAME ⟨ One 'self' ⟩ ▸ ⁅ type_annotation ⁆ ⟩) p.old p.new }
     ensures takes { Takes 4090 p.old p.new }
 {
-    let node = start(p);
+    let node = p.start();
     word_type(p, SyntaxKind::SELF_KW, SyntaxKind::NAME);
     opt_type(p, condition);
-    complete(p, node, SyntaxKind::SELF_PARAM);
+    node.complete(p, SyntaxKind::SELF_PARAM);
 }

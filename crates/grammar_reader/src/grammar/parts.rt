@@ -19,13 +19,12 @@ use crate::grammar::paths::{at_generic_args, generic_args};
 use crate::grammar::patterns::single_pattern;
 use crate::grammar::types::{any_type, path_type, type_no_bounds};
 use parser_events::message::Message;
-use parser_events::parser::Parser;
 use parser_input::syntax_kind::SyntaxKind;
 use rust_productions::grammar::generic_params::at_where_pred;
 use rust_productions::grammar::paths::at_path;
 use rust_productions::grammar::patterns::{at_pattern, at_single_pattern};
 use rust_productions::grammar::types::{at_type, at_type_no_bounds};
-use rust_productions::grammar::{at, at_new, error};
+use rust_productions::parser::Parser;
 
 /// The parts that are expected, or optional, in several places.
 #[derive(Clone, Copy)]
@@ -89,24 +88,24 @@ fn at_part(p: &mut Parser<'_>, part: Part) -> bool
     ensures peeks { Peeks (looks_of part) p.old p.new }
 {
     match part {
-        Part::Arguments | Part::FnPtrParams | Part::Params => at(p, SyntaxKind::L_PAREN),
+        Part::Arguments | Part::FnPtrParams | Part::Params => p.at(SyntaxKind::L_PAREN),
         Part::AssocItems
         | Part::Block
         | Part::MatchArms
         | Part::RecordFields
         | Part::StatementList
-        | Part::Variants => at(p, SyntaxKind::L_CURLY),
-        Part::ClosureParams => at(p, SyntaxKind::PIPE),
+        | Part::Variants => p.at(SyntaxKind::L_CURLY),
+        Part::ClosureParams => p.at(SyntaxKind::PIPE),
         Part::GenericArgs => at_generic_args(p),
-        Part::GenericParams => at(p, SyntaxKind::L_ANGLE),
-        Part::NewGenericParams => at_new(p, SyntaxKind::L_ANGLE),
-        Part::NewWhereClause => at_new(p, SyntaxKind::WHERE_KW),
+        Part::GenericParams => p.at(SyntaxKind::L_ANGLE),
+        Part::NewGenericParams => p.at_new(SyntaxKind::L_ANGLE),
+        Part::NewWhereClause => p.at_new(SyntaxKind::WHERE_KW),
         Part::PathType => at_path(p),
         Part::Pattern => at_pattern(p),
         Part::SinglePattern => at_single_pattern(p),
         Part::Type => at_type(p),
         Part::TypeNoBounds => at_type_no_bounds(p),
-        Part::WhereClause => at(p, SyntaxKind::WHERE_KW),
+        Part::WhereClause => p.at(SyntaxKind::WHERE_KW),
         Part::WherePred => at_where_pred(p),
     }
 }
@@ -152,7 +151,7 @@ pub(crate) fn expect_part(p: &mut Parser<'_>, part: Part)
         read_part(p, part);
         return;
     }
-    error(p, missing_part(part));
+    p.error(missing_part(part));
 }
 
 /// Parses an optional part.

@@ -18,15 +18,13 @@ use crate::grammar::lists::{Element, rest_of_list};
 use crate::grammar::parts::{Part, expect_part};
 use crate::grammar::types::opt_ret_type;
 use parser_events::message::Message;
-use parser_events::parser::{Marker, Parser};
 use parser_input::syntax_kind::SyntaxKind;
 use rust_productions::grammar::names::{at_name_ref, name_ref};
 use rust_productions::grammar::paths::{
     at_colons, at_colons_dots_args, at_dots_args, at_fn_args, at_next_segment, first_word,
 };
-use rust_productions::grammar::{
-    abandon, at, at_second, at_third, complete, error, expect, start, take, take_pair, wrap,
-};
+use rust_productions::marker::Marker;
+use rust_productions::parser::Parser;
 
 /// The kind of a path with generic arguments, which decides where these start.
 #[derive(Clone, Copy)]
@@ -44,7 +42,7 @@ fn at_colons_before_args(p: &mut Parser<'_>) -> bool
     if !at_colons(p) {
         return false;
     }
-    at_third(p, SyntaxKind::L_ANGLE)
+    p.at_third(SyntaxKind::L_ANGLE)
 }
 
 /// Returns `true` if `::` is next, and `(` after it.
@@ -56,7 +54,7 @@ fn at_colons_before_paren(p: &mut Parser<'_>) -> bool
     if !at_colons(p) {
         return false;
     }
-    at_third(p, SyntaxKind::L_PAREN)
+    p.at_third(SyntaxKind::L_PAREN)
 }
 
 /// Returns `true` if a `<` is next that starts no `<=`.
@@ -65,10 +63,10 @@ fn at_angle(p: &mut Parser<'_>) -> bool
     ensures some { IsTrue result → 1 ≤ tokens p.old }
     ensures peeks { Peeks 2 p.old p.new }
 {
-    if !at(p, SyntaxKind::L_ANGLE) {
+    if !p.at(SyntaxKind::L_ANGLE) {
         return false;
     }
-    !at_second(p, SyntaxKind::EQ)
+    !p.at_second(SyntaxKind::EQ)
 }
 
 /// Returns `true` if the generic arguments of a segment start here.
@@ -94,11 +92,11 @@ fn dots_args(p: &mut Parser<'_>)
         ⟨ One 'l_paren' ▸ One 'dots' ▸ One 'r_paren' ! ⟩) p.old p.new }
     ensures takes { Takes 8000 p.old p.new }
 {
-    let list = start(p);
-    take(p, SyntaxKind::L_PAREN);
-    take_pair(p, SyntaxKind::DOT2);
-    expect(p, SyntaxKind::R_PAREN);
-    complete(p, list, SyntaxKind::PARENTHESIZED_ARG_LIST);
+    let list = p.start();
+    p.take(SyntaxKind::L_PAREN);
+    p.take_pair(SyntaxKind::DOT2);
+    p.expect(SyntaxKind::R_PAREN);
+    list.complete(p, SyntaxKind::PARENTHESIZED_ARG_LIST);
 }
 
 /// Parses `::(..)` as arguments.
@@ -109,12 +107,12 @@ fn colons_dots_args(p: &mut Parser<'_>)
         ⟨ One '::' ▸ One 'l_paren' ▸ One 'dots' ▸ One 'r_paren' ! ⟩) p.old p.new }
     ensures takes { Takes 8000 p.old p.new }
 {
-    let list = start(p);
-    take_pair(p, SyntaxKind::COLON2);
-    take(p, SyntaxKind::L_PAREN);
-    take_pair(p, SyntaxKind::DOT2);
-    expect(p, SyntaxKind::R_PAREN);
-    complete(p, list, SyntaxKind::PARENTHESIZED_ARG_LIST);
+    let list = p.start();
+    p.take_pair(SyntaxKind::COLON2);
+    p.take(SyntaxKind::L_PAREN);
+    p.take_pair(SyntaxKind::DOT2);
+    p.expect(SyntaxKind::R_PAREN);
+    list.complete(p, SyntaxKind::PARENTHESIZED_ARG_LIST);
 }
 
 /// Parses the arguments of `Fn`, in the whole language.
@@ -146,7 +144,7 @@ fn opt_colons_before_paren(p: &mut Parser<'_>)
     ensures asks { Asks 3 p.old p.new }
 {
     if at_colons_before_paren(p) {
-        take_pair(p, SyntaxKind::COLON2);
+        p.take_pair(SyntaxKind::COLON2);
     }
 }
 
@@ -158,16 +156,16 @@ fn paren_args(p: &mut Parser<'_>)
     ensures reads { (c : Condition) → Reads c rows.paren_args p.old p.new }
     ensures takes { Takes 3300 p.old p.new }
 {
-    let list = start(p);
+    let list = p.start();
     opt_colons_before_paren(p);
-    take(p, SyntaxKind::L_PAREN);
+    p.take(SyntaxKind::L_PAREN);
     rest_of_list(
         p,
         SyntaxKind::PARENTHESIZED_ARG_LIST,
         Element::TypeArg,
         SyntaxKind::R_PAREN,
     );
-    complete(p, list, SyntaxKind::PARENTHESIZED_ARG_LIST);
+    list.complete(p, SyntaxKind::PARENTHESIZED_ARG_LIST);
 }
 
 /// Parses the optional arguments of a segment in a type.
@@ -195,7 +193,7 @@ fn opt_colons(p: &mut Parser<'_>)
     ensures asks { Asks 3 p.old p.new }
 {
     if at_colons_before_args(p) {
-        take_pair(p, SyntaxKind::COLON2);
+        p.take_pair(SyntaxKind::COLON2);
     }
 }
 
@@ -209,16 +207,16 @@ pub(crate) fn generic_args(p: &mut Parser<'_>)
     ensures gives { (c : Condition) → Gives rules.generic_args c p.old p.new }
     ensures takes { Takes 3300 p.old p.new }
 {
-    let list = start(p);
+    let list = p.start();
     opt_colons(p);
-    take(p, SyntaxKind::L_ANGLE);
+    p.take(SyntaxKind::L_ANGLE);
     rest_of_list(
         p,
         SyntaxKind::GENERIC_ARG_LIST,
         Element::GenericArg,
         SyntaxKind::R_ANGLE,
     );
-    complete(p, list, SyntaxKind::GENERIC_ARG_LIST);
+    list.complete(p, SyntaxKind::GENERIC_ARG_LIST);
 }
 
 /// Returns `true` if generic arguments are next.
@@ -230,7 +228,7 @@ pub(crate) fn at_generic_args(p: &mut Parser<'_>) -> bool
     if at_colons_before_args(p) {
         return true;
     }
-    at(p, SyntaxKind::L_ANGLE)
+    p.at(SyntaxKind::L_ANGLE)
 }
 
 /// Parses the optional generic arguments of a segment.
@@ -267,12 +265,12 @@ fn first_segment(p: &mut Parser<'_>, mode: Mode)
     ensures reads { (c : Condition) → Reads c (rows.first_segment (args_of mode)) p.old p.new }
     ensures takes { Takes 4080 p.old p.new }
 {
-    let path = start(p);
-    let segment = start(p);
+    let path = p.start();
+    let segment = p.start();
     first_word(p);
     opt_args(p, mode);
-    complete(p, segment, SyntaxKind::PATH_SEGMENT);
-    complete(p, path, SyntaxKind::PATH);
+    segment.complete(p, SyntaxKind::PATH_SEGMENT);
+    path.complete(p, SyntaxKind::PATH);
 }
 
 /// Parses a path segment; emits an error if there is none.
@@ -283,13 +281,13 @@ fn expect_segment(p: &mut Parser<'_>, mode: Mode)
     ensures asks { Asks 1 p.old p.new }
 {
     if at_name_ref(p) {
-        let segment = start(p);
+        let segment = p.start();
         name_ref(p);
         opt_args(p, mode);
-        complete(p, segment, SyntaxKind::PATH_SEGMENT);
+        segment.complete(p, SyntaxKind::PATH_SEGMENT);
         return;
     }
-    error(p, Message::Expected(SyntaxKind::PATH_SEGMENT));
+    p.error(Message::Expected(SyntaxKind::PATH_SEGMENT));
 }
 
 /// Parses a `::` and a segment, and completes the path up to it.
@@ -301,9 +299,9 @@ fn next_segment(p: &mut Parser<'_>, path: Marker, mode: Mode) -> Marker
     ensures reads { (c : Condition) → Reads c (rows.next_segment (args_of mode)) p.old p.new }
     ensures takes { TakesTwoIn result 8000 p.old p.new }
 {
-    take_pair(p, SyntaxKind::COLON2);
+    p.take_pair(SyntaxKind::COLON2);
     expect_segment(p, mode);
-    wrap(p, path, SyntaxKind::PATH)
+    path.wrap(p, SyntaxKind::PATH)
 }
 
 /// Parses the further segments of a path.
@@ -342,11 +340,11 @@ fn qualifier(p: &mut Parser<'_>)
     ensures reads { (c : Condition) → Reads c rows.qualifier p.old p.new }
     ensures takes { Takes 4040 p.old p.new }
 {
-    let path = start(p);
-    let segment = start(p);
+    let path = p.start();
+    let segment = p.start();
     anchor(p);
-    complete(p, segment, SyntaxKind::PATH_SEGMENT);
-    complete(p, path, SyntaxKind::PATH);
+    segment.complete(p, SyntaxKind::PATH_SEGMENT);
+    path.complete(p, SyntaxKind::PATH);
 }
 
 /// Parses `<T as U>`.
@@ -357,12 +355,12 @@ fn anchor(p: &mut Parser<'_>)
     ensures reads { (c : Condition) → Reads c rows.anchor p.old p.new }
     ensures takes { Takes 4050 p.old p.new }
 {
-    let node = start(p);
-    take(p, SyntaxKind::L_ANGLE);
+    let node = p.start();
+    p.take(SyntaxKind::L_ANGLE);
     expect_part(p, Part::Type);
     opt_as_trait(p);
-    expect(p, SyntaxKind::R_ANGLE);
-    complete(p, node, SyntaxKind::TYPE_ANCHOR);
+    p.expect(SyntaxKind::R_ANGLE);
+    node.complete(p, SyntaxKind::TYPE_ANCHOR);
 }
 
 /// Parses an optional `as` and a trait's path.
@@ -372,8 +370,8 @@ fn opt_as_trait(p: &mut Parser<'_>)
     ensures reads { (c : Condition) → Reads c ⁅ rows.as_trait ⁆ p.old p.new }
     ensures asks { Asks 1 p.old p.new }
 {
-    if at(p, SyntaxKind::AS_KW) {
-        take(p, SyntaxKind::AS_KW);
+    if p.at(SyntaxKind::AS_KW) {
+        p.take(SyntaxKind::AS_KW);
         expect_part(p, Part::PathType);
     }
 }
@@ -387,8 +385,8 @@ pub(crate) fn path_with_args(p: &mut Parser<'_>, mode: Mode)
     ensures gives { (c : Condition) → Gives (path_of mode) c p.old p.new }
     ensures takes { Takes 4000 p.old p.new }
 {
-    let frame = start(p);
+    let frame = p.start();
     first_segment(p, mode);
     let frame = next_segments(p, frame, mode);
-    abandon(p, frame);
+    frame.abandon(p);
 }

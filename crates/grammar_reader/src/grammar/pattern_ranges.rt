@@ -11,12 +11,12 @@ ghost use Rattle.rust_productions.specs.Starts.{Starts};
 ghost use Rattle.rust_productions.specs.declared.condition.Condition.{Condition};
 
 use crate::grammar::patterns::inside;
-use parser_events::parser::{Marker, Parser};
 use parser_input::syntax_kind::SyntaxKind;
 use rust_productions::grammar::pattern_ranges::{
     at_open_range, at_range_end, at_range_op, take_range_op, take_two_dots,
 };
-use rust_productions::grammar::{abandon, complete, start, wrap};
+use rust_productions::marker::Marker;
+use rust_productions::parser::Parser;
 
 /// Parses a pattern without top-level alternatives, within `frame`, which the caller abandons.
 // 1..=2
@@ -44,10 +44,10 @@ fn open_range(p: &mut Parser<'_>)
     ensures reads { (c : Condition) → Reads c rows.open_range p.old p.new }
     ensures takes { Takes 7900 p.old p.new }
 {
-    let node = start(p);
+    let node = p.start();
     take_two_dots(p);
     opt_range_end(p);
-    complete(p, node, SyntaxKind::RANGE_PAT);
+    node.complete(p, SyntaxKind::RANGE_PAT);
 }
 
 /// Parses the optional end of a range pattern.
@@ -70,9 +70,9 @@ fn pattern_atom(p: &mut Parser<'_>)
     ensures gives { (c : Condition) → Gives rules.pattern_atom c p.old p.new }
     ensures takes { Takes 2950 p.old p.new }
 {
-    let frame = start(p);
+    let frame = p.start();
     let frame = inside(p, frame);
-    abandon(p, frame);
+    frame.abandon(p);
 }
 
 /// Parses an optional range operator and the optional end after it. Completes the range pattern.
@@ -86,7 +86,7 @@ pub(crate) fn opt_range(p: &mut Parser<'_>, frame: Marker) -> Marker
     if at_range_op(p) {
         take_range_op(p);
         opt_range_end(p);
-        return wrap(p, frame, SyntaxKind::RANGE_PAT);
+        return frame.wrap(p, SyntaxKind::RANGE_PAT);
     }
     frame
 }

@@ -20,16 +20,13 @@ use crate::grammar::parts::{Part, expect_part};
 use crate::grammar::paths::{Mode, path_with_args, qualified_path};
 use crate::grammar::pattern_ranges::{opt_range, range_or_atom};
 use crate::grammar::types::word_type;
-use parser_events::parser::{Marker, Parser};
 use parser_input::syntax_kind::SyntaxKind;
 use rust_productions::grammar::const_args::missing_expr_path;
 use rust_productions::grammar::names::{at_literal, expect_literal, expect_name, literal, name};
 use rust_productions::grammar::patterns::at_single_pattern;
 use rust_productions::grammar::token_trees::expect_token_tree;
-use rust_productions::grammar::{
-    abandon, at, at_new, at_pair, at_pair_after, complete, current, eat, nth, start, take,
-    take_pair, wrap,
-};
+use rust_productions::marker::Marker;
+use rust_productions::parser::Parser;
 
 /// Returns `true` if an identifier is next that is a pattern: before none of `::`, `(`, `{` and
 /// `!`.
@@ -38,13 +35,13 @@ fn at_ident_pat(p: &mut Parser<'_>) -> bool
     ensures some { IsTrue result → 1 ≤ tokens p.old }
     ensures peeks { Peeks 4 p.old p.new }
 {
-    if !at(p, SyntaxKind::IDENT) {
+    if !p.at(SyntaxKind::IDENT) {
         return false;
     }
-    if at_pair_after(p, SyntaxKind::COLON, SyntaxKind::COLON) {
+    if p.at_pair_after(SyntaxKind::COLON, SyntaxKind::COLON) {
         return false;
     }
-    match nth(p, 1) {
+    match p.nth(1) {
         SyntaxKind::L_PAREN | SyntaxKind::L_CURLY | SyntaxKind::BANG => false,
         _ => true,
     }
@@ -56,10 +53,10 @@ fn at_paren_before_dots(p: &mut Parser<'_>) -> bool
     ensures some { IsTrue result → 1 ≤ tokens p.old }
     ensures peeks { Peeks 3 p.old p.new }
 {
-    if !at(p, SyntaxKind::L_PAREN) {
+    if !p.at(SyntaxKind::L_PAREN) {
         return false;
     }
-    at_pair_after(p, SyntaxKind::DOT, SyntaxKind::DOT)
+    p.at_pair_after(SyntaxKind::DOT, SyntaxKind::DOT)
 }
 
 /// Parses a pattern without top-level alternatives.
@@ -71,9 +68,9 @@ pub(crate) fn single_pattern(p: &mut Parser<'_>)
     ensures gives { (c : Condition) → Gives rules.single_pattern c p.old p.new }
     ensures takes { Takes 2910 p.old p.new }
 {
-    let frame = start(p);
+    let frame = p.start();
     let frame = range_or_atom(p, frame);
-    abandon(p, frame);
+    frame.abandon(p);
 }
 
 /// Parses a pattern without alternatives and without a range, within `frame`, which the caller
@@ -86,7 +83,7 @@ pub(crate) fn inside(p: &mut Parser<'_>, frame: Marker) -> Marker
     ensures reads { (c : Condition) → Reads c (rule rules.pattern_atom) p.old p.new }
     ensures takes { TakesIn result 2950 p.old p.new }
 {
-    match current(p) {
+    match p.current() {
         SyntaxKind::MINUS => {
             negative(p);
             frame
@@ -124,7 +121,7 @@ pub(crate) fn inside(p: &mut Parser<'_>, frame: Marker) -> Marker
                 ident_pat(p);
                 return frame;
             }
-            if at_pair(p, SyntaxKind::DOT, SyntaxKind::DOT) {
+            if p.at_pair(SyntaxKind::DOT, SyntaxKind::DOT) {
                 rest_pat(p);
                 return frame;
             }
@@ -144,10 +141,10 @@ fn negative(p: &mut Parser<'_>)
     ensures reads { (c : Condition) → Reads c (LITERAL_PAT ⟨ One '-' ▸ Literal ! ⟩) p.old p.new }
     ensures takes { Takes 4090 p.old p.new }
 {
-    let node = start(p);
-    take(p, SyntaxKind::MINUS);
+    let node = p.start();
+    p.take(SyntaxKind::MINUS);
     expect_literal(p);
-    complete(p, node, SyntaxKind::LITERAL_PAT);
+    node.complete(p, SyntaxKind::LITERAL_PAT);
 }
 
 /// Parses a literal pattern without a minus sign.
@@ -158,9 +155,9 @@ fn literal_pat(p: &mut Parser<'_>)
     ensures left { tokens p.new + 1 ≡ tokens p.old }
     ensures looks { spent p.new + 4095 ≤ spent p.old }
 {
-    let node = start(p);
+    let node = p.start();
     literal(p);
-    complete(p, node, SyntaxKind::LITERAL_PAT);
+    node.complete(p, SyntaxKind::LITERAL_PAT);
 }
 
 /// Parses a rest pattern.
@@ -171,9 +168,9 @@ pub(crate) fn rest_pat(p: &mut Parser<'_>)
     ensures left { tokens p.new + 2 ≡ tokens p.old }
     ensures looks { spent p.new + 8192 ≡ spent p.old }
 {
-    let node = start(p);
-    take_pair(p, SyntaxKind::DOT2);
-    complete(p, node, SyntaxKind::REST_PAT);
+    let node = p.start();
+    p.take_pair(SyntaxKind::DOT2);
+    node.complete(p, SyntaxKind::REST_PAT);
 }
 
 /// Parses a reference pattern.
@@ -184,11 +181,11 @@ fn ref_pat(p: &mut Parser<'_>)
     ensures reads { (c : Condition) → Reads c rows.ref_pat p.old p.new }
     ensures takes { Takes 4080 p.old p.new }
 {
-    let node = start(p);
-    take(p, SyntaxKind::AMP);
-    eat(p, SyntaxKind::MUT_KW);
+    let node = p.start();
+    p.take(SyntaxKind::AMP);
+    p.eat(SyntaxKind::MUT_KW);
     expect_part(p, Part::SinglePattern);
-    complete(p, node, SyntaxKind::REF_PAT);
+    node.complete(p, SyntaxKind::REF_PAT);
 }
 
 /// Parses the optional subpattern of an identifier pattern.
@@ -198,8 +195,8 @@ fn opt_at(p: &mut Parser<'_>)
     ensures reads { (c : Condition) → Reads c ⁅ rows.at_pattern ⁆ p.old p.new }
     ensures asks { Asks 1 p.old p.new }
 {
-    if at(p, SyntaxKind::AT) {
-        take(p, SyntaxKind::AT);
+    if p.at(SyntaxKind::AT) {
+        p.take(SyntaxKind::AT);
         expect_part(p, Part::SinglePattern);
     }
 }
@@ -209,13 +206,14 @@ fn opt_at(p: &mut Parser<'_>)
 #[cycle(grammar)]
 fn ident_pat(p: &mut Parser<'_>)
     requires some { 1 ≤ tokens p.old }
-    ensures reads { (c : Condition) → Reads c (IDENT_PAT ⟨ Name ▸ ⁅ rows.at_pattern ⁆ ⟩) p.old p.new }
+    ensures reads { (c : Condition)
+        → Reads c (IDENT_PAT ⟨ Name ▸ ⁅ rows.at_pattern ⁆ ⟩) p.old p.new }
     ensures takes { Takes 4090 p.old p.new }
 {
-    let node = start(p);
+    let node = p.start();
     name(p);
     opt_at(p);
-    complete(p, node, SyntaxKind::IDENT_PAT);
+    node.complete(p, SyntaxKind::IDENT_PAT);
 }
 
 /// Parses an identifier pattern with `mut`.
@@ -227,11 +225,11 @@ fn ident_after_mut(p: &mut Parser<'_>)
         (IDENT_PAT ⟨ One 'mut' ▸ Name ! ▸ ⁅ rows.at_pattern ⁆ ⟩) p.old p.new }
     ensures takes { Takes 4090 p.old p.new }
 {
-    let node = start(p);
-    take(p, SyntaxKind::MUT_KW);
+    let node = p.start();
+    p.take(SyntaxKind::MUT_KW);
     expect_name(p);
     opt_at(p);
-    complete(p, node, SyntaxKind::IDENT_PAT);
+    node.complete(p, SyntaxKind::IDENT_PAT);
 }
 
 /// Parses an identifier pattern with `ref`.
@@ -243,12 +241,12 @@ fn ident_after_ref(p: &mut Parser<'_>)
         ▸ ⁅ rows.at_pattern ⁆ ⟩) p.old p.new }
     ensures takes { Takes 4090 p.old p.new }
 {
-    let node = start(p);
-    take(p, SyntaxKind::REF_KW);
-    eat(p, SyntaxKind::MUT_KW);
+    let node = p.start();
+    p.take(SyntaxKind::REF_KW);
+    p.eat(SyntaxKind::MUT_KW);
     expect_name(p);
     opt_at(p);
-    complete(p, node, SyntaxKind::IDENT_PAT);
+    node.complete(p, SyntaxKind::IDENT_PAT);
 }
 
 /// Parses a tuple pattern or a grouped pattern.
@@ -260,7 +258,7 @@ fn paren_pat(p: &mut Parser<'_>, frame: Marker) -> Marker
     ensures reads { (c : Condition) → Reads c rows.tuple_or_paren p.old p.new }
     ensures takes { TakesIn result 3000 p.old p.new }
 {
-    take(p, SyntaxKind::L_PAREN);
+    p.take(SyntaxKind::L_PAREN);
     after_paren(p, frame)
 }
 
@@ -272,9 +270,9 @@ fn after_paren(p: &mut Parser<'_>, frame: Marker) -> Marker
     ensures reads { (c : Condition) → Reads c rows.after_l_paren p.old p.new }
     ensures asks { AsksIn result 20 p.old p.new }
 {
-    if at(p, SyntaxKind::R_PAREN) {
-        take(p, SyntaxKind::R_PAREN);
-        return wrap(p, frame, SyntaxKind::TUPLE_PAT);
+    if p.at(SyntaxKind::R_PAREN) {
+        p.take(SyntaxKind::R_PAREN);
+        return frame.wrap(p, SyntaxKind::TUPLE_PAT);
     }
     expect_part(p, Part::Pattern);
     tuple_tail(
@@ -320,26 +318,26 @@ fn after_path(p: &mut Parser<'_>, frame: Marker) -> Marker
     ensures reads { (c : Condition) → Reads c rows.after_path p.old p.new }
     ensures asks { AsksIn result 3 p.old p.new }
 {
-    if at(p, SyntaxKind::L_PAREN) {
-        take(p, SyntaxKind::L_PAREN);
+    if p.at(SyntaxKind::L_PAREN) {
+        p.take(SyntaxKind::L_PAREN);
         rest_of_list(
             p,
             SyntaxKind::TUPLE_STRUCT_PAT,
             Element::Pattern,
             SyntaxKind::R_PAREN,
         );
-        return wrap(p, frame, SyntaxKind::TUPLE_STRUCT_PAT);
+        return frame.wrap(p, SyntaxKind::TUPLE_STRUCT_PAT);
     }
-    if at(p, SyntaxKind::L_CURLY) {
+    if p.at(SyntaxKind::L_CURLY) {
         list(p, ListKind::PatternFields);
-        return wrap(p, frame, SyntaxKind::RECORD_PAT);
+        return frame.wrap(p, SyntaxKind::RECORD_PAT);
     }
-    if at_new(p, SyntaxKind::BANG) {
-        take(p, SyntaxKind::BANG);
+    if p.at_new(SyntaxKind::BANG) {
+        p.take(SyntaxKind::BANG);
         expect_token_tree(p);
-        return wrap(p, frame, SyntaxKind::MACRO_CALL);
+        return frame.wrap(p, SyntaxKind::MACRO_CALL);
     }
-    wrap(p, frame, SyntaxKind::PATH_PAT)
+    frame.wrap(p, SyntaxKind::PATH_PAT)
 }
 
 /// Parses a pattern without alternatives, or an error within the nodes of its path if none starts
@@ -364,9 +362,9 @@ fn missing_single(p: &mut Parser<'_>)
     ensures gives { (c : Condition) → Gives rules.single_pattern c p.old p.new }
     ensures asks { Asks 12 p.old p.new }
 {
-    let frame = start(p);
+    let frame = p.start();
     missing_expr_path(p);
     let frame = after_path(p, frame);
     let frame = opt_range(p, frame);
-    abandon(p, frame);
+    frame.abandon(p);
 }

@@ -28,7 +28,6 @@ use crate::grammar::list_end::{ListEnd, at_end_of};
 use crate::grammar::parts::{Part, expect_part};
 use crate::grammar::paths::{Mode, path_with_args};
 use parser_events::message::Message;
-use parser_events::parser::{Marker, Parser};
 use parser_input::syntax_kind::SyntaxKind;
 use rust_productions::condition::Condition;
 use rust_productions::grammar::expressions::{at_block_like, at_expression, at_operand};
@@ -38,10 +37,8 @@ use rust_productions::grammar::statements::{
 };
 use rust_productions::grammar::token_trees::token_tree;
 use rust_productions::grammar::visibility::opt_visibility;
-use rust_productions::grammar::{
-    abandon, at, at_pair, at_second, at_whole, complete, current, error, expect, extend_left, skip,
-    start, take, wrap,
-};
+use rust_productions::marker::Marker;
+use rust_productions::parser::Parser;
 
 /// Parses a statement of a list.
 // let a = 1;
@@ -52,8 +49,8 @@ pub(crate) fn statement(p: &mut Parser<'_>, end: ListEnd)
     ensures asks { Asks 900 p.old p.new }
     ensures pays { tokens p.new < tokens p.old → spent p.new + 1500 ≤ spent p.old }
 {
-    match current(p) {
-        SyntaxKind::SEMICOLON => take(p, SyntaxKind::SEMICOLON),
+    match p.current() {
+        SyntaxKind::SEMICOLON => p.take(SyntaxKind::SEMICOLON),
         SyntaxKind::DEFER_KW => defer_stmt(p),
         SyntaxKind::LET_KW => let_stmt(p),
         _ => {
@@ -80,10 +77,10 @@ pub(crate) fn at_inner_attribute(p: &mut Parser<'_>) -> bool
     ensures some { IsTrue result → 1 ≤ tokens p.old }
     ensures peeks { Peeks 2 p.old p.new }
 {
-    if !at(p, SyntaxKind::POUND) {
+    if !p.at(SyntaxKind::POUND) {
         return false;
     }
-    at_second(p, SyntaxKind::BANG)
+    p.at_second(SyntaxKind::BANG)
 }
 
 /// Parses a statement that only the whole language has, or an item there.
@@ -95,7 +92,7 @@ fn new_statement(p: &mut Parser<'_>, end: ListEnd)
     ensures from_start { FromStart Off (rows.new_statement (listing_of end)) p.old p.new }
     ensures takes { Takes 2880 p.old p.new }
 {
-    if at(p, SyntaxKind::POUND) {
+    if p.at(SyntaxKind::POUND) {
         attributed_statement(p, end);
         return;
     }
@@ -115,10 +112,11 @@ fn new_statement(p: &mut Parser<'_>, end: ListEnd)
 #[cycle(grammar)]
 fn attributed_statement(p: &mut Parser<'_>, end: ListEnd)
     requires some { 1 ≤ tokens p.old }
-    ensures from_start { FromStart Off (attributed (rows.after_attributes (listing_of end))) p.old p.new }
+    ensures from_start { FromStart Off
+        (attributed (rows.after_attributes (listing_of end))) p.old p.new }
     ensures takes { Takes 3900 p.old p.new }
 {
-    let frame = start(p);
+    let frame = p.start();
     attribute(p);
     attributes(p);
     after_attributes(p, frame, end);
@@ -134,9 +132,9 @@ fn after_attributes(p: &mut Parser<'_>, frame: Marker, end: ListEnd)
         (rows.after_attributes (listing_of end)) p.old p.new }
     ensures asks { Asks 90 p.old p.new }
 {
-    if at(p, SyntaxKind::LET_KW) {
+    if p.at(SyntaxKind::LET_KW) {
         let_rest(p);
-        complete(p, frame, SyntaxKind::LET_STMT);
+        frame.complete(p, SyntaxKind::LET_STMT);
         return;
     }
     if at_item_after_attributes(p) {
@@ -147,13 +145,13 @@ fn after_attributes(p: &mut Parser<'_>, frame: Marker, end: ListEnd)
     if at_block_like(p) {
         extended_block(p);
         let rest = after_block(p, frame, end);
-        abandon(p, rest);
+        rest.abandon(p);
         return;
     }
     if at_operand(p, Condition::Off) {
         extended_operand(p, Condition::Off);
         let frame = operators_and_end(p, frame, end);
-        abandon(p, frame);
+        frame.abandon(p);
         return;
     }
     body(p, frame, true, Condition::Off);
@@ -169,9 +167,9 @@ fn extended_block(p: &mut Parser<'_>)
     ensures reads { (c : Condition) → Reads c (lead BlockLike) p.old p.new }
     ensures takes { Takes 2890 p.old p.new }
 {
-    let inner = start(p);
+    let inner = p.start();
     block_like(p);
-    extend_left(p, inner);
+    inner.extend_left(p);
 }
 
 /// Parses the operators after the first operand of a statement, and the statement's end.
@@ -195,10 +193,10 @@ fn long_path_statement(p: &mut Parser<'_>, end: ListEnd)
     ensures from_start { FromStart Off (rows.long_path_statement (listing_of end)) p.old p.new }
     ensures takes { Takes 3900 p.old p.new }
 {
-    let frame = start(p);
+    let frame = p.start();
     path_with_args(p, Mode::Expr);
     let frame = path_tail(p, frame, end);
-    abandon(p, frame);
+    frame.abandon(p);
 }
 
 /// Parses what follows the path of a statement: a macro call in braces, or operators and a `;`.
@@ -210,10 +208,10 @@ fn path_tail(p: &mut Parser<'_>, frame: Marker, end: ListEnd) -> Marker
     ensures asks { AsksIn result 24 p.old p.new }
 {
     if at_braced_macro(p) {
-        take(p, SyntaxKind::BANG);
+        p.take(SyntaxKind::BANG);
         token_tree(p);
-        let frame = wrap(p, frame, SyntaxKind::MACRO_CALL);
-        let frame = wrap(p, frame, SyntaxKind::MACRO_EXPR);
+        let frame = frame.wrap(p, SyntaxKind::MACRO_CALL);
+        let frame = frame.wrap(p, SyntaxKind::MACRO_EXPR);
         return after_block(p, frame, end);
     }
     let frame = after_path(p, frame, Condition::Off);
@@ -229,10 +227,10 @@ fn super_let(p: &mut Parser<'_>)
     ensures reads { Reads Off rows.super_let p.old p.new }
     ensures takes { Takes 8000 p.old p.new }
 {
-    let node = start(p);
-    take(p, SyntaxKind::SUPER_KW);
+    let node = p.start();
+    p.take(SyntaxKind::SUPER_KW);
     let_rest(p);
-    complete(p, node, SyntaxKind::LET_STMT);
+    node.complete(p, SyntaxKind::LET_STMT);
 }
 
 /// Parses a `defer` statement. The current token is `defer`.
@@ -243,10 +241,10 @@ fn defer_stmt(p: &mut Parser<'_>)
     ensures reads { (c : Condition) → Reads c rows.defer_stmt p.old p.new }
     ensures takes { Takes 4090 p.old p.new }
 {
-    let node = start(p);
-    take(p, SyntaxKind::DEFER_KW);
+    let node = p.start();
+    p.take(SyntaxKind::DEFER_KW);
     expect_part(p, Part::Block);
-    complete(p, node, SyntaxKind::DEFER_STMT);
+    node.complete(p, SyntaxKind::DEFER_STMT);
 }
 
 /// Parses a `let` statement.
@@ -257,9 +255,9 @@ fn let_stmt(p: &mut Parser<'_>)
     ensures reads { Reads Off rows.let_stmt p.old p.new }
     ensures takes { Takes 4000 p.old p.new }
 {
-    let node = start(p);
+    let node = p.start();
     let_rest(p);
-    complete(p, node, SyntaxKind::LET_STMT);
+    node.complete(p, SyntaxKind::LET_STMT);
 }
 
 /// Parses a `let` statement, within its node. The current token is `let`.
@@ -270,12 +268,12 @@ fn let_rest(p: &mut Parser<'_>)
     ensures reads { Reads Off rows.let_rest p.old p.new }
     ensures takes { Takes 4000 p.old p.new }
 {
-    take(p, SyntaxKind::LET_KW);
+    p.take(SyntaxKind::LET_KW);
     expect_part(p, Part::Pattern);
     opt_type(p, Condition::Off);
     opt_value(p, Condition::Off);
     opt_else(p);
-    expect(p, SyntaxKind::SEMICOLON);
+    p.expect(SyntaxKind::SEMICOLON);
 }
 
 /// Parses the optional `else` branch of a `let` statement.
@@ -285,7 +283,7 @@ fn opt_else(p: &mut Parser<'_>)
     ensures reads { (c : Condition) → Reads c ⁅ rows.let_else ⁆ p.old p.new }
     ensures asks { Asks 1 p.old p.new }
 {
-    if at(p, SyntaxKind::ELSE_KW) {
+    if p.at(SyntaxKind::ELSE_KW) {
         let_else(p);
     }
 }
@@ -298,10 +296,10 @@ fn let_else(p: &mut Parser<'_>)
     ensures reads { (c : Condition) → Reads c rows.let_else p.old p.new }
     ensures takes { Takes 4090 p.old p.new }
 {
-    let node = start(p);
-    take(p, SyntaxKind::ELSE_KW);
+    let node = p.start();
+    p.take(SyntaxKind::ELSE_KW);
     expect_part(p, Part::Block);
-    complete(p, node, SyntaxKind::LET_ELSE);
+    node.complete(p, SyntaxKind::LET_ELSE);
 }
 
 /// Parses an expression statement or the last expression of a list, or skips a token into an
@@ -322,7 +320,7 @@ fn expression_statement(p: &mut Parser<'_>, end: ListEnd)
         ended_expression(p, end);
         return;
     }
-    skip(p, Message::ExpectedStatement);
+    p.skip(Message::ExpectedStatement);
 }
 
 /// Parses a statement that starts with an expression that ends in a block.
@@ -335,10 +333,10 @@ fn block_statement(p: &mut Parser<'_>, end: ListEnd)
     ensures from_start { FromStart Off (BlockLike ▸ after_block_of end) p.old p.new }
     ensures takes { Takes 2880 p.old p.new }
 {
-    let frame = start(p);
+    let frame = p.start();
     block_like(p);
     let frame = after_block(p, frame, end);
-    abandon(p, frame);
+    frame.abandon(p);
 }
 
 /// Returns `true` if an expression that ends in a block continues: with a `?`, or with a dot that
@@ -349,10 +347,10 @@ pub(crate) fn at_more(p: &mut Parser<'_>) -> bool
     ensures some { IsTrue result → 1 ≤ tokens p.old }
     ensures peeks { Peeks 3 p.old p.new }
 {
-    match current(p) {
+    match p.current() {
         SyntaxKind::QUESTION => true,
         SyntaxKind::DOT => {
-            if at_pair(p, SyntaxKind::DOT, SyntaxKind::DOT) {
+            if p.at_pair(SyntaxKind::DOT, SyntaxKind::DOT) {
                 return false;
             }
             true
@@ -375,14 +373,14 @@ fn after_block(p: &mut Parser<'_>, frame: Marker, end: ListEnd) -> Marker
         let frame = opt_operators(p, frame);
         return statement_end(p, frame, end);
     }
-    if at(p, SyntaxKind::SEMICOLON) {
-        take(p, SyntaxKind::SEMICOLON);
-        return wrap(p, frame, SyntaxKind::EXPR_STMT);
+    if p.at(SyntaxKind::SEMICOLON) {
+        p.take(SyntaxKind::SEMICOLON);
+        return frame.wrap(p, SyntaxKind::EXPR_STMT);
     }
     if at_end_of(p, end) {
         return frame;
     }
-    wrap(p, frame, SyntaxKind::EXPR_STMT)
+    frame.wrap(p, SyntaxKind::EXPR_STMT)
 }
 
 /// Parses the operators after an expression that ends in a block and continues, in the whole language.
@@ -393,7 +391,7 @@ fn opt_operators(p: &mut Parser<'_>, frame: Marker) -> Marker
     ensures reads { Reads Off rows.further_operators p.old p.new }
     ensures asks { AsksIn result 11 p.old p.new }
 {
-    if at_whole(p) {
+    if p.at_whole() {
         return after_operand(p, frame, Condition::Off);
     }
     frame
@@ -409,10 +407,10 @@ fn ended_expression(p: &mut Parser<'_>, end: ListEnd)
     ensures asks { Asks 604 p.old p.new }
     ensures pays { tokens p.new < tokens p.old → spent p.new + 1790 ≤ spent p.old }
 {
-    let frame = start(p);
+    let frame = p.start();
     expression(p, Condition::Off);
     let frame = statement_end(p, frame, end);
-    abandon(p, frame);
+    frame.abandon(p);
 }
 
 /// Parses the `;` of an expression statement, which the last expression of a list does not need.
@@ -423,13 +421,13 @@ fn statement_end(p: &mut Parser<'_>, frame: Marker, end: ListEnd) -> Marker
     ensures asks { AsksIn result 3 p.old p.new }
     ensures pays { tokens p.new < tokens p.old → spent p.new + 4000 ≤ spent p.old }
 {
-    if at(p, SyntaxKind::SEMICOLON) {
-        take(p, SyntaxKind::SEMICOLON);
-        return wrap(p, frame, SyntaxKind::EXPR_STMT);
+    if p.at(SyntaxKind::SEMICOLON) {
+        p.take(SyntaxKind::SEMICOLON);
+        return frame.wrap(p, SyntaxKind::EXPR_STMT);
     }
     if at_end_of(p, end) {
         return frame;
     }
-    error(p, Message::Expected(SyntaxKind::SEMICOLON));
-    wrap(p, frame, SyntaxKind::EXPR_STMT)
+    p.error(Message::Expected(SyntaxKind::SEMICOLON));
+    frame.wrap(p, SyntaxKind::EXPR_STMT)
 }

@@ -25,16 +25,14 @@ use crate::grammar::lists::{Element, tuple_tail};
 use crate::grammar::new_bounds::lifetime_bound;
 use crate::grammar::parts::{Part, expect_part};
 use crate::grammar::paths::{Mode, path_with_args, qualified_path};
-use parser_events::parser::{Marker, Parser};
 use parser_input::syntax_kind::SyntaxKind;
 use rust_productions::condition::Condition;
 use rust_productions::grammar::names::opt_lifetime;
 use rust_productions::grammar::paths::at_macro_call;
 use rust_productions::grammar::token_trees::expect_token_tree;
 use rust_productions::grammar::types::{at_bare_type, at_dyn_word, at_fn_ptr, at_new_type};
-use rust_productions::grammar::{
-    abandon, at, at_pair, complete, current, eat, error, expect, start, take, take_pair, wrap,
-};
+use rust_productions::marker::Marker;
+use rust_productions::parser::Parser;
 
 /// Parses a type.
 // &'a [u8]
@@ -44,9 +42,9 @@ pub fn any_type(p: &mut Parser<'_>)
     ensures gives { (c : Condition) → Gives rules.any_type c p.old p.new }
     ensures takes { Takes 2910 p.old p.new }
 {
-    let frame = start(p);
+    let frame = p.start();
     let frame = inside(p, frame);
-    abandon(p, frame);
+    frame.abandon(p);
 }
 
 /// Parses a type, within `frame`, which the caller abandons.
@@ -58,7 +56,7 @@ fn inside(p: &mut Parser<'_>, frame: Marker) -> Marker
     ensures reads { (c : Condition) → Reads c (rule rules.any_type) p.old p.new }
     ensures takes { TakesIn result 2910 p.old p.new }
 {
-    match current(p) {
+    match p.current() {
         SyntaxKind::L_PAREN => paren_type(p, frame),
         SyntaxKind::L_BRACK => bracket_type(p, frame),
         SyntaxKind::BANG => {
@@ -107,9 +105,9 @@ pub(crate) fn type_no_bounds(p: &mut Parser<'_>)
     ensures gives { (c : Condition) → Gives rules.type_no_bounds c p.old p.new }
     ensures takes { Takes 2900 p.old p.new }
 {
-    let frame = start(p);
+    let frame = p.start();
     let frame = bare_or_any(p, frame);
-    abandon(p, frame);
+    frame.abandon(p);
 }
 
 /// Parses a type without bounds after it, within `frame`, which the caller abandons.
@@ -137,7 +135,7 @@ fn new_type(p: &mut Parser<'_>, frame: Marker) -> Marker
     ensures reads { (c : Condition) → Reads c rows.new_type p.old p.new }
     ensures takes { TakesIn result 3900 p.old p.new }
 {
-    if at(p, SyntaxKind::LIFETIME_IDENT) {
+    if p.at(SyntaxKind::LIFETIME_IDENT) {
         lifetime_bounds(p);
         return frame;
     }
@@ -158,7 +156,7 @@ fn for_or_path(p: &mut Parser<'_>, frame: Marker) -> Marker
     ensures reads { (c : Condition) → Reads c rows.for_or_path p.old p.new }
     ensures takes { TakesIn result 3950 p.old p.new }
 {
-    if at(p, SyntaxKind::FOR_KW) {
+    if p.at(SyntaxKind::FOR_KW) {
         for_type(p);
         return frame;
     }
@@ -175,7 +173,7 @@ fn front_path(p: &mut Parser<'_>, frame: Marker) -> Marker
     ensures reads { (c : Condition) → Reads c rows.front_path p.old p.new }
     ensures takes { TakesIn result 3970 p.old p.new }
 {
-    if at(p, SyntaxKind::L_ANGLE) {
+    if p.at(SyntaxKind::L_ANGLE) {
         return qualified_path(p, frame, Mode::Type);
     }
     path_with_args(p, Mode::Type);
@@ -190,10 +188,10 @@ fn for_type(p: &mut Parser<'_>)
     ensures reads { (c : Condition) → Reads c rows.for_type p.old p.new }
     ensures takes { Takes 4000 p.old p.new }
 {
-    let node = start(p);
+    let node = p.start();
     for_binder(p);
     expect_part(p, Part::TypeNoBounds);
-    complete(p, node, SyntaxKind::FOR_TYPE);
+    node.complete(p, SyntaxKind::FOR_TYPE);
 }
 
 /// Completes a path as a type, or parses the rest of a macro call in place of a type.
@@ -204,11 +202,11 @@ pub(crate) fn type_of_path(p: &mut Parser<'_>, frame: Marker) -> Marker
     ensures asks { AsksIn result 3 p.old p.new }
 {
     if at_macro_call(p) {
-        take(p, SyntaxKind::BANG);
+        p.take(SyntaxKind::BANG);
         expect_token_tree(p);
-        return wrap(p, frame, SyntaxKind::MACRO_CALL);
+        return frame.wrap(p, SyntaxKind::MACRO_CALL);
     }
-    wrap(p, frame, SyntaxKind::PATH_TYPE)
+    frame.wrap(p, SyntaxKind::PATH_TYPE)
 }
 
 /// Parses optional bounds after a type, which becomes the first of them.
@@ -219,11 +217,11 @@ pub(crate) fn opt_plus_bounds(p: &mut Parser<'_>, frame: Marker) -> Marker
     ensures reads { (c : Condition) → Reads c path_rows.plus_bounds p.old p.new }
     ensures asks { AsksIn result 1 p.old p.new }
 {
-    if at(p, SyntaxKind::PLUS) {
-        let frame = wrap(p, frame, SyntaxKind::TYPE_BOUND);
+    if p.at(SyntaxKind::PLUS) {
+        let frame = frame.wrap(p, SyntaxKind::TYPE_BOUND);
         bounds_after_plus(p);
-        let frame = wrap(p, frame, SyntaxKind::TYPE_BOUND_LIST);
-        return wrap(p, frame, SyntaxKind::DYN_TRAIT_TYPE);
+        let frame = frame.wrap(p, SyntaxKind::TYPE_BOUND_LIST);
+        return frame.wrap(p, SyntaxKind::DYN_TRAIT_TYPE);
     }
     frame
 }
@@ -236,7 +234,7 @@ fn bounds_after_plus(p: &mut Parser<'_>)
     ensures reads { (c : Condition) → Reads c path_rows.bounds_after_plus p.old p.new }
     ensures takes { Takes 4000 p.old p.new }
 {
-    take(p, SyntaxKind::PLUS);
+    p.take(SyntaxKind::PLUS);
     opt_bound(p);
     further_bounds(p);
 }
@@ -249,25 +247,26 @@ fn lifetime_bounds(p: &mut Parser<'_>)
     ensures reads { (c : Condition) → Reads c rows.lifetime_bounds p.old p.new }
     ensures takes { Takes 4090 p.old p.new }
 {
-    let node = start(p);
-    let list = start(p);
+    let node = p.start();
+    let list = p.start();
     lifetime_bound(p);
     further_bounds(p);
-    complete(p, list, SyntaxKind::TYPE_BOUND_LIST);
-    complete(p, node, SyntaxKind::DYN_TRAIT_TYPE);
+    list.complete(p, SyntaxKind::TYPE_BOUND_LIST);
+    node.complete(p, SyntaxKind::DYN_TRAIT_TYPE);
 }
 
 /// Parses one token, in a node of `kind`.
 // _
 pub(crate) fn word_type(p: &mut Parser<'_>, token: SyntaxKind, kind: SyntaxKind)
     requires { 1 ≤ tokens p.old }
-    ensures reads { (c : Condition) → Reads c (raw_of kind ⟨ One (one (raw_of token)) ⟩) p.old p.new }
+    ensures reads { (c : Condition)
+        → Reads c (raw_of kind ⟨ One (one (raw_of token)) ⟩) p.old p.new }
     ensures left { tokens p.new + 1 ≡ tokens p.old }
     ensures looks { spent p.new + 4096 ≡ spent p.old }
 {
-    let node = start(p);
-    take(p, token);
-    complete(p, node, kind);
+    let node = p.start();
+    p.take(token);
+    node.complete(p, kind);
 }
 
 /// Parses a `dyn` or `impl` type, in a node of `kind`. `token` is its keyword.
@@ -279,10 +278,10 @@ fn bounded_type(p: &mut Parser<'_>, token: SyntaxKind, kind: SyntaxKind)
         (raw_of kind ⟨ One (one (raw_of token)) ▸ Bounds ⟩) p.old p.new }
     ensures takes { Takes 4070 p.old p.new }
 {
-    let node = start(p);
-    take(p, token);
+    let node = p.start();
+    p.take(token);
     bounds(p);
-    complete(p, node, kind);
+    node.complete(p, kind);
 }
 
 /// Parses a path type.
@@ -294,9 +293,9 @@ pub(crate) fn path_type(p: &mut Parser<'_>)
     ensures reads { (c : Condition) → Reads c shared.path_type p.old p.new }
     ensures takes { Takes 4000 p.old p.new }
 {
-    let node = start(p);
+    let node = p.start();
     path_with_args(p, Mode::Type);
-    complete(p, node, SyntaxKind::PATH_TYPE);
+    node.complete(p, SyntaxKind::PATH_TYPE);
 }
 
 /// Parses a raw pointer type.
@@ -307,11 +306,11 @@ fn ptr_type(p: &mut Parser<'_>)
     ensures reads { (c : Condition) → Reads c rows.ptr_type p.old p.new }
     ensures takes { Takes 4060 p.old p.new }
 {
-    let node = start(p);
-    take(p, SyntaxKind::STAR);
+    let node = p.start();
+    p.take(SyntaxKind::STAR);
     const_or_mut(p);
     expect_part(p, Part::TypeNoBounds);
-    complete(p, node, SyntaxKind::PTR_TYPE);
+    node.complete(p, SyntaxKind::PTR_TYPE);
 }
 
 /// Parses `const` or `mut`; emits an error if there is neither.
@@ -320,11 +319,11 @@ fn const_or_mut(p: &mut Parser<'_>)
     ensures reads { (c : Condition) → Reads c rows.const_or_mut p.old p.new }
     ensures asks { Asks 2 p.old p.new }
 {
-    if at(p, SyntaxKind::CONST_KW) {
-        take(p, SyntaxKind::CONST_KW);
+    if p.at(SyntaxKind::CONST_KW) {
+        p.take(SyntaxKind::CONST_KW);
         return;
     }
-    expect(p, SyntaxKind::MUT_KW);
+    p.expect(SyntaxKind::MUT_KW);
 }
 
 /// Parses a reference type.
@@ -335,12 +334,12 @@ fn ref_type(p: &mut Parser<'_>)
     ensures reads { (c : Condition) → Reads c rows.ref_type p.old p.new }
     ensures takes { Takes 4060 p.old p.new }
 {
-    let node = start(p);
-    take(p, SyntaxKind::AMP);
+    let node = p.start();
+    p.take(SyntaxKind::AMP);
     opt_lifetime(p);
-    eat(p, SyntaxKind::MUT_KW);
+    p.eat(SyntaxKind::MUT_KW);
     expect_part(p, Part::TypeNoBounds);
-    complete(p, node, SyntaxKind::REF_TYPE);
+    node.complete(p, SyntaxKind::REF_TYPE);
 }
 
 /// Parses a tuple type or a parenthesized type.
@@ -352,7 +351,7 @@ fn paren_type(p: &mut Parser<'_>, frame: Marker) -> Marker
     ensures reads { (c : Condition) → Reads c rows.tuple_or_paren p.old p.new }
     ensures takes { TakesIn result 3200 p.old p.new }
 {
-    take(p, SyntaxKind::L_PAREN);
+    p.take(SyntaxKind::L_PAREN);
     after_paren(p, frame)
 }
 
@@ -364,9 +363,9 @@ fn after_paren(p: &mut Parser<'_>, frame: Marker) -> Marker
     ensures reads { (c : Condition) → Reads c rows.after_l_paren p.old p.new }
     ensures asks { AsksIn result 19 p.old p.new }
 {
-    if at(p, SyntaxKind::R_PAREN) {
-        take(p, SyntaxKind::R_PAREN);
-        return wrap(p, frame, SyntaxKind::TUPLE_TYPE);
+    if p.at(SyntaxKind::R_PAREN) {
+        p.take(SyntaxKind::R_PAREN);
+        return frame.wrap(p, SyntaxKind::TUPLE_TYPE);
     }
     expect_part(p, Part::Type);
     tuple_tail(
@@ -387,7 +386,7 @@ fn bracket_type(p: &mut Parser<'_>, frame: Marker) -> Marker
     ensures reads { (c : Condition) → Reads c rows.array_or_slice p.old p.new }
     ensures takes { TakesIn result 3200 p.old p.new }
 {
-    take(p, SyntaxKind::L_BRACK);
+    p.take(SyntaxKind::L_BRACK);
     expect_part(p, Part::Type);
     after_element(p, frame)
 }
@@ -400,14 +399,14 @@ fn after_element(p: &mut Parser<'_>, frame: Marker) -> Marker
     ensures reads { (c : Condition) → Reads c rows.after_element p.old p.new }
     ensures asks { AsksIn result 2 p.old p.new }
 {
-    if at(p, SyntaxKind::SEMICOLON) {
-        take(p, SyntaxKind::SEMICOLON);
+    if p.at(SyntaxKind::SEMICOLON) {
+        p.take(SyntaxKind::SEMICOLON);
         array_length(p);
-        expect(p, SyntaxKind::R_BRACK);
-        return wrap(p, frame, SyntaxKind::ARRAY_TYPE);
+        p.expect(SyntaxKind::R_BRACK);
+        return frame.wrap(p, SyntaxKind::ARRAY_TYPE);
     }
-    expect(p, SyntaxKind::R_BRACK);
-    wrap(p, frame, SyntaxKind::SLICE_TYPE)
+    p.expect(SyntaxKind::R_BRACK);
+    frame.wrap(p, SyntaxKind::SLICE_TYPE)
 }
 
 /// Parses the length of an array type.
@@ -417,9 +416,9 @@ fn array_length(p: &mut Parser<'_>)
     ensures reads { (c : Condition) → Reads c rows.array_length p.old p.new }
     ensures asks { Asks 770 p.old p.new }
 {
-    let node = start(p);
+    let node = p.start();
     expect_expression(p, Level::Expression, Condition::Off);
-    complete(p, node, SyntaxKind::CONST_ARG);
+    node.complete(p, SyntaxKind::CONST_ARG);
 }
 
 /// Parses a return type.
@@ -430,10 +429,10 @@ pub(crate) fn ret_type(p: &mut Parser<'_>)
     ensures gives { (c : Condition) → Gives rules.ret_type c p.old p.new }
     ensures takes { Takes 4090 p.old p.new }
 {
-    let node = start(p);
-    take_pair(p, SyntaxKind::THIN_ARROW);
+    let node = p.start();
+    p.take_pair(SyntaxKind::THIN_ARROW);
     expect_part(p, Part::TypeNoBounds);
-    complete(p, node, SyntaxKind::RET_TYPE);
+    node.complete(p, SyntaxKind::RET_TYPE);
 }
 
 /// Parses an optional return type.
@@ -443,7 +442,7 @@ pub(crate) fn opt_ret_type(p: &mut Parser<'_>)
     ensures reads { (c : Condition) → Reads c ⁅ RetType ⁆ p.old p.new }
     ensures asks { Asks 2 p.old p.new }
 {
-    if at_pair(p, SyntaxKind::MINUS, SyntaxKind::R_ANGLE) {
+    if p.at_pair(SyntaxKind::MINUS, SyntaxKind::R_ANGLE) {
         ret_type(p);
     }
 }
@@ -456,8 +455,8 @@ pub(crate) fn opt_type_after(p: &mut Parser<'_>, word: SyntaxKind)
     ensures reads { (c : Condition) → Reads c ⁅ One (one (raw_of word)) ▸ AnyType ! ⁆ p.old p.new }
     ensures asks { Asks 1 p.old p.new }
 {
-    if at(p, word) {
-        take(p, word);
+    if p.at(word) {
+        p.take(word);
         expect_part(p, Part::Type);
     }
 }

@@ -12,7 +12,7 @@ abbrev pub invariant-node::GreenNode::drop-down : goal.invariant-node::GreenNode
 invariant-node::GreenNode::drop-down l = tree_count l.self ≤ tree_count l.initial.self
 
 abbrev pub decreases-element_search::longest_node : goal.decreases-element_search::longest_node
-decreases-element_search::longest_node l = 4 * forest_count (forest_of l.elements.items) + 3
+decreases-element_search::longest_node l = 6 * forest_count (forest_of l.elements.items) + 5
 
 abbrev pub invariant-element_search::longest_node-elements :
     goal.invariant-element_search::longest_node-elements

@@ -2,11 +2,15 @@
 use super::{Node, first_list, tree};
 use crate::Lists;
 use rowan::{SyntaxNode, SyntaxText};
-use rowan_green::{GreenError, GreenNode, GreenNodeBuilder, SyntaxKind, TextRange, TextSize};
+use rowan_green::{
+    GreenError, GreenNode, GreenNodeBuilder, GreenToken, NodeOrToken, SyntaxKind, TextRange,
+    TextSize,
+};
 use std::alloc::{AllocError, Global};
 use std::test::Fail;
 
-/// Returns a root with the tokens of `pieces`, which are separated by spaces.
+/// Returns a root with the tokens of `pieces`, which are separated by spaces. Its text lies in one
+/// piece.
 fn flat(alloc: Global, pieces: &str) -> Result<GreenNode, GreenError> {
     let mut builder = GreenNodeBuilder::new(alloc);
     put_flat(&mut builder, pieces)?;
@@ -24,9 +28,19 @@ fn put_flat(builder: &mut GreenNodeBuilder<'_>, pieces: &str) -> Result<(), Gree
     builder.finish_node()
 }
 
-/// Returns the text of that root.
-fn text_of(alloc: Global, pieces: &str) -> Result<SyntaxText, GreenError> {
-    let root: SyntaxNode<Lists> = SyntaxNode::new_root(alloc, flat(alloc, pieces)?)?;
+/// Returns an equal root, made of tokens that have their texts apart.
+fn of_tokens(alloc: Global, pieces: &str) -> Result<GreenNode, GreenError> {
+    let mut tokens = Vec::new(alloc);
+    for piece in pieces.split(' ') {
+        let token = GreenToken::new(alloc, SyntaxKind(3), piece)?;
+        tokens.push(NodeOrToken::Token(token))?;
+    }
+    GreenNode::new(alloc, SyntaxKind(1), tokens.into_iter())
+}
+
+/// Returns the text of a root.
+fn text_of(alloc: Global, green: GreenNode) -> Result<SyntaxText, GreenError> {
+    let root: SyntaxNode<Lists> = SyntaxNode::new_root(alloc, green)?;
     Ok(root.text()?)
 }
 
@@ -102,7 +116,7 @@ fn length_before(text: &SyntaxText, stop: &str) -> u64 {
 }
 
 fn is_same(alloc: Global, text: &SyntaxText, pieces: &str) -> Result<bool, GreenError> {
-    let other = text_of(alloc, pieces)?;
+    let other = text_of(alloc, flat(alloc, pieces)?)?;
     Ok(*text == other)
 }
 
@@ -120,10 +134,20 @@ fn answer(alloc: Global, text: &SyntaxText, ask: Ask) -> Result<String, Fail> {
     })
 }
 
-fn is_met(alloc: Global, (pieces, ask, expected): &Row) -> Result<bool, Fail> {
-    let text = text_of(alloc, pieces)?;
+fn is_met(alloc: Global, green: GreenNode, (_, ask, expected): &Row) -> Result<bool, Fail> {
+    let text = text_of(alloc, green)?;
     let answer = answer(alloc, &text, *ask)?;
     Ok(answer.as_str() == *expected)
+}
+
+/// Returns `true` if a root that was built answers so.
+fn is_met_built(alloc: Global, row: &Row) -> Result<bool, Fail> {
+    is_met(alloc, flat(alloc, row.0)?, row)
+}
+
+/// Returns `true` if a root whose tokens have their texts apart answers so.
+fn is_met_apart(alloc: Global, row: &Row) -> Result<bool, Fail> {
+    is_met(alloc, of_tokens(alloc, row.0)?, row)
 }
 
 const READ: &[Row] = &[
@@ -140,11 +164,6 @@ const READ: &[Row] = &[
     ("ab \u{e9} cd", Ask::At(4), "c"),
     ("ab \u{e9} cd", Ask::At(6), "none"),
     ("ab \u{e9} cd", Ask::At(4294967295), "none"),
-    ("ab \u{e9} cd", Ask::Pieces, "|ab|\u{e9}|cd"),
-    ("ab  cd", Ask::Pieces, "|ab|cd"),
-    ("ab  cd", Ask::CountOfPieces, "2"),
-    ("ab \u{e9} cd", Ask::LengthBefore("cd"), "4"),
-    ("ab \u{e9} cd", Ask::LengthBefore("d"), "6"),
     ("ab \u{e9} cd", Ask::Is("ab\u{e9}cd"), "yes"),
     ("ab \u{e9} cd", Ask::Is("ab\u{e9}c"), "no"),
     ("ab \u{e9} cd", Ask::Is("ab\u{e8}cd"), "no"),
@@ -158,7 +177,49 @@ const READ: &[Row] = &[
 #[test]
 fn texts_are_read(rt: HostRuntime) -> Result<(), Fail> {
     for row in READ {
-        assert!(rt; is_met(rt.alloc(), row)?, "{} of {}", row.2, row.0);
+        assert!(rt;
+            is_met_built(rt.alloc(), row)?,
+            "built: {} of {}",
+            row.2,
+            row.0
+        );
+        assert!(rt;
+            is_met_apart(rt.alloc(), row)?,
+            "apart: {} of {}",
+            row.2,
+            row.0
+        );
+    }
+    Ok(())
+}
+
+const PIECES_APART: &[Row] = &[
+    ("ab \u{e9} cd", Ask::Pieces, "|ab|\u{e9}|cd"),
+    ("ab  cd", Ask::Pieces, "|ab|cd"),
+    ("ab  cd", Ask::CountOfPieces, "2"),
+    ("ab \u{e9} cd", Ask::LengthBefore("cd"), "4"),
+    ("ab \u{e9} cd", Ask::LengthBefore("d"), "6"),
+];
+
+#[test]
+fn texts_apart_are_read_in_pieces(rt: HostRuntime) -> Result<(), Fail> {
+    for row in PIECES_APART {
+        assert!(rt; is_met_apart(rt.alloc(), row)?, "{} of {}", row.2, row.0);
+    }
+    Ok(())
+}
+
+const PIECES_BUILT: &[Row] = &[
+    ("ab \u{e9} cd", Ask::Pieces, "|ab\u{e9}cd"),
+    ("ab  cd", Ask::CountOfPieces, "1"),
+    ("ab \u{e9} cd", Ask::LengthBefore("cd"), "6"),
+    ("ab \u{e9} cd", Ask::LengthBefore("ab\u{e9}cd"), "0"),
+];
+
+#[test]
+fn built_texts_are_read_in_one_piece(rt: HostRuntime) -> Result<(), Fail> {
+    for row in PIECES_BUILT {
+        assert!(rt; is_met_built(rt.alloc(), row)?, "{} of {}", row.2, row.0);
     }
     Ok(())
 }

@@ -93,14 +93,16 @@ impl Document {
         ensures operators { OnOk result (HasPlacedOperators self.new) }
         ensures core { OnOk result (IsReadAsCore self.new) }
         ensures changed { IfOk result (λ c. map ends_of c.changed.items ≡ changed editor) }
-        ensures annotated { IfOk result (λ c. map annotated_ends c.annotated.items ≡ annotated editor) }
+        ensures annotated { IfOk result
+            (λ c. map annotated_ends c.annotated.items ≡ annotated editor) }
         ensures output { IfOk result (λ c. KeepsOutput self.old self.new c.steps) }
         ensures steps { IfOk result (λ c. c.steps ≤ most_steps self.old.grammar self.old.edition
             (chars (tree_text (rewritten editor)))) }
         ensures number { OnOk result (ids.new ≡ ids.old + 1) }
         ensures refused { IfErr result (RefusesCommit (verdict self.old editor) ids.old) }
         ensures renames { IfErr result (λ error. IsPlainRenaming self.old editor
-            → length (tree_text (rewritten editor)) ≤ MAX_TEXT → RefusesCommit Accepted ids.old error) }
+            → length (tree_text (rewritten editor)) ≤ MAX_TEXT
+            → RefusesCommit Accepted ids.old error) }
         ensures renamed { OnOk result (IsPlainRenaming self.old editor
             → IsReadExactly self.old editor) }
         ensures spaced { IfErr result (λ error. IsWellSpacedRewrite self.old editor
@@ -145,7 +147,8 @@ impl Document {
         ensures operators { OnOk result (HasPlacedOperators self.new) }
         ensures core { OnOk result (IsReadAsCore self.new) }
         ensures changed { IfOk result (λ c. map ends_of c.changed.items ≡ changed editor) }
-        ensures annotated { IfOk result (λ c. map annotated_ends c.annotated.items ≡ annotated editor) }
+        ensures annotated { IfOk result
+            (λ c. map annotated_ends c.annotated.items ≡ annotated editor) }
         ensures output { IfOk result (λ c. KeepsOutput self.old self.new c.steps) }
         ensures steps { IfOk result (λ c. c.steps ≤ most_steps self.old.grammar self.old.edition
             (chars (tree_text (rewritten editor)))) }
@@ -246,7 +249,8 @@ impl Document {
     /// As of `commit`, but never `NoTreeNumber`.
     fn rewritten(&self, alloc: Global, editor: &SyntaxEditor) -> Result<Rewritten, CommitError>
         ensures accepted { OnOk result (verdict self.now editor.now ≡ Accepted) }
-        ensures rewritten { IfOk result (λ r. IsRewritten self.now.grammar self.now.edition editor.now
+        ensures rewritten { IfOk result
+            (λ r. IsRewritten self.now.grammar self.now.edition editor.now
             (tokens_in self.now.grammar self.now.edition (chars self.now.text))
             (string_bytes r.text) r.reading r.changed.items) }
         ensures green { IfOk result (λ r. IsNode (rewriting editor.now) r.green) }

@@ -5,9 +5,8 @@ ghost use Rattle.rust_productions.specs.Looks.{tokens, Peeks};
 ghost use Rattle.rust_grammar.specs.Rule as rules;
 ghost use Rattle.rust_productions.specs.Reads.{looks, Saw, Condition};
 
-use crate::grammar::at_new;
 use crate::grammar::paths::at_path;
-use parser_events::parser::Parser;
+use crate::parser::Parser;
 use parser_input::syntax_kind::SyntaxKind;
 
 /// Returns `true` if a meta item starts here: at a path, or in the whole language at `unsafe`.
@@ -19,7 +18,7 @@ pub fn at_meta(p: &mut Parser<'_>) -> bool
     if at_path(p) {
         return true;
     }
-    if at_new(p, SyntaxKind::UNSAFE_KW) {
+    if p.at_new(SyntaxKind::UNSAFE_KW) {
         return true;
     }
     false

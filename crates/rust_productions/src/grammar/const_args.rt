@@ -12,9 +12,8 @@ ghost use Rattle.rust_productions.specs.Reads.{looks, Gives, Reads, Saw, Conditi
 
 use crate::grammar::names::{at_literal, literal};
 use crate::grammar::paths::at_path;
-use crate::grammar::{abandon, at, complete, current, error, nth, start, take};
+use crate::parser::Parser;
 use parser_events::message::Message;
-use parser_events::parser::Parser;
 use parser_input::syntax_kind::SyntaxKind;
 
 /// Returns `true` if `-` is next, and a literal after it.
@@ -23,10 +22,10 @@ pub fn at_negated(p: &mut Parser<'_>) -> bool
     ensures some { IsTrue result → 2 ≤ tokens p.old }
     ensures peeks { Peeks 2 p.old p.new }
 {
-    if !at(p, SyntaxKind::MINUS) {
+    if !p.at(SyntaxKind::MINUS) {
         return false;
     }
-    match nth(p, 1) {
+    match p.nth(1) {
         SyntaxKind::INT_NUMBER
         | SyntaxKind::FLOAT_NUMBER
         | SyntaxKind::CHAR
@@ -47,10 +46,10 @@ pub fn negated_literal(p: &mut Parser<'_>)
     ensures reads { (c : Condition) → Reads c rows.negated_literal p.old p.new }
     ensures takes { Takes 8000 p.old p.new }
 {
-    let node = start(p);
-    take(p, SyntaxKind::MINUS);
+    let node = p.start();
+    p.take(SyntaxKind::MINUS);
     literal(p);
-    complete(p, node, SyntaxKind::PREFIX_EXPR);
+    node.complete(p, SyntaxKind::PREFIX_EXPR);
 }
 
 /// Returns `true` if a const argument starts here.
@@ -68,7 +67,7 @@ pub fn at_const_arg(p: &mut Parser<'_>) -> bool
     if at_negated(p) {
         return true;
     }
-    match current(p) {
+    match p.current() {
         SyntaxKind::L_CURLY => true,
         _ => false,
     }
@@ -80,9 +79,9 @@ pub fn missing_expr_path(p: &mut Parser<'_>)
     ensures gives { (c : Condition) → Gives rules.expr_path c p.old p.new }
     ensures stays { Stays p.old p.new }
 {
-    let frame = start(p);
+    let frame = p.start();
     missing_segment(p);
-    abandon(p, frame);
+    frame.abandon(p);
 }
 
 /// Emits an error for the segment of a path, within the nodes of the path.
@@ -92,9 +91,9 @@ fn missing_segment(p: &mut Parser<'_>)
     ensures ends { (c : Condition) → Saw c (looks rules.path) p.new false }
     ensures stays { Stays p.old p.new }
 {
-    let path = start(p);
-    let segment = start(p);
-    error(p, Message::Expected(SyntaxKind::NAME_REF));
-    complete(p, segment, SyntaxKind::PATH_SEGMENT);
-    complete(p, path, SyntaxKind::PATH);
+    let path = p.start();
+    let segment = p.start();
+    p.error(Message::Expected(SyntaxKind::NAME_REF));
+    segment.complete(p, SyntaxKind::PATH_SEGMENT);
+    path.complete(p, SyntaxKind::PATH);
 }

@@ -8,10 +8,7 @@ ghost use Rattle.rust_productions.specs.Looks.{tokens, Takes, Asks, Peeks};
 ghost use Rattle.rust_productions.specs.Reads.{Reads, Saw, Condition};
 
 use crate::grammar::names::lifetime;
-use crate::grammar::{
-    at, at_new, at_second, at_third, at_whole, complete, current, eat, expect, nth, start, take,
-};
-use parser_events::parser::Parser;
+use crate::parser::Parser;
 use parser_input::syntax_kind::SyntaxKind;
 
 /// Returns `true` if an `async` is next that begins a block.
@@ -20,13 +17,13 @@ fn at_async_block(p: &mut Parser<'_>) -> bool
     ensures some { IsTrue result → 1 ≤ tokens p.old }
     ensures peeks { Peeks 3 p.old p.new }
 {
-    if !at(p, SyntaxKind::ASYNC_KW) {
+    if !p.at(SyntaxKind::ASYNC_KW) {
         return false;
     }
-    match nth(p, 1) {
+    match p.nth(1) {
         SyntaxKind::L_CURLY | SyntaxKind::GEN_KW => true,
         SyntaxKind::MOVE_KW => {
-            if at_third(p, SyntaxKind::L_CURLY) {
+            if p.at_third(SyntaxKind::L_CURLY) {
                 return true;
             }
             false
@@ -41,13 +38,13 @@ fn at_gen_block(p: &mut Parser<'_>) -> bool
     ensures some { IsTrue result → 1 ≤ tokens p.old }
     ensures peeks { Peeks 3 p.old p.new }
 {
-    if !at(p, SyntaxKind::GEN_KW) {
+    if !p.at(SyntaxKind::GEN_KW) {
         return false;
     }
-    match nth(p, 1) {
+    match p.nth(1) {
         SyntaxKind::L_CURLY => true,
         SyntaxKind::MOVE_KW => {
-            if at_third(p, SyntaxKind::L_CURLY) {
+            if p.at_third(SyntaxKind::L_CURLY) {
                 return true;
             }
             false
@@ -64,18 +61,18 @@ pub fn at_new_block(p: &mut Parser<'_>) -> bool
     ensures some { IsTrue result → 1 ≤ tokens p.old }
     ensures peeks { Peeks 4 p.old p.new }
 {
-    if !at_whole(p) {
+    if !p.at_whole() {
         return false;
     }
-    match current(p) {
+    match p.current() {
         SyntaxKind::LIFETIME_IDENT => {
-            if at_second(p, SyntaxKind::COLON) {
+            if p.at_second(SyntaxKind::COLON) {
                 return true;
             }
             false
         }
         SyntaxKind::CONST_KW | SyntaxKind::TRY_KW => {
-            if at_second(p, SyntaxKind::L_CURLY) {
+            if p.at_second(SyntaxKind::L_CURLY) {
                 return true;
             }
             false
@@ -101,10 +98,10 @@ fn at_const_closure(p: &mut Parser<'_>) -> bool
     ensures some { IsTrue result → 1 ≤ tokens p.old }
     ensures peeks { Peeks 2 p.old p.new }
 {
-    if !at(p, SyntaxKind::CONST_KW) {
+    if !p.at(SyntaxKind::CONST_KW) {
         return false;
     }
-    match nth(p, 1) {
+    match p.nth(1) {
         SyntaxKind::PIPE | SyntaxKind::MOVE_KW | SyntaxKind::ASYNC_KW | SyntaxKind::STATIC_KW =>
             true,
         _ => false,
@@ -119,22 +116,22 @@ pub fn at_new_atom(p: &mut Parser<'_>) -> bool
     ensures some { IsTrue result → 1 ≤ tokens p.old }
     ensures peeks { Peeks 3 p.old p.new }
 {
-    if !at_whole(p) {
+    if !p.at_whole() {
         return false;
     }
-    match current(p) {
+    match p.current() {
         SyntaxKind::LET_KW
         | SyntaxKind::UNDERSCORE
         | SyntaxKind::ASYNC_KW
         | SyntaxKind::STATIC_KW => true,
         SyntaxKind::L_ANGLE => {
-            if at_second(p, SyntaxKind::EQ) {
+            if p.at_second(SyntaxKind::EQ) {
                 return false;
             }
             true
         }
         SyntaxKind::FOR_KW => {
-            if at_second(p, SyntaxKind::L_ANGLE) {
+            if p.at_second(SyntaxKind::L_ANGLE) {
                 return true;
             }
             false
@@ -154,7 +151,7 @@ pub fn opt_jump_label(p: &mut Parser<'_>)
     ensures reads { (c : Condition) → Reads c rows.jump_label p.old p.new }
     ensures asks { Asks 1 p.old p.new }
 {
-    if at_new(p, SyntaxKind::LIFETIME_IDENT) {
+    if p.at_new(SyntaxKind::LIFETIME_IDENT) {
         lifetime(p);
     }
 }
@@ -166,10 +163,10 @@ pub fn label(p: &mut Parser<'_>)
     ensures reads { (c : Condition) → Reads c rows.label p.old p.new }
     ensures takes { Takes 4090 p.old p.new }
 {
-    let label = start(p);
+    let label = p.start();
     lifetime(p);
-    expect(p, SyntaxKind::COLON);
-    complete(p, label, SyntaxKind::LABEL);
+    p.expect(SyntaxKind::COLON);
+    label.complete(p, SyntaxKind::LABEL);
 }
 
 /// Takes `gen` and `move` before a closure, or before a block after `async`, if they are there.
@@ -178,8 +175,8 @@ pub fn opt_gen_move(p: &mut Parser<'_>)
     ensures reads { (c : Condition) → Reads c rows.gen_move p.old p.new }
     ensures asks { Asks 2 p.old p.new }
 {
-    eat(p, SyntaxKind::GEN_KW);
-    eat(p, SyntaxKind::MOVE_KW);
+    p.eat(SyntaxKind::GEN_KW);
+    p.eat(SyntaxKind::MOVE_KW);
 }
 
 /// Takes the words before a closure that stand there from `async` on, if they are there.
@@ -188,7 +185,7 @@ pub fn opt_async_to_move(p: &mut Parser<'_>)
     ensures reads { (c : Condition) → Reads c rows.async_to_move p.old p.new }
     ensures asks { Asks 3 p.old p.new }
 {
-    eat(p, SyntaxKind::ASYNC_KW);
+    p.eat(SyntaxKind::ASYNC_KW);
     opt_gen_move(p);
 }
 
@@ -198,7 +195,7 @@ pub fn opt_static_to_move(p: &mut Parser<'_>)
     ensures reads { (c : Condition) → Reads c rows.static_to_move p.old p.new }
     ensures asks { Asks 4 p.old p.new }
 {
-    eat(p, SyntaxKind::STATIC_KW);
+    p.eat(SyntaxKind::STATIC_KW);
     opt_async_to_move(p);
 }
 
@@ -208,7 +205,7 @@ pub fn opt_const_to_move(p: &mut Parser<'_>)
     ensures reads { (c : Condition) → Reads c rows.const_to_move p.old p.new }
     ensures asks { Asks 5 p.old p.new }
 {
-    eat(p, SyntaxKind::CONST_KW);
+    p.eat(SyntaxKind::CONST_KW);
     opt_static_to_move(p);
 }
 
@@ -219,7 +216,7 @@ pub fn words_from_async(p: &mut Parser<'_>)
     ensures reads { (c : Condition) → Reads c rows.words_from_async p.old p.new }
     ensures takes { Takes 4090 p.old p.new }
 {
-    take(p, SyntaxKind::ASYNC_KW);
+    p.take(SyntaxKind::ASYNC_KW);
     opt_gen_move(p);
 }
 
@@ -230,7 +227,7 @@ pub fn words_from_static(p: &mut Parser<'_>)
     ensures reads { (c : Condition) → Reads c rows.words_from_static p.old p.new }
     ensures takes { Takes 4090 p.old p.new }
 {
-    take(p, SyntaxKind::STATIC_KW);
+    p.take(SyntaxKind::STATIC_KW);
     opt_async_to_move(p);
 }
 
@@ -241,7 +238,7 @@ pub fn words_from_const(p: &mut Parser<'_>)
     ensures reads { (c : Condition) → Reads c rows.words_from_const p.old p.new }
     ensures takes { Takes 4090 p.old p.new }
 {
-    take(p, SyntaxKind::CONST_KW);
+    p.take(SyntaxKind::CONST_KW);
     opt_static_to_move(p);
 }
 
@@ -252,8 +249,8 @@ fn words_from_gen(p: &mut Parser<'_>)
     ensures reads { (c : Condition) → Reads c rows.words_from_gen p.old p.new }
     ensures takes { Takes 4090 p.old p.new }
 {
-    take(p, SyntaxKind::GEN_KW);
-    eat(p, SyntaxKind::MOVE_KW);
+    p.take(SyntaxKind::GEN_KW);
+    p.eat(SyntaxKind::MOVE_KW);
 }
 
 /// Takes the words before a block.
@@ -263,9 +260,9 @@ pub fn block_words(p: &mut Parser<'_>)
     ensures reads { (c : Condition) → Reads c rows.block_words p.old p.new }
     ensures takes { Takes 4080 p.old p.new }
 {
-    match current(p) {
-        SyntaxKind::CONST_KW => take(p, SyntaxKind::CONST_KW),
-        SyntaxKind::TRY_KW => take(p, SyntaxKind::TRY_KW),
+    match p.current() {
+        SyntaxKind::CONST_KW => p.take(SyntaxKind::CONST_KW),
+        SyntaxKind::TRY_KW => p.take(SyntaxKind::TRY_KW),
         SyntaxKind::ASYNC_KW => words_from_async(p),
         _ => words_from_gen(p),
     }

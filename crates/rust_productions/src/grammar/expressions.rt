@@ -15,8 +15,7 @@ use crate::grammar::names::at_literal;
 use crate::grammar::operands::at_new_mark;
 use crate::grammar::operators::{at_joint, range_mark};
 use crate::grammar::paths::at_path;
-use crate::grammar::{at, at_second, at_third, at_whole, current};
-use parser_events::parser::Parser;
+use crate::parser::Parser;
 use parser_input::syntax_kind::SyntaxKind;
 
 /// Returns `true` if a macro call with braces is next whose path is one identifier.
@@ -25,13 +24,13 @@ pub(crate) fn at_macro_block(p: &mut Parser<'_>) -> bool
     ensures some { IsTrue result → 1 ≤ tokens p.old }
     ensures peeks { Peeks 3 p.old p.new }
 {
-    if !at(p, SyntaxKind::IDENT) {
+    if !p.at(SyntaxKind::IDENT) {
         return false;
     }
-    if !at_second(p, SyntaxKind::BANG) {
+    if !p.at_second(SyntaxKind::BANG) {
         return false;
     }
-    if !at_third(p, SyntaxKind::L_CURLY) {
+    if !p.at_third(SyntaxKind::L_CURLY) {
         return false;
     }
     true
@@ -44,7 +43,7 @@ fn at_let(p: &mut Parser<'_>, condition: Condition) -> bool
     ensures peeks { Peeks 1 p.old p.new }
 {
     match condition {
-        Condition::On => at(p, SyntaxKind::LET_KW),
+        Condition::On => p.at(SyntaxKind::LET_KW),
         Condition::Off => false,
     }
 }
@@ -56,7 +55,7 @@ pub fn at_block_like(p: &mut Parser<'_>) -> bool
     ensures some { IsTrue result → 1 ≤ tokens p.old }
     ensures peeks { Peeks 5 p.old p.new }
 {
-    match current(p) {
+    match p.current() {
         SyntaxKind::L_CURLY
         | SyntaxKind::UNSAFE_KW
         | SyntaxKind::IF_KW
@@ -64,10 +63,10 @@ pub fn at_block_like(p: &mut Parser<'_>) -> bool
         | SyntaxKind::LOOP_KW
         | SyntaxKind::MATCH_KW => true,
         SyntaxKind::FOR_KW => {
-            if !at_whole(p) {
+            if !p.at_whole() {
                 return true;
             }
-            if at_second(p, SyntaxKind::L_ANGLE) {
+            if p.at_second(SyntaxKind::L_ANGLE) {
                 return false;
             }
             true
@@ -108,7 +107,7 @@ pub(crate) fn at_atom(p: &mut Parser<'_>, condition: Condition) -> bool
     if at_let(p, condition) {
         return true;
     }
-    match current(p) {
+    match p.current() {
         SyntaxKind::L_PAREN
         | SyntaxKind::L_BRACK
         | SyntaxKind::RETURN_KW
@@ -129,22 +128,22 @@ pub fn at_operand(p: &mut Parser<'_>, condition: Condition) -> bool
     if at_atom(p, condition) {
         return true;
     }
-    match current(p) {
+    match p.current() {
         SyntaxKind::MINUS | SyntaxKind::BANG | SyntaxKind::STAR | SyntaxKind::AMP => true,
         SyntaxKind::DOT => {
-            if !at_whole(p) {
+            if !p.at_whole() {
                 return false;
             }
             if !at_joint(p) {
                 return false;
             }
-            if at_second(p, SyntaxKind::DOT) {
+            if p.at_second(SyntaxKind::DOT) {
                 return true;
             }
             false
         }
         SyntaxKind::POUND => {
-            if at_whole(p) {
+            if p.at_whole() {
                 return true;
             }
             false
@@ -180,7 +179,7 @@ pub fn at_body(p: &mut Parser<'_>, condition: Condition) -> bool
     ensures peeks { Peeks 1 p.old p.new }
 {
     match condition {
-        Condition::On => at(p, SyntaxKind::L_CURLY),
+        Condition::On => p.at(SyntaxKind::L_CURLY),
         Condition::Off => false,
     }
 }

@@ -7,8 +7,7 @@ ghost use Rattle.rust_productions.specs.Reads.{looks, Saw, Condition};
 
 use crate::grammar::paths::at_path;
 use crate::grammar::patterns::at_named_field;
-use crate::grammar::{at_new, at_pair};
-use parser_events::parser::Parser;
+use crate::parser::Parser;
 use parser_input::syntax_kind::SyntaxKind;
 
 /// Returns `true` if a field of a record expression starts here.
@@ -17,7 +16,7 @@ pub fn at_field_value(p: &mut Parser<'_>) -> bool
     ensures some { IsTrue result → 1 ≤ tokens p.old }
     ensures peeks { Peeks 8 p.old p.new }
 {
-    if at_new(p, SyntaxKind::POUND) {
+    if p.at_new(SyntaxKind::POUND) {
         return true;
     }
     if at_path(p) {
@@ -26,7 +25,7 @@ pub fn at_field_value(p: &mut Parser<'_>) -> bool
     if at_named_field(p) {
         return true;
     }
-    if at_pair(p, SyntaxKind::DOT, SyntaxKind::DOT) {
+    if p.at_pair(SyntaxKind::DOT, SyntaxKind::DOT) {
         return true;
     }
     false

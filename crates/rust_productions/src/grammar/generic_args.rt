@@ -9,8 +9,7 @@ ghost use Rattle.rust_productions.specs.Reads.{looks, Saw, Condition};
 
 use crate::grammar::names::{at_literal, at_name_ref};
 use crate::grammar::types::at_type;
-use crate::grammar::{at, at_contextual, at_pair, at_second, at_whole, current, nth};
-use parser_events::parser::Parser;
+use crate::parser::Parser;
 use parser_input::syntax_kind::SyntaxKind;
 
 /// Returns `true` if `dyn` is next as an identifier, before a token that can follow `dyn` in the
@@ -19,10 +18,10 @@ fn at_dyn_before(p: &mut Parser<'_>) -> bool
     ensures sees { (c : Condition) → Saw c rows.dyn_word_begins p.old result }
     ensures peeks { Peeks 1 p.old p.new }
 {
-    if !at_contextual(p, SyntaxKind::DYN_KW) {
+    if !p.at_contextual(SyntaxKind::DYN_KW) {
         return false;
     }
-    match nth(p, 1) {
+    match p.nth(1) {
         SyntaxKind::QUESTION
         | SyntaxKind::LIFETIME_IDENT
         | SyntaxKind::L_PAREN
@@ -42,14 +41,14 @@ pub fn at_new_arg(p: &mut Parser<'_>) -> bool
     ensures some { IsTrue result → 1 ≤ tokens p.old }
     ensures peeks { Peeks 4 p.old p.new }
 {
-    if !at_whole(p) {
+    if !p.at_whole() {
         return false;
     }
-    if at(p, SyntaxKind::L_CURLY) {
+    if p.at(SyntaxKind::L_CURLY) {
         return true;
     }
-    if at(p, SyntaxKind::LIFETIME_IDENT) {
-        if at_second(p, SyntaxKind::PLUS) {
+    if p.at(SyntaxKind::LIFETIME_IDENT) {
+        if p.at_second(SyntaxKind::PLUS) {
             return true;
         }
         return false;
@@ -69,7 +68,7 @@ pub fn at_const_value(p: &mut Parser<'_>) -> bool
     ensures some { IsTrue result → 1 ≤ tokens p.old }
     ensures peeks { Peeks 1 p.old p.new }
 {
-    match current(p) {
+    match p.current() {
         SyntaxKind::L_CURLY
         | SyntaxKind::MINUS
         | SyntaxKind::INT_NUMBER
@@ -91,10 +90,10 @@ pub fn at_single_colon(p: &mut Parser<'_>) -> bool
     ensures some { IsTrue result → 1 ≤ tokens p.old }
     ensures peeks { Peeks 3 p.old p.new }
 {
-    if !at(p, SyntaxKind::COLON) {
+    if !p.at(SyntaxKind::COLON) {
         return false;
     }
-    if at_pair(p, SyntaxKind::COLON, SyntaxKind::COLON) {
+    if p.at_pair(SyntaxKind::COLON, SyntaxKind::COLON) {
         return false;
     }
     true
@@ -106,7 +105,7 @@ pub fn at_generic_arg(p: &mut Parser<'_>) -> bool
     ensures some { IsTrue result → 1 ≤ tokens p.old }
     ensures peeks { Peeks 24 p.old p.new }
 {
-    if at(p, SyntaxKind::IDENT) {
+    if p.at(SyntaxKind::IDENT) {
         return true;
     }
     if at_new_arg(p) {
@@ -118,7 +117,7 @@ pub fn at_generic_arg(p: &mut Parser<'_>) -> bool
     if at_literal(p) {
         return true;
     }
-    match current(p) {
+    match p.current() {
         SyntaxKind::LIFETIME_IDENT | SyntaxKind::MINUS => true,
         _ => false,
     }

@@ -14,8 +14,7 @@ ghost use Rattle.rust_productions.specs.Reads.{looks, Reads, Saw, Condition};
 use crate::grammar::names::lifetime;
 use crate::grammar::paths::at_path;
 use crate::grammar::types::at_type;
-use crate::grammar::{at, at_second, at_third, at_whole, complete, current, expect, start, take};
-use parser_events::parser::Parser;
+use crate::parser::Parser;
 use parser_input::syntax_kind::SyntaxKind;
 
 /// Returns `true` if a generic parameter of the whole language alone starts here: a const parameter
@@ -25,10 +24,10 @@ pub fn at_new_param(p: &mut Parser<'_>) -> bool
     ensures some { IsTrue result → 1 ≤ tokens p.old }
     ensures peeks { Peeks 1 p.old p.new }
 {
-    if !at_whole(p) {
+    if !p.at_whole() {
         return false;
     }
-    match current(p) {
+    match p.current() {
         SyntaxKind::CONST_KW | SyntaxKind::POUND => true,
         _ => false,
     }
@@ -43,7 +42,7 @@ pub fn at_generic_param(p: &mut Parser<'_>) -> bool
     if at_new_param(p) {
         return true;
     }
-    match current(p) {
+    match p.current() {
         SyntaxKind::LIFETIME_IDENT | SyntaxKind::IDENT => true,
         _ => false,
     }
@@ -55,10 +54,10 @@ pub fn at_binder(p: &mut Parser<'_>) -> bool
     ensures some { IsTrue result → 1 ≤ tokens p.old }
     ensures peeks { Peeks 2 p.old p.new }
 {
-    if !at(p, SyntaxKind::FOR_KW) {
+    if !p.at(SyntaxKind::FOR_KW) {
         return false;
     }
-    if at_second(p, SyntaxKind::L_ANGLE) {
+    if p.at_second(SyntaxKind::L_ANGLE) {
         return true;
     }
     false
@@ -70,10 +69,10 @@ pub fn at_captures(p: &mut Parser<'_>) -> bool
     ensures some { IsTrue result → 2 ≤ tokens p.old }
     ensures peeks { Peeks 2 p.old p.new }
 {
-    if !at_second(p, SyntaxKind::L_ANGLE) {
+    if !p.at_second(SyntaxKind::L_ANGLE) {
         return false;
     }
-    if at(p, SyntaxKind::USE_KW) {
+    if p.at(SyntaxKind::USE_KW) {
         return true;
     }
     false
@@ -85,7 +84,7 @@ pub fn at_captured(p: &mut Parser<'_>) -> bool
     ensures some { IsTrue result → 1 ≤ tokens p.old }
     ensures peeks { Peeks 1 p.old p.new }
 {
-    match current(p) {
+    match p.current() {
         SyntaxKind::LIFETIME_IDENT | SyntaxKind::IDENT | SyntaxKind::SELF_TYPE_KW => true,
         _ => false,
     }
@@ -99,7 +98,7 @@ pub fn captured(p: &mut Parser<'_>)
     ensures reads { (c : Condition) → Reads c rows.captured p.old p.new }
     ensures takes { Takes 4090 p.old p.new }
 {
-    match current(p) {
+    match p.current() {
         SyntaxKind::LIFETIME_IDENT => lifetime(p),
         _ => captured_name(p),
     }
@@ -112,9 +111,9 @@ fn captured_name(p: &mut Parser<'_>)
     ensures reads { (c : Condition) → Reads c (NAME_REF ⟨ One 'ident' or One 'Self' ⟩) p.old p.new }
     ensures takes { Takes 4095 p.old p.new }
 {
-    let name = start(p);
+    let name = p.start();
     captured_word(p);
-    complete(p, name, SyntaxKind::NAME_REF);
+    name.complete(p, SyntaxKind::NAME_REF);
 }
 
 /// Takes an identifier, or `Self`.
@@ -124,9 +123,9 @@ fn captured_word(p: &mut Parser<'_>)
     ensures reads { (c : Condition) → Reads c (One 'ident' or One 'Self') p.old p.new }
     ensures takes { Takes 4095 p.old p.new }
 {
-    match current(p) {
-        SyntaxKind::IDENT => take(p, SyntaxKind::IDENT),
-        _ => take(p, SyntaxKind::SELF_TYPE_KW),
+    match p.current() {
+        SyntaxKind::IDENT => p.take(SyntaxKind::IDENT),
+        _ => p.take(SyntaxKind::SELF_TYPE_KW),
     }
 }
 
@@ -137,28 +136,28 @@ pub fn at_new_bound(p: &mut Parser<'_>) -> bool
     ensures some { IsTrue result → 1 ≤ tokens p.old }
     ensures peeks { Peeks 3 p.old p.new }
 {
-    if !at_whole(p) {
+    if !p.at_whole() {
         return false;
     }
-    match current(p) {
+    match p.current() {
         SyntaxKind::L_PAREN | SyntaxKind::ASYNC_KW | SyntaxKind::CONST_KW => true,
         SyntaxKind::TILDE => {
-            if at_second(p, SyntaxKind::CONST_KW) {
+            if p.at_second(SyntaxKind::CONST_KW) {
                 return true;
             }
             false
         }
         SyntaxKind::FOR_KW | SyntaxKind::USE_KW => {
-            if at_second(p, SyntaxKind::L_ANGLE) {
+            if p.at_second(SyntaxKind::L_ANGLE) {
                 return true;
             }
             false
         }
         SyntaxKind::L_BRACK => {
-            if !at_second(p, SyntaxKind::CONST_KW) {
+            if !p.at_second(SyntaxKind::CONST_KW) {
                 return false;
             }
-            if at_third(p, SyntaxKind::R_BRACK) {
+            if p.at_third(SyntaxKind::R_BRACK) {
                 return true;
             }
             false
@@ -173,18 +172,18 @@ pub fn opt_const_words(p: &mut Parser<'_>)
     ensures reads { (c : Condition) → Reads c rows.const_words p.old p.new }
     ensures asks { Asks 1 p.old p.new }
 {
-    match current(p) {
+    match p.current() {
         SyntaxKind::TILDE => {
-            take(p, SyntaxKind::TILDE);
-            expect(p, SyntaxKind::CONST_KW);
+            p.take(SyntaxKind::TILDE);
+            p.expect(SyntaxKind::CONST_KW);
         }
         SyntaxKind::L_BRACK => {
-            take(p, SyntaxKind::L_BRACK);
-            expect(p, SyntaxKind::CONST_KW);
-            expect(p, SyntaxKind::R_BRACK);
+            p.take(SyntaxKind::L_BRACK);
+            p.expect(SyntaxKind::CONST_KW);
+            p.expect(SyntaxKind::R_BRACK);
         }
         SyntaxKind::CONST_KW => {
-            take(p, SyntaxKind::CONST_KW);
+            p.take(SyntaxKind::CONST_KW);
         }
         _ => {}
     }
@@ -202,7 +201,7 @@ pub fn at_bound(p: &mut Parser<'_>) -> bool
     if at_new_bound(p) {
         return true;
     }
-    match current(p) {
+    match p.current() {
         SyntaxKind::LIFETIME_IDENT | SyntaxKind::QUESTION => true,
         _ => false,
     }
@@ -214,7 +213,7 @@ pub fn at_new_pred(p: &mut Parser<'_>) -> bool
     ensures some { IsTrue result → 1 ≤ tokens p.old }
     ensures peeks { Peeks 2 p.old p.new }
 {
-    if !at_whole(p) {
+    if !p.at_whole() {
         return false;
     }
     if at_binder(p) {
@@ -232,7 +231,7 @@ pub fn at_where_pred(p: &mut Parser<'_>) -> bool
     if at_new_pred(p) {
         return true;
     }
-    if at(p, SyntaxKind::LIFETIME_IDENT) {
+    if p.at(SyntaxKind::LIFETIME_IDENT) {
         return true;
     }
     if at_type(p) {

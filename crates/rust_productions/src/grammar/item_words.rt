@@ -9,11 +9,7 @@ ghost use Rattle.rust_grammar.specs.Words.{'async', 'const', 'contextual_auto', 
 ghost use Rattle.rust_productions.specs.Looks.{tokens, Takes, Asks, Peeks};
 ghost use Rattle.rust_productions.specs.Reads.{Reads, Saw, Condition};
 
-use crate::grammar::{
-    at, at_contextual, at_second, at_second_contextual, at_third, at_whole, complete, current, eat,
-    nth, start, take, take_contextual,
-};
-use parser_events::parser::Parser;
+use crate::parser::Parser;
 use parser_input::syntax_kind::SyntaxKind;
 
 /// Returns `true` if a `const` is next that is a word before an item.
@@ -22,10 +18,10 @@ pub fn at_const_word(p: &mut Parser<'_>) -> bool
     ensures some { IsTrue result → 1 ≤ tokens p.old }
     ensures peeks { Peeks 2 p.old p.new }
 {
-    if !at(p, SyntaxKind::CONST_KW) {
+    if !p.at(SyntaxKind::CONST_KW) {
         return false;
     }
-    match nth(p, 1) {
+    match p.nth(1) {
         SyntaxKind::ASYNC_KW
         | SyntaxKind::UNSAFE_KW
         | SyntaxKind::EXTERN_KW
@@ -43,13 +39,13 @@ pub fn at_async_word(p: &mut Parser<'_>) -> bool
     ensures some { IsTrue result → 1 ≤ tokens p.old }
     ensures peeks { Peeks 3 p.old p.new }
 {
-    if !at(p, SyntaxKind::ASYNC_KW) {
+    if !p.at(SyntaxKind::ASYNC_KW) {
         return false;
     }
-    match nth(p, 1) {
+    match p.nth(1) {
         SyntaxKind::FN_KW | SyntaxKind::UNSAFE_KW | SyntaxKind::EXTERN_KW => true,
         SyntaxKind::GEN_KW => {
-            if at_third(p, SyntaxKind::FN_KW) {
+            if p.at_third(SyntaxKind::FN_KW) {
                 return true;
             }
             false
@@ -64,10 +60,10 @@ pub fn at_gen_word(p: &mut Parser<'_>) -> bool
     ensures some { IsTrue result → 1 ≤ tokens p.old }
     ensures peeks { Peeks 2 p.old p.new }
 {
-    if !at(p, SyntaxKind::GEN_KW) {
+    if !p.at(SyntaxKind::GEN_KW) {
         return false;
     }
-    if at_second(p, SyntaxKind::FN_KW) {
+    if p.at_second(SyntaxKind::FN_KW) {
         return true;
     }
     false
@@ -79,10 +75,10 @@ pub fn at_unsafe_word(p: &mut Parser<'_>) -> bool
     ensures some { IsTrue result → 1 ≤ tokens p.old }
     ensures peeks { Peeks 2 p.old p.new }
 {
-    if !at(p, SyntaxKind::UNSAFE_KW) {
+    if !p.at(SyntaxKind::UNSAFE_KW) {
         return false;
     }
-    match nth(p, 1) {
+    match p.nth(1) {
         SyntaxKind::FN_KW
         | SyntaxKind::IMPL_KW
         | SyntaxKind::TRAIT_KW
@@ -91,10 +87,10 @@ pub fn at_unsafe_word(p: &mut Parser<'_>) -> bool
         | SyntaxKind::CONST_KW
         | SyntaxKind::TYPE_KW => true,
         _ => {
-            if at_second_contextual(p, SyntaxKind::AUTO_KW) {
+            if p.at_second_contextual(SyntaxKind::AUTO_KW) {
                 return true;
             }
-            if at_second_contextual(p, SyntaxKind::DEFAULT_KW) {
+            if p.at_second_contextual(SyntaxKind::DEFAULT_KW) {
                 return true;
             }
             false
@@ -108,10 +104,10 @@ pub fn at_safe_word(p: &mut Parser<'_>) -> bool
     ensures some { IsTrue result → 1 ≤ tokens p.old }
     ensures peeks { Peeks 1 p.old p.new }
 {
-    if !at_contextual(p, SyntaxKind::SAFE_KW) {
+    if !p.at_contextual(SyntaxKind::SAFE_KW) {
         return false;
     }
-    match nth(p, 1) {
+    match p.nth(1) {
         SyntaxKind::FN_KW | SyntaxKind::STATIC_KW | SyntaxKind::EXTERN_KW => true,
         _ => false,
     }
@@ -123,10 +119,10 @@ pub fn at_auto_word(p: &mut Parser<'_>) -> bool
     ensures some { IsTrue result → 1 ≤ tokens p.old }
     ensures peeks { Peeks 1 p.old p.new }
 {
-    if !at_contextual(p, SyntaxKind::AUTO_KW) {
+    if !p.at_contextual(SyntaxKind::AUTO_KW) {
         return false;
     }
-    if at_second(p, SyntaxKind::TRAIT_KW) {
+    if p.at_second(SyntaxKind::TRAIT_KW) {
         return true;
     }
     false
@@ -138,10 +134,10 @@ fn at_default_word(p: &mut Parser<'_>) -> bool
     ensures some { IsTrue result → 1 ≤ tokens p.old }
     ensures peeks { Peeks 1 p.old p.new }
 {
-    if !at_contextual(p, SyntaxKind::DEFAULT_KW) {
+    if !p.at_contextual(SyntaxKind::DEFAULT_KW) {
         return false;
     }
-    match nth(p, 1) {
+    match p.nth(1) {
         SyntaxKind::FN_KW
         | SyntaxKind::TYPE_KW
         | SyntaxKind::CONST_KW
@@ -158,10 +154,10 @@ fn at_extern_word(p: &mut Parser<'_>) -> bool
     ensures some { IsTrue result → 1 ≤ tokens p.old }
     ensures peeks { Peeks 2 p.old p.new }
 {
-    if !at(p, SyntaxKind::EXTERN_KW) {
+    if !p.at(SyntaxKind::EXTERN_KW) {
         return false;
     }
-    if at_second(p, SyntaxKind::CRATE_KW) {
+    if p.at_second(SyntaxKind::CRATE_KW) {
         return false;
     }
     true
@@ -206,10 +202,10 @@ pub fn at_extern_crate(p: &mut Parser<'_>) -> bool
     ensures some { IsTrue result → 2 ≤ tokens p.old }
     ensures peeks { Peeks 2 p.old p.new }
 {
-    if !at(p, SyntaxKind::EXTERN_KW) {
+    if !p.at(SyntaxKind::EXTERN_KW) {
         return false;
     }
-    if at_second(p, SyntaxKind::CRATE_KW) {
+    if p.at_second(SyntaxKind::CRATE_KW) {
         return true;
     }
     false
@@ -221,10 +217,10 @@ pub fn at_union(p: &mut Parser<'_>) -> bool
     ensures some { IsTrue result → 2 ≤ tokens p.old }
     ensures peeks { Peeks 1 p.old p.new }
 {
-    if !at_contextual(p, SyntaxKind::UNION_KW) {
+    if !p.at_contextual(SyntaxKind::UNION_KW) {
         return false;
     }
-    if at_second(p, SyntaxKind::IDENT) {
+    if p.at_second(SyntaxKind::IDENT) {
         return true;
     }
     false
@@ -236,13 +232,13 @@ pub fn at_macro_rules(p: &mut Parser<'_>) -> bool
     ensures some { IsTrue result → 3 ≤ tokens p.old }
     ensures peeks { Peeks 2 p.old p.new }
 {
-    if !at_contextual(p, SyntaxKind::MACRO_RULES_KW) {
+    if !p.at_contextual(SyntaxKind::MACRO_RULES_KW) {
         return false;
     }
-    if !at_second(p, SyntaxKind::BANG) {
+    if !p.at_second(SyntaxKind::BANG) {
         return false;
     }
-    if at_third(p, SyntaxKind::IDENT) {
+    if p.at_third(SyntaxKind::IDENT) {
         return true;
     }
     false
@@ -255,7 +251,7 @@ pub fn at_new_item(p: &mut Parser<'_>) -> bool
     ensures some { IsTrue result → 1 ≤ tokens p.old }
     ensures peeks { Peeks 20 p.old p.new }
 {
-    if !at_whole(p) {
+    if !p.at_whole() {
         return false;
     }
     if at_extern_crate(p) {
@@ -267,7 +263,7 @@ pub fn at_new_item(p: &mut Parser<'_>) -> bool
     if at_macro_rules(p) {
         return true;
     }
-    if at(p, SyntaxKind::MACRO_KW) {
+    if p.at(SyntaxKind::MACRO_KW) {
         return true;
     }
     if at_words(p) {
@@ -282,10 +278,10 @@ fn at_unsafe_after_default(p: &mut Parser<'_>) -> bool
     ensures some { IsTrue result → 1 ≤ tokens p.old }
     ensures peeks { Peeks 2 p.old p.new }
 {
-    if !at(p, SyntaxKind::UNSAFE_KW) {
+    if !p.at(SyntaxKind::UNSAFE_KW) {
         return false;
     }
-    match nth(p, 1) {
+    match p.nth(1) {
         SyntaxKind::FN_KW | SyntaxKind::IMPL_KW => true,
         _ => false,
     }
@@ -298,7 +294,7 @@ pub fn opt_async_word(p: &mut Parser<'_>)
     ensures asks { Asks 3 p.old p.new }
 {
     if at_async_word(p) {
-        take(p, SyntaxKind::ASYNC_KW);
+        p.take(SyntaxKind::ASYNC_KW);
     }
 }
 
@@ -309,7 +305,7 @@ pub fn opt_gen_word(p: &mut Parser<'_>)
     ensures asks { Asks 2 p.old p.new }
 {
     if at_gen_word(p) {
-        take(p, SyntaxKind::GEN_KW);
+        p.take(SyntaxKind::GEN_KW);
     }
 }
 
@@ -320,29 +316,31 @@ pub fn opt_unsafe_word(p: &mut Parser<'_>)
     ensures asks { Asks 2 p.old p.new }
 {
     if at_unsafe_word(p) {
-        take(p, SyntaxKind::UNSAFE_KW);
+        p.take(SyntaxKind::UNSAFE_KW);
     }
 }
 
 /// Parses an optional `safe` before an item.
 // safe
 pub fn opt_safe_word(p: &mut Parser<'_>)
-    ensures reads { (c : Condition) → Reads c ⁅ When rows.safe_word (One 'contextual_safe') ⁆ p.old p.new }
+    ensures reads { (c : Condition)
+        → Reads c ⁅ When rows.safe_word (One 'contextual_safe') ⁆ p.old p.new }
     ensures asks { Asks 1 p.old p.new }
 {
     if at_safe_word(p) {
-        take_contextual(p, SyntaxKind::SAFE_KW);
+        p.take_contextual(SyntaxKind::SAFE_KW);
     }
 }
 
 /// Parses an optional `auto` before an item.
 // auto
 pub fn opt_auto_word(p: &mut Parser<'_>)
-    ensures reads { (c : Condition) → Reads c ⁅ When rows.auto_word (One 'contextual_auto') ⁆ p.old p.new }
+    ensures reads { (c : Condition)
+        → Reads c ⁅ When rows.auto_word (One 'contextual_auto') ⁆ p.old p.new }
     ensures asks { Asks 1 p.old p.new }
 {
     if at_auto_word(p) {
-        take_contextual(p, SyntaxKind::AUTO_KW);
+        p.take_contextual(SyntaxKind::AUTO_KW);
     }
 }
 
@@ -353,7 +351,7 @@ pub fn opt_unsafe_after_default(p: &mut Parser<'_>)
     ensures asks { Asks 2 p.old p.new }
 {
     if at_unsafe_after_default(p) {
-        take(p, SyntaxKind::UNSAFE_KW);
+        p.take(SyntaxKind::UNSAFE_KW);
     }
 }
 
@@ -364,8 +362,8 @@ pub fn opt_default_words(p: &mut Parser<'_>)
     ensures asks { Asks 1 p.old p.new }
 {
     if at_default_word(p) {
-        take_contextual(p, SyntaxKind::DEFAULT_KW);
-        eat(p, SyntaxKind::ASYNC_KW);
+        p.take_contextual(SyntaxKind::DEFAULT_KW);
+        p.eat(SyntaxKind::ASYNC_KW);
         opt_unsafe_after_default(p);
     }
 }
@@ -377,10 +375,10 @@ pub fn read_abi(p: &mut Parser<'_>)
     ensures reads { (c : Condition) → Reads c abi p.old p.new }
     ensures takes { Takes 4090 p.old p.new }
 {
-    let node = start(p);
-    take(p, SyntaxKind::EXTERN_KW);
-    eat(p, SyntaxKind::STRING);
-    complete(p, node, SyntaxKind::ABI);
+    let node = p.start();
+    p.take(SyntaxKind::EXTERN_KW);
+    p.eat(SyntaxKind::STRING);
+    node.complete(p, SyntaxKind::ABI);
 }
 
 /// Parses an optional ABI.
@@ -389,7 +387,7 @@ pub fn opt_abi(p: &mut Parser<'_>)
     ensures reads { (c : Condition) → Reads c ⁅ abi ⁆ p.old p.new }
     ensures asks { Asks 1 p.old p.new }
 {
-    if at(p, SyntaxKind::EXTERN_KW) {
+    if p.at(SyntaxKind::EXTERN_KW) {
         read_abi(p);
     }
 }

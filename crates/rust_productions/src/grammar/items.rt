@@ -17,12 +17,9 @@ ghost use Rattle.rust_productions.specs.Starts.{Starts, FollowsUnsafe};
 use crate::grammar::paths::path;
 use crate::grammar::token_trees::{expect_token_tree, token_tree};
 use crate::grammar::use_trees::expect_use_tree;
-use crate::grammar::{
-    abandon, at, at_new, at_second, at_whole, complete, current, eat, error, expect, nth, skip,
-    take,
-};
+use crate::marker::Marker;
+use crate::parser::Parser;
 use parser_events::message::Message;
-use parser_events::parser::{Marker, Parser};
 use parser_input::syntax_kind::SyntaxKind;
 
 /// Returns `true` if a function starts here.
@@ -31,7 +28,7 @@ pub fn at_fn(p: &mut Parser<'_>) -> bool
     ensures some { IsTrue result → 1 ≤ tokens p.old }
     ensures peeks { Peeks 2 p.old p.new }
 {
-    match current(p) {
+    match p.current() {
         SyntaxKind::FN_KW => true,
         SyntaxKind::CONST_KW => at_fn_after_const(p),
         SyntaxKind::UNSAFE_KW => at_fn_after_unsafe(p),
@@ -45,7 +42,7 @@ fn at_fn_after_const(p: &mut Parser<'_>) -> bool
     ensures sees { (c : Condition) → Saw c fn_begins p.old result }
     ensures peeks { Peeks 1 p.old p.new }
 {
-    match nth(p, 1) {
+    match p.nth(1) {
         SyntaxKind::FN_KW | SyntaxKind::UNSAFE_KW => true,
         _ => false,
     }
@@ -57,7 +54,7 @@ fn at_fn_after_unsafe(p: &mut Parser<'_>) -> bool
     ensures sees { (c : Condition) → Saw c fn_begins p.old result }
     ensures peeks { Peeks 1 p.old p.new }
 {
-    match nth(p, 1) {
+    match p.nth(1) {
         SyntaxKind::FN_KW => true,
         _ => false,
     }
@@ -68,20 +65,21 @@ fn at_fn_after_unsafe(p: &mut Parser<'_>) -> bool
 pub fn fn_words(p: &mut Parser<'_>)
     requires begins { (c : Condition) → Saw c fn_begins p.old true }
     requires some { 1 ≤ tokens p.old }
-    ensures reads { (c : Condition) → Reads c (⁅ One 'const' ⁆ ▸ ⁅ One 'unsafe' ⁆ ▸ One 'fn' !) p.old p.new }
+    ensures reads { (c : Condition)
+        → Reads c (⁅ One 'const' ⁆ ▸ ⁅ One 'unsafe' ⁆ ▸ One 'fn' !) p.old p.new }
     ensures takes { Takes 4090 p.old p.new }
 {
-    match current(p) {
+    match p.current() {
         SyntaxKind::CONST_KW => {
-            take(p, SyntaxKind::CONST_KW);
-            eat(p, SyntaxKind::UNSAFE_KW);
-            expect(p, SyntaxKind::FN_KW);
+            p.take(SyntaxKind::CONST_KW);
+            p.eat(SyntaxKind::UNSAFE_KW);
+            p.expect(SyntaxKind::FN_KW);
         }
         SyntaxKind::UNSAFE_KW => {
-            take(p, SyntaxKind::UNSAFE_KW);
-            expect(p, SyntaxKind::FN_KW);
+            p.take(SyntaxKind::UNSAFE_KW);
+            p.expect(SyntaxKind::FN_KW);
         }
-        _ => take(p, SyntaxKind::FN_KW),
+        _ => p.take(SyntaxKind::FN_KW),
     }
 }
 
@@ -92,13 +90,13 @@ pub fn at_unsafe(p: &mut Parser<'_>, word: SyntaxKind) -> bool
     ensures some { IsTrue result → raw_of word ≢ kinds.EOF → 1 ≤ tokens p.old }
     ensures peeks { Peeks 3 p.old p.new }
 {
-    if at(p, word) {
+    if p.at(word) {
         return true;
     }
-    if !at(p, SyntaxKind::UNSAFE_KW) {
+    if !p.at(SyntaxKind::UNSAFE_KW) {
         return false;
     }
-    at_second(p, word)
+    p.at_second(word)
 }
 
 /// Parses an optional `unsafe` and `word`.
@@ -107,15 +105,16 @@ pub fn unsafe_word(p: &mut Parser<'_>, word: SyntaxKind)
     requires begins { Starts
         (Either (next (one (raw_of word))) ('unsafe' before one (raw_of word))) p.old }
     requires word { FollowsUnsafe (raw_of word) }
-    ensures reads { (c : Condition) → Reads c (⁅ One 'unsafe' ⁆ ▸ One (one (raw_of word))) p.old p.new }
+    ensures reads { (c : Condition)
+        → Reads c (⁅ One 'unsafe' ⁆ ▸ One (one (raw_of word))) p.old p.new }
     ensures takes { Takes 4095 p.old p.new }
 {
-    if at(p, word) {
-        take(p, word);
+    if p.at(word) {
+        p.take(word);
         return;
     }
-    take(p, SyntaxKind::UNSAFE_KW);
-    take(p, word);
+    p.take(SyntaxKind::UNSAFE_KW);
+    p.take(word);
 }
 
 /// Parses a use declaration, and completes its node.
@@ -126,10 +125,10 @@ pub fn use_item(p: &mut Parser<'_>, item: Marker)
     ensures completes { (c : Condition) → Completes c rows.use_item p.old p.new }
     ensures takes { Takes 4080 p.old p.new }
 {
-    take(p, SyntaxKind::USE_KW);
+    p.take(SyntaxKind::USE_KW);
     expect_use_tree(p);
-    expect(p, SyntaxKind::SEMICOLON);
-    complete(p, item, SyntaxKind::USE);
+    p.expect(SyntaxKind::SEMICOLON);
+    item.complete(p, SyntaxKind::USE);
 }
 
 /// Parses a macro call as an item, and completes its node; emits an error after a path that is no
@@ -152,14 +151,14 @@ fn after_path(p: &mut Parser<'_>, item: Marker)
     ensures completes { (c : Condition) → Completes c rows.after_path p.old p.new }
     ensures asks { Asks 3 p.old p.new }
 {
-    if at(p, SyntaxKind::BANG) {
-        take(p, SyntaxKind::BANG);
+    if p.at(SyntaxKind::BANG) {
+        p.take(SyntaxKind::BANG);
         macro_tokens(p);
-        complete(p, item, SyntaxKind::MACRO_CALL);
+        item.complete(p, SyntaxKind::MACRO_CALL);
         return;
     }
-    error(p, Message::ExpectedItem);
-    complete(p, item, SyntaxKind::ERROR);
+    p.error(Message::ExpectedItem);
+    item.complete(p, SyntaxKind::ERROR);
 }
 
 /// Parses the token tree of a macro call, and a `;` unless it is in braces.
@@ -168,12 +167,12 @@ pub(crate) fn macro_tokens(p: &mut Parser<'_>)
     ensures reads { (c : Condition) → Reads c rows.macro_tokens p.old p.new }
     ensures asks { Asks 3 p.old p.new }
 {
-    if at(p, SyntaxKind::L_CURLY) {
+    if p.at(SyntaxKind::L_CURLY) {
         token_tree(p);
         return;
     }
     expect_token_tree(p);
-    expect(p, SyntaxKind::SEMICOLON);
+    p.expect(SyntaxKind::SEMICOLON);
 }
 
 /// Completes the node of a missing item. After attributes or a visibility emits an error,
@@ -185,20 +184,21 @@ pub fn no_item(p: &mut Parser<'_>, item: Marker, given: bool)
     ensures takes { TakesUnless given 4090 0 p.old p.new }
 {
     if given {
-        error(p, Message::ExpectedItem);
-        complete(p, item, SyntaxKind::ERROR);
+        p.error(Message::ExpectedItem);
+        item.complete(p, SyntaxKind::ERROR);
         return;
     }
-    skip(p, Message::ExpectedItem);
-    abandon(p, item);
+    p.skip(Message::ExpectedItem);
+    item.abandon(p);
 }
 
 /// Returns `true` if the third token can follow the name of a generic parameter.
 fn at_param_end(p: &mut Parser<'_>) -> bool
-    ensures sees { (c : Condition) → Saw c (one_of 2 ('>' ∷ 'comma' ∷ ':' ∷ '=' ∷ [])) p.old result }
+    ensures sees { (c : Condition)
+        → Saw c (one_of 2 ('>' ∷ 'comma' ∷ ':' ∷ '=' ∷ [])) p.old result }
     ensures peeks { Peeks 1 p.old p.new }
 {
-    match nth(p, 2) {
+    match p.nth(2) {
         SyntaxKind::R_ANGLE | SyntaxKind::COMMA | SyntaxKind::COLON | SyntaxKind::EQ => true,
         _ => false,
     }
@@ -209,13 +209,13 @@ fn at_type_after_impl(p: &mut Parser<'_>) -> bool
     ensures sees { (c : Condition) → Saw c (wide (Not rows.impl_params_begin)) p.old result }
     ensures peeks { Peeks 3 p.old p.new }
 {
-    if !at_whole(p) {
+    if !p.at_whole() {
         return false;
     }
-    if !at(p, SyntaxKind::L_ANGLE) {
+    if !p.at(SyntaxKind::L_ANGLE) {
         return true;
     }
-    match nth(p, 1) {
+    match p.nth(1) {
         SyntaxKind::POUND | SyntaxKind::R_ANGLE | SyntaxKind::CONST_KW => false,
         SyntaxKind::LIFETIME_IDENT | SyntaxKind::IDENT => {
             if at_param_end(p) {
@@ -230,14 +230,15 @@ fn at_type_after_impl(p: &mut Parser<'_>) -> bool
 /// Returns `true` if the parameters of an implementation start here.
 pub fn at_impl_params(p: &mut Parser<'_>) -> bool
     ensures sees { (c : Condition) → Saw c (begins looks rows.impl_params) p.old result }
-    ensures goes { IsTrue result → (c : Condition) → Saw c (wide (Not rows.impl_params_begin)) p.old false }
+    ensures goes { IsTrue result → (c : Condition)
+        → Saw c (wide (Not rows.impl_params_begin)) p.old false }
     ensures some { IsTrue result → 1 ≤ tokens p.old }
     ensures peeks { Peeks 4 p.old p.new }
 {
     if at_type_after_impl(p) {
         return false;
     }
-    if at(p, SyntaxKind::L_ANGLE) {
+    if p.at(SyntaxKind::L_ANGLE) {
         return true;
     }
     false
@@ -249,8 +250,8 @@ pub fn opt_const_before_trait(p: &mut Parser<'_>)
     ensures reads { (c : Condition) → Reads c rows.const_before_trait p.old p.new }
     ensures asks { Asks 1 p.old p.new }
 {
-    if at_new(p, SyntaxKind::CONST_KW) {
-        take(p, SyntaxKind::CONST_KW);
+    if p.at_new(SyntaxKind::CONST_KW) {
+        p.take(SyntaxKind::CONST_KW);
     }
 }
 
@@ -260,13 +261,13 @@ fn at_negation(p: &mut Parser<'_>) -> bool
     ensures some { IsTrue result → 1 ≤ tokens p.old }
     ensures peeks { Peeks 2 p.old p.new }
 {
-    if !at_whole(p) {
+    if !p.at_whole() {
         return false;
     }
-    if !at(p, SyntaxKind::BANG) {
+    if !p.at(SyntaxKind::BANG) {
         return false;
     }
-    match nth(p, 1) {
+    match p.nth(1) {
         SyntaxKind::L_CURLY | SyntaxKind::FOR_KW | SyntaxKind::WHERE_KW => false,
         _ => true,
     }
@@ -279,7 +280,7 @@ pub fn opt_negation(p: &mut Parser<'_>)
     ensures asks { Asks 2 p.old p.new }
 {
     if at_negation(p) {
-        take(p, SyntaxKind::BANG);
+        p.take(SyntaxKind::BANG);
     }
 }
 
@@ -289,7 +290,7 @@ pub fn opt_unsafe_field(p: &mut Parser<'_>)
     ensures reads { (c : Condition) → Reads c rows.unsafe_field p.old p.new }
     ensures asks { Asks 1 p.old p.new }
 {
-    if at_new(p, SyntaxKind::UNSAFE_KW) {
-        take(p, SyntaxKind::UNSAFE_KW);
+    if p.at_new(SyntaxKind::UNSAFE_KW) {
+        p.take(SyntaxKind::UNSAFE_KW);
     }
 }

@@ -9,9 +9,8 @@ ghost use Rattle.rust_grammar.specs.Notation.{until, separator, unexpected};
 ghost use Rattle.rust_grammar.specs.Words.{one};
 ghost use Rattle.rust_productions.specs.Reads.{Reads, Saw, Condition};
 
-use crate::grammar::{at, current, error, take};
+use crate::parser::Parser;
 use parser_events::message::Message;
-use parser_events::parser::Parser;
 use parser_input::syntax_kind::SyntaxKind;
 
 /// Returns `true` if no token is left.
@@ -19,7 +18,7 @@ pub(crate) fn at_end(p: &mut Parser<'_>) -> bool
     ensures sees { (c : Condition) → Saw c notation.at_end p.old result }
     ensures peeks { Peeks 1 p.old p.new }
 {
-    match current(p) {
+    match p.current() {
         SyntaxKind::EOF => true,
         _ => false,
     }
@@ -33,7 +32,7 @@ pub fn at_list_end(p: &mut Parser<'_>, closing: SyntaxKind) -> bool
     if at_end(p) {
         return true;
     }
-    at(p, closing)
+    p.at(closing)
 }
 
 /// Returns `true` if a token is next that a list skips into an error.
@@ -42,7 +41,7 @@ pub fn at_unexpected(p: &mut Parser<'_>) -> bool
     ensures some { IsTrue result → 1 ≤ tokens p.old }
     ensures peeks { Peeks 1 p.old p.new }
 {
-    match current(p) {
+    match p.current() {
         SyntaxKind::SEMICOLON
         | SyntaxKind::L_CURLY
         | SyntaxKind::R_CURLY
@@ -59,12 +58,12 @@ pub fn comma(p: &mut Parser<'_>, closing: SyntaxKind)
     ensures asks { Asks 2 p.old p.new }
     ensures pays { tokens p.new < tokens p.old → spent p.new + 4000 ≤ spent p.old }
 {
-    if at(p, SyntaxKind::COMMA) {
-        take(p, SyntaxKind::COMMA);
+    if p.at(SyntaxKind::COMMA) {
+        p.take(SyntaxKind::COMMA);
         return;
     }
-    if at(p, closing) {
+    if p.at(closing) {
         return;
     }
-    error(p, Message::Expected(SyntaxKind::COMMA));
+    p.error(Message::Expected(SyntaxKind::COMMA));
 }

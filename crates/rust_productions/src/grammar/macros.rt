@@ -13,9 +13,9 @@ use crate::grammar::items::macro_tokens;
 use crate::grammar::names::{expect_name, name};
 use crate::grammar::token_trees::{expect_token_tree, token_tree};
 use crate::grammar::use_trees::opt_rename;
-use crate::grammar::{at, complete, current, error, expect, start, take, take_contextual};
+use crate::marker::Marker;
+use crate::parser::Parser;
 use parser_events::message::Message;
-use parser_events::parser::{Marker, Parser};
 use parser_input::syntax_kind::SyntaxKind;
 
 /// Parses an extern crate, and completes its node.
@@ -26,12 +26,12 @@ pub fn extern_crate(p: &mut Parser<'_>, item: Marker)
     ensures completes { (c : Condition) → Completes c rows.extern_crate p.old p.new }
     ensures takes { Takes 4090 p.old p.new }
 {
-    take(p, SyntaxKind::EXTERN_KW);
-    take(p, SyntaxKind::CRATE_KW);
+    p.take(SyntaxKind::EXTERN_KW);
+    p.take(SyntaxKind::CRATE_KW);
     expect_crate_name(p);
     opt_rename(p);
-    expect(p, SyntaxKind::SEMICOLON);
-    complete(p, item, SyntaxKind::EXTERN_CRATE);
+    p.expect(SyntaxKind::SEMICOLON);
+    item.complete(p, SyntaxKind::EXTERN_CRATE);
 }
 
 /// Takes an identifier, or `self`.
@@ -41,9 +41,9 @@ fn ident_or_self(p: &mut Parser<'_>)
     ensures reads { (c : Condition) → Reads c (One 'ident' or One 'self') p.old p.new }
     ensures takes { Takes 4095 p.old p.new }
 {
-    match current(p) {
-        SyntaxKind::IDENT => take(p, SyntaxKind::IDENT),
-        _ => take(p, SyntaxKind::SELF_KW),
+    match p.current() {
+        SyntaxKind::IDENT => p.take(SyntaxKind::IDENT),
+        _ => p.take(SyntaxKind::SELF_KW),
     }
 }
 
@@ -53,7 +53,7 @@ fn at_crate_name(p: &mut Parser<'_>) -> bool
     ensures some { IsTrue result → 1 ≤ tokens p.old }
     ensures peeks { Peeks 1 p.old p.new }
 {
-    match current(p) {
+    match p.current() {
         SyntaxKind::IDENT | SyntaxKind::SELF_KW => true,
         _ => false,
     }
@@ -66,9 +66,9 @@ fn crate_name(p: &mut Parser<'_>)
     ensures reads { (c : Condition) → Reads c rows.crate_name p.old p.new }
     ensures takes { Takes 4095 p.old p.new }
 {
-    let name = start(p);
+    let name = p.start();
     ident_or_self(p);
-    complete(p, name, SyntaxKind::NAME_REF);
+    name.complete(p, SyntaxKind::NAME_REF);
 }
 
 /// Parses the name of a crate, or `self`; emits an error if there is neither.
@@ -81,7 +81,7 @@ fn expect_crate_name(p: &mut Parser<'_>)
         crate_name(p);
         return;
     }
-    error(p, Message::Expected(SyntaxKind::NAME_REF));
+    p.error(Message::Expected(SyntaxKind::NAME_REF));
 }
 
 /// Parses the definition of a macro, and completes its node.
@@ -92,11 +92,11 @@ pub fn macro_rules(p: &mut Parser<'_>, item: Marker)
     ensures completes { (c : Condition) → Completes c rows.macro_rules p.old p.new }
     ensures takes { Takes 4090 p.old p.new }
 {
-    take_contextual(p, SyntaxKind::MACRO_RULES_KW);
-    take(p, SyntaxKind::BANG);
+    p.take_contextual(SyntaxKind::MACRO_RULES_KW);
+    p.take(SyntaxKind::BANG);
     name(p);
     macro_tokens(p);
-    complete(p, item, SyntaxKind::MACRO_RULES);
+    item.complete(p, SyntaxKind::MACRO_RULES);
 }
 
 /// Parses the definition of a macro that `macro` begins, and completes its node.
@@ -107,10 +107,10 @@ pub fn macro_def(p: &mut Parser<'_>, item: Marker)
     ensures completes { (c : Condition) → Completes c rows.macro_def p.old p.new }
     ensures takes { Takes 4080 p.old p.new }
 {
-    take(p, SyntaxKind::MACRO_KW);
+    p.take(SyntaxKind::MACRO_KW);
     expect_name(p);
     macro_def_body(p);
-    complete(p, item, SyntaxKind::MACRO_DEF);
+    item.complete(p, SyntaxKind::MACRO_DEF);
 }
 
 /// Parses the token trees of a macro that `macro` begins: those in braces, or two.
@@ -119,7 +119,7 @@ fn macro_def_body(p: &mut Parser<'_>)
     ensures reads { (c : Condition) → Reads c rows.macro_def_body p.old p.new }
     ensures asks { Asks 3 p.old p.new }
 {
-    if at(p, SyntaxKind::L_CURLY) {
+    if p.at(SyntaxKind::L_CURLY) {
         token_tree(p);
         return;
     }

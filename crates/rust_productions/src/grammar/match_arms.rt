@@ -10,8 +10,7 @@ ghost use Rattle.rust_productions.specs.Reads.{looks, Saw, Condition};
 
 use crate::grammar::paths::at_colons;
 use crate::grammar::patterns::at_pattern;
-use crate::grammar::{at, at_new, at_pair_after, at_second, at_whole, current};
-use parser_events::parser::Parser;
+use crate::parser::Parser;
 use parser_input::syntax_kind::SyntaxKind;
 
 /// Returns `true` if an attribute of the `match` is next among its arms, in the whole language.
@@ -20,13 +19,13 @@ pub fn at_match_attribute(p: &mut Parser<'_>) -> bool
     ensures some { IsTrue result → 2 ≤ tokens p.old }
     ensures peeks { Peeks 2 p.old p.new }
 {
-    if !at_whole(p) {
+    if !p.at_whole() {
         return false;
     }
-    if !at(p, SyntaxKind::POUND) {
+    if !p.at(SyntaxKind::POUND) {
         return false;
     }
-    if at_second(p, SyntaxKind::BANG) {
+    if p.at_second(SyntaxKind::BANG) {
         return true;
     }
     false
@@ -38,7 +37,7 @@ pub fn at_match_arm(p: &mut Parser<'_>) -> bool
     ensures some { IsTrue result → 1 ≤ tokens p.old }
     ensures peeks { Peeks 10 p.old p.new }
 {
-    if at_new(p, SyntaxKind::POUND) {
+    if p.at_new(SyntaxKind::POUND) {
         return true;
     }
     if at_pattern(p) {
@@ -57,13 +56,13 @@ pub fn at_long_path(p: &mut Parser<'_>) -> bool
     if at_colons(p) {
         return true;
     }
-    match current(p) {
+    match p.current() {
         SyntaxKind::IDENT
         | SyntaxKind::SELF_KW
         | SyntaxKind::SUPER_KW
         | SyntaxKind::CRATE_KW
         | SyntaxKind::SELF_TYPE_KW => {
-            if at_pair_after(p, SyntaxKind::COLON, SyntaxKind::COLON) {
+            if p.at_pair_after(SyntaxKind::COLON, SyntaxKind::COLON) {
                 return true;
             }
             false
@@ -78,10 +77,10 @@ pub fn at_braced_macro(p: &mut Parser<'_>) -> bool
     ensures some { IsTrue result → 2 ≤ tokens p.old }
     ensures peeks { Peeks 2 p.old p.new }
 {
-    if !at(p, SyntaxKind::BANG) {
+    if !p.at(SyntaxKind::BANG) {
         return false;
     }
-    if at_second(p, SyntaxKind::L_CURLY) {
+    if p.at_second(SyntaxKind::L_CURLY) {
         return true;
     }
     false

@@ -11,9 +11,8 @@ ghost use Rattle.rust_grammar.specs.Rule as rules;
 ghost use Rattle.rust_grammar.specs.Paths as rows;
 ghost use Rattle.rust_productions.specs.Reads.{looks, Gives, Reads, Saw, Condition};
 
-use crate::grammar::{at, complete, current, error, start, take};
+use crate::parser::Parser;
 use parser_events::message::Message;
-use parser_events::parser::Parser;
 use parser_input::syntax_kind::SyntaxKind;
 
 /// Parses a name.
@@ -24,9 +23,9 @@ pub fn name(p: &mut Parser<'_>)
     ensures left { tokens p.new + 1 ≡ tokens p.old }
     ensures looks { spent p.new + 4096 ≡ spent p.old }
 {
-    let name = start(p);
-    take(p, SyntaxKind::IDENT);
-    complete(p, name, SyntaxKind::NAME);
+    let name = p.start();
+    p.take(SyntaxKind::IDENT);
+    name.complete(p, SyntaxKind::NAME);
 }
 
 /// Parses a name; emits an error if there is none.
@@ -35,11 +34,11 @@ pub fn expect_name(p: &mut Parser<'_>)
     ensures reads { (c : Condition) → Reads c (Name !) p.old p.new }
     ensures asks { Asks 1 p.old p.new }
 {
-    if at(p, SyntaxKind::IDENT) {
+    if p.at(SyntaxKind::IDENT) {
         name(p);
         return;
     }
-    error(p, Message::Expected(SyntaxKind::NAME));
+    p.error(Message::Expected(SyntaxKind::NAME));
 }
 
 /// Parses a lifetime.
@@ -50,9 +49,9 @@ pub fn lifetime(p: &mut Parser<'_>)
     ensures left { tokens p.new + 1 ≡ tokens p.old }
     ensures looks { spent p.new + 4096 ≡ spent p.old }
 {
-    let lifetime = start(p);
-    take(p, SyntaxKind::LIFETIME_IDENT);
-    complete(p, lifetime, SyntaxKind::LIFETIME);
+    let lifetime = p.start();
+    p.take(SyntaxKind::LIFETIME_IDENT);
+    lifetime.complete(p, SyntaxKind::LIFETIME);
 }
 
 /// Parses an optional lifetime.
@@ -61,7 +60,7 @@ pub fn opt_lifetime(p: &mut Parser<'_>)
     ensures reads { (c : Condition) → Reads c ⁅ Lifetime ⁆ p.old p.new }
     ensures asks { Asks 1 p.old p.new }
 {
-    if at(p, SyntaxKind::LIFETIME_IDENT) {
+    if p.at(SyntaxKind::LIFETIME_IDENT) {
         lifetime(p);
     }
 }
@@ -74,12 +73,12 @@ fn take_word(p: &mut Parser<'_>)
     ensures left { tokens p.new + 1 ≡ tokens p.old }
     ensures looks { spent p.new + 4095 ≤ spent p.old }
 {
-    match current(p) {
-        SyntaxKind::IDENT => take(p, SyntaxKind::IDENT),
-        SyntaxKind::SELF_KW => take(p, SyntaxKind::SELF_KW),
-        SyntaxKind::SUPER_KW => take(p, SyntaxKind::SUPER_KW),
-        SyntaxKind::CRATE_KW => take(p, SyntaxKind::CRATE_KW),
-        _ => take(p, SyntaxKind::SELF_TYPE_KW),
+    match p.current() {
+        SyntaxKind::IDENT => p.take(SyntaxKind::IDENT),
+        SyntaxKind::SELF_KW => p.take(SyntaxKind::SELF_KW),
+        SyntaxKind::SUPER_KW => p.take(SyntaxKind::SUPER_KW),
+        SyntaxKind::CRATE_KW => p.take(SyntaxKind::CRATE_KW),
+        _ => p.take(SyntaxKind::SELF_TYPE_KW),
     }
 }
 
@@ -91,9 +90,9 @@ pub fn name_ref(p: &mut Parser<'_>)
     ensures left { tokens p.new + 1 ≡ tokens p.old }
     ensures looks { spent p.new + 4095 ≤ spent p.old }
 {
-    let name = start(p);
+    let name = p.start();
     take_word(p);
-    complete(p, name, SyntaxKind::NAME_REF);
+    name.complete(p, SyntaxKind::NAME_REF);
 }
 
 /// Returns `true` if a name reference starts here.
@@ -103,7 +102,7 @@ pub fn at_name_ref(p: &mut Parser<'_>) -> bool
     ensures some { IsTrue result → 1 ≤ tokens p.old }
     ensures peeks { Peeks 1 p.old p.new }
 {
-    match current(p) {
+    match p.current() {
         SyntaxKind::IDENT
         | SyntaxKind::SELF_KW
         | SyntaxKind::SUPER_KW
@@ -123,7 +122,7 @@ pub(crate) fn expect_name_ref(p: &mut Parser<'_>)
         name_ref(p);
         return;
     }
-    error(p, Message::Expected(SyntaxKind::NAME_REF));
+    p.error(Message::Expected(SyntaxKind::NAME_REF));
 }
 
 /// Takes the token of a literal.
@@ -134,16 +133,16 @@ fn take_literal(p: &mut Parser<'_>)
     ensures left { tokens p.new + 1 ≡ tokens p.old }
     ensures looks { spent p.new + 4095 ≤ spent p.old }
 {
-    match current(p) {
-        SyntaxKind::INT_NUMBER => take(p, SyntaxKind::INT_NUMBER),
-        SyntaxKind::FLOAT_NUMBER => take(p, SyntaxKind::FLOAT_NUMBER),
-        SyntaxKind::CHAR => take(p, SyntaxKind::CHAR),
-        SyntaxKind::BYTE => take(p, SyntaxKind::BYTE),
-        SyntaxKind::STRING => take(p, SyntaxKind::STRING),
-        SyntaxKind::BYTE_STRING => take(p, SyntaxKind::BYTE_STRING),
-        SyntaxKind::C_STRING => take(p, SyntaxKind::C_STRING),
-        SyntaxKind::TRUE_KW => take(p, SyntaxKind::TRUE_KW),
-        _ => take(p, SyntaxKind::FALSE_KW),
+    match p.current() {
+        SyntaxKind::INT_NUMBER => p.take(SyntaxKind::INT_NUMBER),
+        SyntaxKind::FLOAT_NUMBER => p.take(SyntaxKind::FLOAT_NUMBER),
+        SyntaxKind::CHAR => p.take(SyntaxKind::CHAR),
+        SyntaxKind::BYTE => p.take(SyntaxKind::BYTE),
+        SyntaxKind::STRING => p.take(SyntaxKind::STRING),
+        SyntaxKind::BYTE_STRING => p.take(SyntaxKind::BYTE_STRING),
+        SyntaxKind::C_STRING => p.take(SyntaxKind::C_STRING),
+        SyntaxKind::TRUE_KW => p.take(SyntaxKind::TRUE_KW),
+        _ => p.take(SyntaxKind::FALSE_KW),
     }
 }
 
@@ -155,9 +154,9 @@ pub fn literal(p: &mut Parser<'_>)
     ensures left { tokens p.new + 1 ≡ tokens p.old }
     ensures looks { spent p.new + 4095 ≤ spent p.old }
 {
-    let literal = start(p);
+    let literal = p.start();
     take_literal(p);
-    complete(p, literal, SyntaxKind::LITERAL);
+    literal.complete(p, SyntaxKind::LITERAL);
 }
 
 /// Returns `true` if a literal starts here.
@@ -167,7 +166,7 @@ pub fn at_literal(p: &mut Parser<'_>) -> bool
     ensures some { IsTrue result → 1 ≤ tokens p.old }
     ensures peeks { Peeks 1 p.old p.new }
 {
-    match current(p) {
+    match p.current() {
         SyntaxKind::INT_NUMBER
         | SyntaxKind::FLOAT_NUMBER
         | SyntaxKind::CHAR
@@ -191,5 +190,5 @@ pub fn expect_literal(p: &mut Parser<'_>)
         literal(p);
         return;
     }
-    error(p, Message::Expected(SyntaxKind::LITERAL));
+    p.error(Message::Expected(SyntaxKind::LITERAL));
 }

@@ -7,8 +7,7 @@ ghost use Rattle.rust_productions.specs.Looks.{tokens, Asks, Peeks};
 ghost use Rattle.rust_productions.specs.Reads.{Reads, Saw, Condition};
 
 use crate::grammar::operators::at_joint;
-use crate::grammar::{at, at_second, at_second_contextual, at_whole, current, nth, take};
-use parser_events::parser::Parser;
+use crate::parser::Parser;
 use parser_input::syntax_kind::SyntaxKind;
 
 /// Returns `true` if a raw reference starts here: at `&raw` before `mut`, `const` or a name.
@@ -17,13 +16,13 @@ pub fn at_raw(p: &mut Parser<'_>) -> bool
     ensures some { IsTrue result → 2 ≤ tokens p.old }
     ensures peeks { Peeks 2 p.old p.new }
 {
-    if !at(p, SyntaxKind::AMP) {
+    if !p.at(SyntaxKind::AMP) {
         return false;
     }
-    if !at_second_contextual(p, SyntaxKind::RAW_KW) {
+    if !p.at_second_contextual(SyntaxKind::RAW_KW) {
         return false;
     }
-    match nth(p, 2) {
+    match p.nth(2) {
         SyntaxKind::MUT_KW | SyntaxKind::CONST_KW | SyntaxKind::IDENT => true,
         _ => false,
     }
@@ -36,13 +35,13 @@ pub fn at_new_operand(p: &mut Parser<'_>) -> bool
     ensures some { IsTrue result → 1 ≤ tokens p.old }
     ensures peeks { Peeks 5 p.old p.new }
 {
-    if !at_whole(p) {
+    if !p.at_whole() {
         return false;
     }
     if at_raw(p) {
         return true;
     }
-    if at(p, SyntaxKind::POUND) {
+    if p.at(SyntaxKind::POUND) {
         return true;
     }
     if at_new_mark(p) {
@@ -57,16 +56,16 @@ pub(crate) fn at_new_mark(p: &mut Parser<'_>) -> bool
     ensures some { IsTrue result → 1 ≤ tokens p.old }
     ensures peeks { Peeks 2 p.old p.new }
 {
-    if !at_whole(p) {
+    if !p.at_whole() {
         return false;
     }
-    if !at(p, SyntaxKind::DOT) {
+    if !p.at(SyntaxKind::DOT) {
         return false;
     }
     if !at_joint(p) {
         return false;
     }
-    if at_second(p, SyntaxKind::DOT) {
+    if p.at_second(SyntaxKind::DOT) {
         return true;
     }
     false
@@ -78,9 +77,9 @@ pub fn opt_mut_or_const(p: &mut Parser<'_>)
     ensures reads { (c : Condition) → Reads c ⁅ rows.mut_or_const ⁆ p.old p.new }
     ensures asks { Asks 1 p.old p.new }
 {
-    match current(p) {
-        SyntaxKind::MUT_KW => take(p, SyntaxKind::MUT_KW),
-        SyntaxKind::CONST_KW => take(p, SyntaxKind::CONST_KW),
+    match p.current() {
+        SyntaxKind::MUT_KW => p.take(SyntaxKind::MUT_KW),
+        SyntaxKind::CONST_KW => p.take(SyntaxKind::CONST_KW),
         _ => {}
     }
 }

@@ -12,8 +12,7 @@ ghost use Rattle.rust_productions.specs.Operators.{IsMark, IsNext, spelling_of};
 ghost use Rattle.rust_productions.specs.Reads.{Does, Reads, Saw, Condition};
 ghost use Rattle.rust_productions.specs.Starts.{Starts};
 
-use crate::grammar::{at, at_contextual, at_second, at_third, current};
-use parser_events::parser::Parser;
+use crate::parser::Parser;
 use parser_input::syntax_kind::SyntaxKind;
 
 /// An operator, or none.
@@ -65,7 +64,7 @@ fn at_joined(p: &mut Parser<'_>, kind: SyntaxKind) -> bool
     if !p.joint_at(0) {
         return false;
     }
-    at_second(p, kind)
+    p.at_second(kind)
 }
 
 /// Returns `true` if the second token touches the third, and that is of this kind.
@@ -77,7 +76,7 @@ pub(crate) fn at_joined_after(p: &mut Parser<'_>, kind: SyntaxKind) -> bool
     if !p.joint_at(1) {
         return false;
     }
-    at_third(p, kind)
+    p.at_third(kind)
 }
 
 /// Returns `true` if the operator `|>` is next. The current token is `|`.
@@ -87,7 +86,7 @@ fn at_pipe_gt(p: &mut Parser<'_>) -> bool
     ensures some { IsTrue result → 2 ≤ tokens p.old }
     ensures peeks { Peeks 1 p.old p.new }
 {
-    if !at_contextual(p, SyntaxKind::PIPE_GT) {
+    if !p.at_contextual(SyntaxKind::PIPE_GT) {
         return false;
     }
     at_joined(p, SyntaxKind::R_ANGLE)
@@ -114,13 +113,13 @@ pub fn range_mark(p: &mut Parser<'_>) -> Option<RangeMark>
     ensures mark { IsMark result p.old }
     ensures peeks { Peeks 3 p.old p.new }
 {
-    if !at(p, SyntaxKind::DOT) {
+    if !p.at(SyntaxKind::DOT) {
         return None;
     }
     if !at_joint(p) {
         return None;
     }
-    if !at_second(p, SyntaxKind::DOT) {
+    if !p.at_second(SyntaxKind::DOT) {
         return None;
     }
     if at_joined_after(p, SyntaxKind::EQ) {
@@ -158,7 +157,7 @@ pub fn current_op(p: &mut Parser<'_>) -> Operator
     ensures next { IsNext result p.old }
     ensures peeks { Peeks 4 p.old p.new }
 {
-    match current(p) {
+    match p.current() {
         SyntaxKind::AS_KW => Operator::new(1, SyntaxKind::AS_KW, 1),
         SyntaxKind::STAR => {
             let assigned = at_joined(p, SyntaxKind::EQ);
@@ -264,10 +263,10 @@ fn after_left_angle(p: &mut Parser<'_>) -> Operator
     if !at_joint(p) {
         return Operator::new(8, SyntaxKind::L_ANGLE, 1);
     }
-    if at_second(p, SyntaxKind::EQ) {
+    if p.at_second(SyntaxKind::EQ) {
         return Operator::new(8, SyntaxKind::LTEQ, 2);
     }
-    if !at_second(p, SyntaxKind::L_ANGLE) {
+    if !p.at_second(SyntaxKind::L_ANGLE) {
         return Operator::new(8, SyntaxKind::L_ANGLE, 1);
     }
     if at_joined_after(p, SyntaxKind::EQ) {
@@ -286,10 +285,10 @@ fn after_right_angle(p: &mut Parser<'_>) -> Operator
     if !at_joint(p) {
         return Operator::new(8, SyntaxKind::R_ANGLE, 1);
     }
-    if at_second(p, SyntaxKind::EQ) {
+    if p.at_second(SyntaxKind::EQ) {
         return Operator::new(8, SyntaxKind::GTEQ, 2);
     }
-    if !at_second(p, SyntaxKind::R_ANGLE) {
+    if !p.at_second(SyntaxKind::R_ANGLE) {
         return Operator::new(8, SyntaxKind::R_ANGLE, 1);
     }
     if at_joined_after(p, SyntaxKind::EQ) {

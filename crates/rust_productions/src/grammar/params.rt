@@ -11,8 +11,7 @@ ghost use Rattle.rust_grammar.specs.Shared.{dots_dot};
 ghost use Rattle.rust_productions.specs.Reads.{looks, Saw, Condition};
 
 use crate::grammar::patterns::{at_pattern, at_single_pattern};
-use crate::grammar::{at, at_dots_dot, at_new, at_whole};
-use parser_events::parser::Parser;
+use crate::parser::Parser;
 use parser_input::syntax_kind::SyntaxKind;
 
 /// Returns `true` if a function parameter starts here. A `self` parameter starts as a pattern
@@ -35,13 +34,13 @@ pub fn at_new_param(p: &mut Parser<'_>) -> bool
     ensures some { IsTrue result → 1 ≤ tokens p.old }
     ensures peeks { Peeks 4 p.old p.new }
 {
-    if !at_whole(p) {
+    if !p.at_whole() {
         return false;
     }
-    if at_dots_dot(p) {
+    if p.at_dots_dot() {
         return true;
     }
-    if at(p, SyntaxKind::POUND) {
+    if p.at(SyntaxKind::POUND) {
         return true;
     }
     false
@@ -53,10 +52,10 @@ pub fn at_new_dots(p: &mut Parser<'_>) -> bool
     ensures some { IsTrue result → 3 ≤ tokens p.old }
     ensures peeks { Peeks 3 p.old p.new }
 {
-    if !at_whole(p) {
+    if !p.at_whole() {
         return false;
     }
-    if at_dots_dot(p) {
+    if p.at_dots_dot() {
         return true;
     }
     false
@@ -68,7 +67,7 @@ pub fn at_closure_param(p: &mut Parser<'_>) -> bool
     ensures some { IsTrue result → 1 ≤ tokens p.old }
     ensures peeks { Peeks 9 p.old p.new }
 {
-    if at_new(p, SyntaxKind::POUND) {
+    if p.at_new(SyntaxKind::POUND) {
         return true;
     }
     if at_single_pattern(p) {

@@ -15,12 +15,9 @@ ghost use Rattle.rust_productions.specs.Reads.{looks, Gives, Reads, Saw, Conditi
 ghost use Rattle.rust_productions.specs.Starts.{Starts};
 
 use crate::grammar::names::{at_name_ref, expect_name_ref, name_ref};
-use crate::grammar::{
-    abandon, at, at_fourth_pair, at_pair, at_pair_after, at_third, at_whole, complete, error, nth,
-    start, take_pair, wrap,
-};
+use crate::marker::Marker;
+use crate::parser::Parser;
 use parser_events::message::Message;
-use parser_events::parser::{Marker, Parser};
 use parser_input::syntax_kind::SyntaxKind;
 
 /// Returns `true` if `::` is next.
@@ -30,7 +27,7 @@ pub fn at_colons(p: &mut Parser<'_>) -> bool
     ensures some { IsTrue result → 2 ≤ tokens p.old }
     ensures peeks { Peeks 2 p.old p.new }
 {
-    at_pair(p, SyntaxKind::COLON, SyntaxKind::COLON)
+    p.at_pair(SyntaxKind::COLON, SyntaxKind::COLON)
 }
 
 /// Returns `true` if a path starts here.
@@ -54,16 +51,16 @@ pub fn at_fn_args(p: &mut Parser<'_>) -> bool
     ensures some { IsTrue result → 1 ≤ tokens p.old }
     ensures peeks { Peeks 4 p.old p.new }
 {
-    if !at_whole(p) {
+    if !p.at_whole() {
         return false;
     }
-    if at(p, SyntaxKind::L_PAREN) {
+    if p.at(SyntaxKind::L_PAREN) {
         return true;
     }
     if !at_colons(p) {
         return false;
     }
-    if !at_third(p, SyntaxKind::L_PAREN) {
+    if !p.at_third(SyntaxKind::L_PAREN) {
         return false;
     }
     true
@@ -75,10 +72,10 @@ pub fn at_dots_args(p: &mut Parser<'_>) -> bool
     ensures some { IsTrue result → 3 ≤ tokens p.old }
     ensures peeks { Peeks 3 p.old p.new }
 {
-    if !at(p, SyntaxKind::L_PAREN) {
+    if !p.at(SyntaxKind::L_PAREN) {
         return false;
     }
-    if !at_pair_after(p, SyntaxKind::DOT, SyntaxKind::DOT) {
+    if !p.at_pair_after(SyntaxKind::DOT, SyntaxKind::DOT) {
         return false;
     }
     true
@@ -93,10 +90,10 @@ pub fn at_colons_dots_args(p: &mut Parser<'_>) -> bool
     if !at_colons(p) {
         return false;
     }
-    if !at_third(p, SyntaxKind::L_PAREN) {
+    if !p.at_third(SyntaxKind::L_PAREN) {
         return false;
     }
-    if !at_fourth_pair(p, SyntaxKind::DOT, SyntaxKind::DOT) {
+    if !p.at_fourth_pair(SyntaxKind::DOT, SyntaxKind::DOT) {
         return false;
     }
     true
@@ -108,10 +105,10 @@ pub fn at_macro_call(p: &mut Parser<'_>) -> bool
     ensures some { IsTrue result → 1 ≤ tokens p.old }
     ensures peeks { Peeks 3 p.old p.new }
 {
-    if !at(p, SyntaxKind::BANG) {
+    if !p.at(SyntaxKind::BANG) {
         return false;
     }
-    if at_pair(p, SyntaxKind::BANG, SyntaxKind::EQ) {
+    if p.at_pair(SyntaxKind::BANG, SyntaxKind::EQ) {
         return false;
     }
     true
@@ -126,7 +123,7 @@ pub fn first_word(p: &mut Parser<'_>)
     ensures takes { Takes 4090 p.old p.new }
 {
     if at_colons(p) {
-        take_pair(p, SyntaxKind::COLON2);
+        p.take_pair(SyntaxKind::COLON2);
         expect_name_ref(p);
         return;
     }
@@ -141,11 +138,11 @@ fn first_segment(p: &mut Parser<'_>)
     ensures reads { (c : Condition) → Reads c (rows.first_segment Nothing) p.old p.new }
     ensures takes { Takes 4090 p.old p.new }
 {
-    let path = start(p);
-    let segment = start(p);
+    let path = p.start();
+    let segment = p.start();
     first_word(p);
-    complete(p, segment, SyntaxKind::PATH_SEGMENT);
-    complete(p, path, SyntaxKind::PATH);
+    segment.complete(p, SyntaxKind::PATH_SEGMENT);
+    path.complete(p, SyntaxKind::PATH);
 }
 
 /// Returns `true` if a path continues here: at a `::` that is before neither `*` nor `{`.
@@ -157,7 +154,7 @@ pub fn at_next_segment(p: &mut Parser<'_>) -> bool
     if !at_colons(p) {
         return false;
     }
-    match nth(p, 2) {
+    match p.nth(2) {
         SyntaxKind::STAR | SyntaxKind::L_CURLY => false,
         _ => true,
     }
@@ -170,12 +167,12 @@ fn expect_segment(p: &mut Parser<'_>)
     ensures asks { Asks 1 p.old p.new }
 {
     if at_name_ref(p) {
-        let segment = start(p);
+        let segment = p.start();
         name_ref(p);
-        complete(p, segment, SyntaxKind::PATH_SEGMENT);
+        segment.complete(p, SyntaxKind::PATH_SEGMENT);
         return;
     }
-    error(p, Message::Expected(SyntaxKind::PATH_SEGMENT));
+    p.error(Message::Expected(SyntaxKind::PATH_SEGMENT));
 }
 
 /// Parses a `::` and a segment, and completes the path up to it.
@@ -186,9 +183,9 @@ fn next_segment(p: &mut Parser<'_>, path: Marker) -> Marker
     ensures reads { (c : Condition) → Reads c (rows.next_segment Nothing) p.old p.new }
     ensures takes { TakesTwoIn result 8000 p.old p.new }
 {
-    take_pair(p, SyntaxKind::COLON2);
+    p.take_pair(SyntaxKind::COLON2);
     expect_segment(p);
-    wrap(p, path, SyntaxKind::PATH)
+    path.wrap(p, SyntaxKind::PATH)
 }
 
 /// Parses the further segments of a path.
@@ -214,10 +211,10 @@ pub fn path(p: &mut Parser<'_>)
     ensures ends { (c : Condition) → Saw c path_goes_on p.new false }
     ensures takes { Takes 4000 p.old p.new }
 {
-    let frame = start(p);
+    let frame = p.start();
     first_segment(p);
     let frame = next_segments(p, frame);
-    abandon(p, frame);
+    frame.abandon(p);
 }
 
 /// Parses a path without generic arguments; emits an error if there is none.
@@ -230,5 +227,5 @@ pub fn expect_path(p: &mut Parser<'_>)
         path(p);
         return;
     }
-    error(p, Message::Expected(SyntaxKind::PATH));
+    p.error(Message::Expected(SyntaxKind::PATH));
 }

@@ -11,10 +11,7 @@ ghost use Rattle.rust_grammar.specs.Words.{'dots_eq'};
 ghost use Rattle.rust_productions.specs.Reads.{looks, Reads, Saw, Condition};
 
 use crate::grammar::operators::{at_joined_after, at_joint};
-use crate::grammar::{
-    at, at_dots_dot, at_pair, at_second, at_third_pair, at_whole, current, nth, take, take_pair,
-};
-use parser_events::parser::Parser;
+use crate::parser::Parser;
 use parser_input::syntax_kind::SyntaxKind;
 
 /// Returns `true` if `..=` is next.
@@ -23,13 +20,13 @@ pub(crate) fn at_dots_eq(p: &mut Parser<'_>) -> bool
     ensures some { IsTrue result → 3 ≤ tokens p.old }
     ensures peeks { Peeks 3 p.old p.new }
 {
-    if !at(p, SyntaxKind::DOT) {
+    if !p.at(SyntaxKind::DOT) {
         return false;
     }
     if !at_joint(p) {
         return false;
     }
-    if !at_second(p, SyntaxKind::DOT) {
+    if !p.at_second(SyntaxKind::DOT) {
         return false;
     }
     if at_joined_after(p, SyntaxKind::EQ) {
@@ -44,10 +41,10 @@ fn at_dots_before_end(p: &mut Parser<'_>) -> bool
     ensures some { IsTrue result → 2 ≤ tokens p.old }
     ensures peeks { Peeks 5 p.old p.new }
 {
-    if !at_pair(p, SyntaxKind::DOT, SyntaxKind::DOT) {
+    if !p.at_pair(SyntaxKind::DOT, SyntaxKind::DOT) {
         return false;
     }
-    match nth(p, 2) {
+    match p.nth(2) {
         SyntaxKind::INT_NUMBER
         | SyntaxKind::FLOAT_NUMBER
         | SyntaxKind::CHAR
@@ -65,7 +62,7 @@ fn at_dots_before_end(p: &mut Parser<'_>) -> bool
         | SyntaxKind::SELF_TYPE_KW
         | SyntaxKind::L_ANGLE => true,
         _ => {
-            if at_third_pair(p, SyntaxKind::COLON, SyntaxKind::COLON) {
+            if p.at_third_pair(SyntaxKind::COLON, SyntaxKind::COLON) {
                 return true;
             }
             false
@@ -81,7 +78,7 @@ pub fn at_open_range(p: &mut Parser<'_>) -> bool
     ensures some { IsTrue result → 2 ≤ tokens p.old }
     ensures peeks { Peeks 8 p.old p.new }
 {
-    if !at_whole(p) {
+    if !p.at_whole() {
         return false;
     }
     if at_dots_eq(p) {
@@ -100,7 +97,7 @@ pub fn at_range_end(p: &mut Parser<'_>) -> bool
     ensures some { IsTrue result → 1 ≤ tokens p.old }
     ensures peeks { Peeks 3 p.old p.new }
 {
-    match current(p) {
+    match p.current() {
         SyntaxKind::INT_NUMBER
         | SyntaxKind::FLOAT_NUMBER
         | SyntaxKind::CHAR
@@ -117,13 +114,13 @@ pub fn at_range_end(p: &mut Parser<'_>) -> bool
         | SyntaxKind::CRATE_KW
         | SyntaxKind::SELF_TYPE_KW => true,
         SyntaxKind::L_ANGLE => {
-            if at_whole(p) {
+            if p.at_whole() {
                 return true;
             }
             false
         }
         _ => {
-            if at_pair(p, SyntaxKind::COLON, SyntaxKind::COLON) {
+            if p.at_pair(SyntaxKind::COLON, SyntaxKind::COLON) {
                 return true;
             }
             false
@@ -137,16 +134,16 @@ pub fn at_range_op(p: &mut Parser<'_>) -> bool
     ensures some { IsTrue result → 2 ≤ tokens p.old }
     ensures peeks { Peeks 2 p.old p.new }
 {
-    if !at_whole(p) {
+    if !p.at_whole() {
         return false;
     }
-    if !at(p, SyntaxKind::DOT) {
+    if !p.at(SyntaxKind::DOT) {
         return false;
     }
     if !at_joint(p) {
         return false;
     }
-    if at_second(p, SyntaxKind::DOT) {
+    if p.at_second(SyntaxKind::DOT) {
         return true;
     }
     false
@@ -159,8 +156,8 @@ pub fn take_three_dots(p: &mut Parser<'_>)
     ensures reads { (c : Condition) → Reads c dots_and_dot p.old p.new }
     ensures takes { Takes 8192 p.old p.new }
 {
-    take_pair(p, SyntaxKind::DOT2);
-    take(p, SyntaxKind::DOT);
+    p.take_pair(SyntaxKind::DOT2);
+    p.take(SyntaxKind::DOT);
 }
 
 /// Takes `..=`.
@@ -185,7 +182,7 @@ pub fn take_two_dots(p: &mut Parser<'_>)
         take_dots_eq(p);
         return;
     }
-    take_pair(p, SyntaxKind::DOT2);
+    p.take_pair(SyntaxKind::DOT2);
 }
 
 /// Takes the range operator that is next.
@@ -196,7 +193,7 @@ pub fn take_range_op(p: &mut Parser<'_>)
     ensures reads { (c : Condition) → Reads c rows.range_op p.old p.new }
     ensures takes { Takes 7900 p.old p.new }
 {
-    if at_dots_dot(p) {
+    if p.at_dots_dot() {
         take_three_dots(p);
         return;
     }

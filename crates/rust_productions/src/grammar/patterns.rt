@@ -13,8 +13,7 @@ ghost use Rattle.rust_productions.specs.Reads.{looks, Saw, Condition};
 use crate::grammar::names::at_literal;
 use crate::grammar::operators::at_joint;
 use crate::grammar::paths::at_path;
-use crate::grammar::{at, at_new, at_pair, at_second, at_whole, current};
-use parser_events::parser::Parser;
+use crate::parser::Parser;
 use parser_input::syntax_kind::SyntaxKind;
 
 /// Returns `true` if a pattern without top-level alternatives starts here.
@@ -23,7 +22,7 @@ pub fn at_single_pattern(p: &mut Parser<'_>) -> bool
     ensures some { IsTrue result → 1 ≤ tokens p.old }
     ensures peeks { Peeks 8 p.old p.new }
 {
-    if at(p, SyntaxKind::IDENT) {
+    if p.at(SyntaxKind::IDENT) {
         return true;
     }
     if at_path(p) {
@@ -32,7 +31,7 @@ pub fn at_single_pattern(p: &mut Parser<'_>) -> bool
     if at_literal(p) {
         return true;
     }
-    match current(p) {
+    match p.current() {
         SyntaxKind::MINUS
         | SyntaxKind::UNDERSCORE
         | SyntaxKind::AMP
@@ -44,13 +43,13 @@ pub fn at_single_pattern(p: &mut Parser<'_>) -> bool
             if !at_joint(p) {
                 return false;
             }
-            if at_second(p, SyntaxKind::DOT) {
+            if p.at_second(SyntaxKind::DOT) {
                 return true;
             }
             false
         }
         SyntaxKind::L_ANGLE => {
-            if at_whole(p) {
+            if p.at_whole() {
                 return true;
             }
             false
@@ -68,7 +67,7 @@ pub fn at_pattern(p: &mut Parser<'_>) -> bool
     if at_single_pattern(p) {
         return true;
     }
-    match current(p) {
+    match p.current() {
         SyntaxKind::PIPE => true,
         _ => false,
     }
@@ -80,10 +79,10 @@ pub fn at_named_field(p: &mut Parser<'_>) -> bool
     ensures some { IsTrue result → 2 ≤ tokens p.old }
     ensures peeks { Peeks 2 p.old p.new }
 {
-    if !at_second(p, SyntaxKind::COLON) {
+    if !p.at_second(SyntaxKind::COLON) {
         return false;
     }
-    match current(p) {
+    match p.current() {
         SyntaxKind::IDENT | SyntaxKind::INT_NUMBER => true,
         _ => false,
     }
@@ -96,9 +95,9 @@ pub fn at_attributed_named_field(p: &mut Parser<'_>) -> bool
     ensures some { IsTrue result → 2 ≤ tokens p.old }
     ensures peeks { Peeks 2 p.old p.new }
 {
-    match current(p) {
+    match p.current() {
         SyntaxKind::IDENT | SyntaxKind::INT_NUMBER => {
-            if at_second(p, SyntaxKind::COLON) {
+            if p.at_second(SyntaxKind::COLON) {
                 return true;
             }
             false
@@ -113,16 +112,16 @@ pub fn at_pattern_field(p: &mut Parser<'_>) -> bool
     ensures some { IsTrue result → 1 ≤ tokens p.old }
     ensures peeks { Peeks 6 p.old p.new }
 {
-    if at_new(p, SyntaxKind::POUND) {
+    if p.at_new(SyntaxKind::POUND) {
         return true;
     }
-    if at_pair(p, SyntaxKind::DOT, SyntaxKind::DOT) {
+    if p.at_pair(SyntaxKind::DOT, SyntaxKind::DOT) {
         return true;
     }
     if at_named_field(p) {
         return true;
     }
-    match current(p) {
+    match p.current() {
         SyntaxKind::REF_KW | SyntaxKind::MUT_KW | SyntaxKind::IDENT => true,
         _ => false,
     }

@@ -10,8 +10,7 @@ ghost use Rattle.rust_productions.specs.Reads.{Saw, Condition};
 
 use crate::grammar::item_words::at_new_item;
 use crate::grammar::match_arms::at_long_path;
-use crate::grammar::{at, at_second, at_whole, current, nth};
-use parser_events::parser::Parser;
+use crate::parser::Parser;
 use parser_input::syntax_kind::SyntaxKind;
 
 /// Returns `true` if an item of both languages starts here, among statements.
@@ -21,7 +20,7 @@ pub fn at_item(p: &mut Parser<'_>) -> bool
     ensures some { IsTrue result → 1 ≤ tokens p.old }
     ensures peeks { Peeks 2 p.old p.new }
 {
-    match current(p) {
+    match p.current() {
         SyntaxKind::POUND
         | SyntaxKind::PUB_KW
         | SyntaxKind::MOD_KW
@@ -49,7 +48,7 @@ fn at_item_after_unsafe(p: &mut Parser<'_>) -> bool
     ensures sees { (c : Condition) → Saw c (one_of 1 ('fn' ∷ 'impl' ∷ 'trait' ∷ [])) p.old result }
     ensures peeks { Peeks 1 p.old p.new }
 {
-    match nth(p, 1) {
+    match p.nth(1) {
         SyntaxKind::FN_KW | SyntaxKind::IMPL_KW | SyntaxKind::TRAIT_KW => true,
         _ => false,
     }
@@ -61,7 +60,7 @@ pub fn at_profile_item(p: &mut Parser<'_>) -> bool
     ensures some { IsTrue result → 1 ≤ tokens p.old }
     ensures peeks { Peeks 2 p.old p.new }
 {
-    if at_whole(p) {
+    if p.at_whole() {
         return false;
     }
     if at_item(p) {
@@ -77,10 +76,10 @@ pub fn at_super_let(p: &mut Parser<'_>) -> bool
     ensures some { IsTrue result → 2 ≤ tokens p.old }
     ensures peeks { Peeks 2 p.old p.new }
 {
-    if !at(p, SyntaxKind::SUPER_KW) {
+    if !p.at(SyntaxKind::SUPER_KW) {
         return false;
     }
-    if at_second(p, SyntaxKind::LET_KW) {
+    if p.at_second(SyntaxKind::LET_KW) {
         return true;
     }
     false
@@ -91,7 +90,7 @@ fn at_closure_after_static(p: &mut Parser<'_>) -> bool
     ensures sees { (c : Condition) → Saw c (one_of 1 ('|' ∷ 'move' ∷ 'async' ∷ [])) p.old result }
     ensures peeks { Peeks 1 p.old p.new }
 {
-    match nth(p, 1) {
+    match p.nth(1) {
         SyntaxKind::PIPE | SyntaxKind::MOVE_KW | SyntaxKind::ASYNC_KW => true,
         _ => false,
     }
@@ -103,9 +102,9 @@ fn at_no_item(p: &mut Parser<'_>) -> bool
     ensures sees { (c : Condition) → Saw c rows.no_item_begins p.old result }
     ensures peeks { Peeks 2 p.old p.new }
 {
-    match current(p) {
+    match p.current() {
         SyntaxKind::CONST_KW => {
-            if at_second(p, SyntaxKind::L_CURLY) {
+            if p.at_second(SyntaxKind::L_CURLY) {
                 return true;
             }
             false
@@ -126,7 +125,7 @@ fn at_any_item(p: &mut Parser<'_>) -> bool
     ensures some { IsTrue result → 1 ≤ tokens p.old }
     ensures peeks { Peeks 24 p.old p.new }
 {
-    if !at_whole(p) {
+    if !p.at_whole() {
         return false;
     }
     if at_no_item(p) {
@@ -147,7 +146,7 @@ pub fn at_new_statement(p: &mut Parser<'_>) -> bool
     ensures some { IsTrue result → 1 ≤ tokens p.old }
     ensures peeks { Peeks 32 p.old p.new }
 {
-    if !at_whole(p) {
+    if !p.at_whole() {
         return false;
     }
     if at_long_path(p) {
@@ -169,10 +168,10 @@ pub fn at_item_after_attributes(p: &mut Parser<'_>) -> bool
     ensures some { IsTrue result → 1 ≤ tokens p.old }
     ensures peeks { Peeks 30 p.old p.new }
 {
-    if !at_whole(p) {
+    if !p.at_whole() {
         return false;
     }
-    if at(p, SyntaxKind::POUND) {
+    if p.at(SyntaxKind::POUND) {
         return false;
     }
     if at_any_item(p) {

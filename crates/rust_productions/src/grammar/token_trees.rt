@@ -15,9 +15,8 @@ ghost use Rattle.rust_grammar.specs.Rule.{Either, Want, One};
 ghost use Rattle.rust_grammar.specs.Items as rows;
 ghost use Rattle.rust_productions.specs.Reads.{looks, Gives, Reads, Saw, Condition};
 
-use crate::grammar::{complete, current, error, expect, start, take, take_any};
+use crate::parser::Parser;
 use parser_events::message::Message;
-use parser_events::parser::Parser;
 use parser_input::syntax_kind::SyntaxKind;
 
 /// Returns `true` if a token tree starts here.
@@ -26,7 +25,7 @@ pub fn at_token_tree(p: &mut Parser<'_>) -> bool
     ensures some { IsTrue result → 1 ≤ tokens p.old }
     ensures peeks { Peeks 1 p.old p.new }
 {
-    match current(p) {
+    match p.current() {
         SyntaxKind::L_PAREN | SyntaxKind::L_BRACK | SyntaxKind::L_CURLY => true,
         _ => false,
     }
@@ -39,7 +38,7 @@ fn at_inner(p: &mut Parser<'_>) -> bool
     ensures some { IsTrue result → 1 ≤ tokens p.old }
     ensures peeks { Peeks 1 p.old p.new }
 {
-    match current(p) {
+    match p.current() {
         SyntaxKind::R_PAREN | SyntaxKind::R_CURLY | SyntaxKind::R_BRACK | SyntaxKind::EOF => false,
         _ => true,
     }
@@ -57,7 +56,7 @@ fn inner(p: &mut Parser<'_>)
         token_tree(p);
         return;
     }
-    take_any(p);
+    p.take_any();
 }
 
 /// Parses the tokens and the token trees within a token tree.
@@ -85,11 +84,11 @@ fn bracketed(p: &mut Parser<'_>, opening: SyntaxKind, closing: SyntaxKind)
         ▸ Want (One (one (raw_of closing))) (Expected (raw_of closing)) ⟩) p.old p.new }
     ensures takes { Takes 4080 p.old p.new }
 {
-    let tree = start(p);
-    take(p, opening);
+    let tree = p.start();
+    p.take(opening);
     inner_tokens(p);
-    expect(p, closing);
-    complete(p, tree, SyntaxKind::TOKEN_TREE);
+    p.expect(closing);
+    tree.complete(p, SyntaxKind::TOKEN_TREE);
 }
 
 /// Parses a token tree.
@@ -100,7 +99,7 @@ pub fn token_tree(p: &mut Parser<'_>)
     ensures gives { (c : Condition) → Gives rules.token_tree c p.old p.new }
     ensures takes { Takes 4070 p.old p.new }
 {
-    match current(p) {
+    match p.current() {
         SyntaxKind::L_PAREN => bracketed(p, SyntaxKind::L_PAREN, SyntaxKind::R_PAREN),
         SyntaxKind::L_BRACK => bracketed(p, SyntaxKind::L_BRACK, SyntaxKind::R_BRACK),
         _ => bracketed(p, SyntaxKind::L_CURLY, SyntaxKind::R_CURLY),
@@ -117,5 +116,5 @@ pub fn expect_token_tree(p: &mut Parser<'_>)
         token_tree(p);
         return;
     }
-    error(p, Message::Expected(SyntaxKind::TOKEN_TREE));
+    p.error(Message::Expected(SyntaxKind::TOKEN_TREE));
 }

@@ -11,10 +11,7 @@ ghost use Rattle.rust_grammar.specs.Types as rows;
 ghost use Rattle.rust_productions.specs.Reads.{looks, Saw, Condition};
 
 use crate::grammar::paths::at_path;
-use crate::grammar::{
-    at_contextual, at_dots_dot, at_new, at_pair_after, at_second, at_third, at_whole, current, nth,
-};
-use parser_events::parser::Parser;
+use crate::parser::Parser;
 use parser_input::syntax_kind::SyntaxKind;
 
 /// Returns `true` if the second token can follow `dyn` in the whole language alone: `(`, or `for`
@@ -23,16 +20,16 @@ fn at_new_after_dyn(p: &mut Parser<'_>) -> bool
     ensures sees { (c : Condition) → Saw c (wide rows.new_after_dyn) p.old result }
     ensures peeks { Peeks 3 p.old p.new }
 {
-    if !at_whole(p) {
+    if !p.at_whole() {
         return false;
     }
-    if at_second(p, SyntaxKind::L_PAREN) {
+    if p.at_second(SyntaxKind::L_PAREN) {
         return true;
     }
-    if !at_second(p, SyntaxKind::FOR_KW) {
+    if !p.at_second(SyntaxKind::FOR_KW) {
         return false;
     }
-    if at_third(p, SyntaxKind::L_ANGLE) {
+    if p.at_third(SyntaxKind::L_ANGLE) {
         return true;
     }
     false
@@ -44,10 +41,10 @@ pub fn at_dyn_word(p: &mut Parser<'_>) -> bool
     ensures some { IsTrue result → 1 ≤ tokens p.old }
     ensures peeks { Peeks 4 p.old p.new }
 {
-    if !at_contextual(p, SyntaxKind::DYN_KW) {
+    if !p.at_contextual(SyntaxKind::DYN_KW) {
         return false;
     }
-    match nth(p, 1) {
+    match p.nth(1) {
         SyntaxKind::QUESTION
         | SyntaxKind::LIFETIME_IDENT
         | SyntaxKind::IDENT
@@ -70,13 +67,13 @@ pub fn at_fn_ptr(p: &mut Parser<'_>) -> bool
     ensures some { IsTrue result → 1 ≤ tokens p.old }
     ensures peeks { Peeks 3 p.old p.new }
 {
-    match current(p) {
+    match p.current() {
         SyntaxKind::FN_KW | SyntaxKind::EXTERN_KW => true,
         SyntaxKind::UNSAFE_KW => {
-            if at_second(p, SyntaxKind::FN_KW) {
+            if p.at_second(SyntaxKind::FN_KW) {
                 return true;
             }
-            if at_second(p, SyntaxKind::EXTERN_KW) {
+            if p.at_second(SyntaxKind::EXTERN_KW) {
                 return true;
             }
             false
@@ -92,22 +89,22 @@ pub fn at_new_type(p: &mut Parser<'_>) -> bool
     ensures some { IsTrue result → 1 ≤ tokens p.old }
     ensures peeks { Peeks 7 p.old p.new }
 {
-    if !at_whole(p) {
+    if !p.at_whole() {
         return false;
     }
     if at_path(p) {
         return true;
     }
-    match current(p) {
+    match p.current() {
         SyntaxKind::L_ANGLE => true,
         SyntaxKind::LIFETIME_IDENT => {
-            if at_second(p, SyntaxKind::PLUS) {
+            if p.at_second(SyntaxKind::PLUS) {
                 return true;
             }
             false
         }
         SyntaxKind::FOR_KW => {
-            if at_second(p, SyntaxKind::L_ANGLE) {
+            if p.at_second(SyntaxKind::L_ANGLE) {
                 return true;
             }
             false
@@ -128,13 +125,13 @@ pub fn at_bare_type(p: &mut Parser<'_>) -> bool
     ensures some { IsTrue result → 1 ≤ tokens p.old }
     ensures peeks { Peeks 8 p.old p.new }
 {
-    if !at_whole(p) {
+    if !p.at_whole() {
         return false;
     }
-    match current(p) {
+    match p.current() {
         SyntaxKind::L_ANGLE => true,
         SyntaxKind::FOR_KW => {
-            if at_second(p, SyntaxKind::L_ANGLE) {
+            if p.at_second(SyntaxKind::L_ANGLE) {
                 return true;
             }
             false
@@ -163,7 +160,7 @@ pub fn at_type(p: &mut Parser<'_>) -> bool
     if at_dyn_word(p) {
         return true;
     }
-    match current(p) {
+    match p.current() {
         SyntaxKind::L_PAREN
         | SyntaxKind::BANG
         | SyntaxKind::STAR
@@ -199,11 +196,12 @@ pub fn at_type_no_bounds(p: &mut Parser<'_>) -> bool
 /// Returns `true` if an identifier or a `_` is next.
 fn at_ident_or_underscore(p: &mut Parser<'_>) -> bool
     ensures sees { (c : Condition) → Saw c (one_of 0 ('ident' ∷ '_' ∷ [])) p.old result }
-    ensures pattern { IsTrue result → (c : Condition) → Saw c (looks rules.single_pattern) p.old true }
+    ensures pattern { IsTrue result → (c : Condition)
+        → Saw c (looks rules.single_pattern) p.old true }
     ensures some { IsTrue result → 1 ≤ tokens p.old }
     ensures peeks { Peeks 1 p.old p.new }
 {
-    match current(p) {
+    match p.current() {
         SyntaxKind::IDENT | SyntaxKind::UNDERSCORE => true,
         _ => false,
     }
@@ -212,17 +210,18 @@ fn at_ident_or_underscore(p: &mut Parser<'_>) -> bool
 /// Returns `true` if a parameter of a function pointer type starts here with a name.
 pub fn at_named_param(p: &mut Parser<'_>) -> bool
     ensures sees { (c : Condition) → Saw c rows.named_param_begins p.old result }
-    ensures pattern { IsTrue result → (c : Condition) → Saw c (looks rules.single_pattern) p.old true }
+    ensures pattern { IsTrue result → (c : Condition)
+        → Saw c (looks rules.single_pattern) p.old true }
     ensures some { IsTrue result → 1 ≤ tokens p.old }
     ensures peeks { Peeks 4 p.old p.new }
 {
     if !at_ident_or_underscore(p) {
         return false;
     }
-    if !at_second(p, SyntaxKind::COLON) {
+    if !p.at_second(SyntaxKind::COLON) {
         return false;
     }
-    if at_pair_after(p, SyntaxKind::COLON, SyntaxKind::COLON) {
+    if p.at_pair_after(SyntaxKind::COLON, SyntaxKind::COLON) {
         return false;
     }
     true
@@ -233,10 +232,10 @@ pub fn at_fn_ptr_param(p: &mut Parser<'_>) -> bool
     ensures sees { (c : Condition) → Saw c (begins looks rows.fn_ptr_param) p.old result }
     ensures peeks { Peeks 24 p.old p.new }
 {
-    if at_new(p, SyntaxKind::POUND) {
+    if p.at_new(SyntaxKind::POUND) {
         return true;
     }
-    if at_dots_dot(p) {
+    if p.at_dots_dot() {
         return true;
     }
     if at_named_param(p) {

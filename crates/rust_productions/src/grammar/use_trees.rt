@@ -17,11 +17,8 @@ ghost use Rattle.rust_productions.specs.Reads.{looks, Gives, Reads, Saw, Conditi
 use crate::grammar::lists::{at_list_end, at_unexpected, comma};
 use crate::grammar::names::expect_name;
 use crate::grammar::paths::{at_colons, at_path, path};
-use crate::grammar::{
-    at, at_third, complete, current, error, expect, skip, start, take, take_pair,
-};
+use crate::parser::Parser;
 use parser_events::message::Message;
-use parser_events::parser::Parser;
 use parser_input::syntax_kind::SyntaxKind;
 
 /// Returns `true` if `::` is next, and `*` or `{` after it.
@@ -33,10 +30,10 @@ fn at_colons_before_more(p: &mut Parser<'_>) -> bool
     if !at_colons(p) {
         return false;
     }
-    if at_third(p, SyntaxKind::STAR) {
+    if p.at_third(SyntaxKind::STAR) {
         return true;
     }
-    if at_third(p, SyntaxKind::L_CURLY) {
+    if p.at_third(SyntaxKind::L_CURLY) {
         return true;
     }
     false
@@ -54,7 +51,7 @@ fn at_use_tree(p: &mut Parser<'_>) -> bool
     if at_path(p) {
         return true;
     }
-    match current(p) {
+    match p.current() {
         SyntaxKind::STAR | SyntaxKind::L_CURLY => true,
         _ => false,
     }
@@ -70,7 +67,7 @@ pub(crate) fn expect_use_tree(p: &mut Parser<'_>)
         use_tree(p);
         return;
     }
-    error(p, Message::Expected(SyntaxKind::USE_TREE));
+    p.error(Message::Expected(SyntaxKind::USE_TREE));
 }
 
 /// Parses the rename of a use tree.
@@ -80,10 +77,10 @@ fn rename(p: &mut Parser<'_>)
     ensures reads { (c : Condition) → Reads c rows.rename p.old p.new }
     ensures takes { Takes 4090 p.old p.new }
 {
-    let rename = start(p);
-    take(p, SyntaxKind::AS_KW);
+    let rename = p.start();
+    p.take(SyntaxKind::AS_KW);
     underscore_or_name(p);
-    complete(p, rename, SyntaxKind::RENAME);
+    rename.complete(p, SyntaxKind::RENAME);
 }
 
 /// Parses an optional rename.
@@ -92,7 +89,7 @@ pub(crate) fn opt_rename(p: &mut Parser<'_>)
     ensures reads { (c : Condition) → Reads c ⁅ rows.rename ⁆ p.old p.new }
     ensures asks { Asks 1 p.old p.new }
 {
-    if at(p, SyntaxKind::AS_KW) {
+    if p.at(SyntaxKind::AS_KW) {
         rename(p);
     }
 }
@@ -103,8 +100,8 @@ pub fn underscore_or_name(p: &mut Parser<'_>)
     ensures reads { (c : Condition) → Reads c rows.underscore_or_name p.old p.new }
     ensures asks { Asks 2 p.old p.new }
 {
-    if at(p, SyntaxKind::UNDERSCORE) {
-        take(p, SyntaxKind::UNDERSCORE);
+    if p.at(SyntaxKind::UNDERSCORE) {
+        p.take(SyntaxKind::UNDERSCORE);
         return;
     }
     expect_name(p);
@@ -118,8 +115,8 @@ fn star_or_list(p: &mut Parser<'_>)
     ensures reads { (c : Condition) → Reads c rows.star_or_list p.old p.new }
     ensures takes { Takes 3900 p.old p.new }
 {
-    if at(p, SyntaxKind::STAR) {
-        take(p, SyntaxKind::STAR);
+    if p.at(SyntaxKind::STAR) {
+        p.take(SyntaxKind::STAR);
         return;
     }
     use_list(p);
@@ -134,11 +131,11 @@ fn after_path(p: &mut Parser<'_>)
     ensures asks { Asks 5 p.old p.new }
 {
     if at_colons_before_more(p) {
-        take_pair(p, SyntaxKind::COLON2);
+        p.take_pair(SyntaxKind::COLON2);
         star_or_list(p);
         return;
     }
-    if at(p, SyntaxKind::AS_KW) {
+    if p.at(SyntaxKind::AS_KW) {
         rename(p);
     }
 }
@@ -165,8 +162,8 @@ fn after_colons(p: &mut Parser<'_>)
     ensures reads { (c : Condition) → Reads c rows.after_colons p.old p.new }
     ensures takes { Takes 3900 p.old p.new }
 {
-    if at(p, SyntaxKind::STAR) {
-        take(p, SyntaxKind::STAR);
+    if p.at(SyntaxKind::STAR) {
+        p.take(SyntaxKind::STAR);
         return;
     }
     use_list(p);
@@ -182,12 +179,12 @@ fn inside(p: &mut Parser<'_>)
     ensures takes { Takes 3890 p.old p.new }
 {
     if at_colons_before_more(p) {
-        take_pair(p, SyntaxKind::COLON2);
+        p.take_pair(SyntaxKind::COLON2);
         after_colons(p);
         return;
     }
-    match current(p) {
-        SyntaxKind::STAR => take(p, SyntaxKind::STAR),
+    match p.current() {
+        SyntaxKind::STAR => p.take(SyntaxKind::STAR),
         SyntaxKind::L_CURLY => use_list(p),
         _ => path_tree(p),
     }
@@ -202,9 +199,9 @@ pub fn use_tree(p: &mut Parser<'_>)
     ensures gives { (c : Condition) → Gives rules.use_tree c p.old p.new }
     ensures takes { Takes 3880 p.old p.new }
 {
-    let tree = start(p);
+    let tree = p.start();
     inside(p);
-    complete(p, tree, SyntaxKind::USE_TREE);
+    tree.complete(p, SyntaxKind::USE_TREE);
 }
 
 /// Parses a use tree list.
@@ -215,11 +212,11 @@ pub fn use_list(p: &mut Parser<'_>)
     ensures gives { (c : Condition) → Gives rules.use_list c p.old p.new }
     ensures takes { Takes 4000 p.old p.new }
 {
-    let list = start(p);
-    take(p, SyntaxKind::L_CURLY);
+    let list = p.start();
+    p.take(SyntaxKind::L_CURLY);
     use_turns(p);
-    expect(p, SyntaxKind::R_CURLY);
-    complete(p, list, SyntaxKind::USE_TREE_LIST);
+    p.expect(SyntaxKind::R_CURLY);
+    list.complete(p, SyntaxKind::USE_TREE_LIST);
 }
 
 /// Returns `true` if a use tree list continues here.
@@ -254,7 +251,7 @@ fn use_turn(p: &mut Parser<'_>)
         comma(p, SyntaxKind::R_CURLY);
         return;
     }
-    skip(p, Message::UnexpectedIn(SyntaxKind::USE_TREE_LIST));
+    p.skip(Message::UnexpectedIn(SyntaxKind::USE_TREE_LIST));
 }
 
 /// Parses the use trees of a use tree list.

@@ -11,8 +11,7 @@ ghost use Rattle.rust_grammar.specs.Items as rows;
 ghost use Rattle.rust_productions.specs.Reads.{Gives, Reads, Saw, Condition};
 
 use crate::grammar::paths::expect_path;
-use crate::grammar::{at, at_second, at_third, complete, eat, expect, nth, start, take};
-use parser_events::parser::Parser;
+use crate::parser::Parser;
 use parser_input::syntax_kind::SyntaxKind;
 
 /// Returns `true` if the scope of a visibility is next, in its parentheses.
@@ -21,16 +20,16 @@ fn at_scope(p: &mut Parser<'_>) -> bool
     ensures some { IsTrue result → 1 ≤ tokens p.old }
     ensures peeks { Peeks 4 p.old p.new }
 {
-    if !at(p, SyntaxKind::L_PAREN) {
+    if !p.at(SyntaxKind::L_PAREN) {
         return false;
     }
-    if at_second(p, SyntaxKind::IN_KW) {
+    if p.at_second(SyntaxKind::IN_KW) {
         return true;
     }
-    if !at_third(p, SyntaxKind::R_PAREN) {
+    if !p.at_third(SyntaxKind::R_PAREN) {
         return false;
     }
-    match nth(p, 1) {
+    match p.nth(1) {
         SyntaxKind::CRATE_KW | SyntaxKind::SELF_KW | SyntaxKind::SUPER_KW => true,
         _ => false,
     }
@@ -44,10 +43,10 @@ fn opt_scope(p: &mut Parser<'_>)
     ensures asks { Asks 4 p.old p.new }
 {
     if at_scope(p) {
-        take(p, SyntaxKind::L_PAREN);
-        eat(p, SyntaxKind::IN_KW);
+        p.take(SyntaxKind::L_PAREN);
+        p.eat(SyntaxKind::IN_KW);
         expect_path(p);
-        expect(p, SyntaxKind::R_PAREN);
+        p.expect(SyntaxKind::R_PAREN);
     }
 }
 
@@ -58,10 +57,10 @@ pub fn visibility(p: &mut Parser<'_>)
     ensures gives { (c : Condition) → Gives rules.visibility c p.old p.new }
     ensures takes { Takes 4092 p.old p.new }
 {
-    let visibility = start(p);
-    take(p, SyntaxKind::PUB_KW);
+    let visibility = p.start();
+    p.take(SyntaxKind::PUB_KW);
     opt_scope(p);
-    complete(p, visibility, SyntaxKind::VISIBILITY);
+    visibility.complete(p, SyntaxKind::VISIBILITY);
 }
 
 /// Parses an optional visibility.
@@ -70,7 +69,7 @@ pub fn opt_visibility(p: &mut Parser<'_>)
     ensures reads { (c : Condition) → Reads c ⁅ Visibility ⁆ p.old p.new }
     ensures asks { Asks 1 p.old p.new }
 {
-    if at(p, SyntaxKind::PUB_KW) {
+    if p.at(SyntaxKind::PUB_KW) {
         visibility(p);
     }
 }

@@ -21,14 +21,14 @@ use crate::grammar::lists::{Element, ListKind, list, rest_of_list, tuple_tail};
 use crate::grammar::parts::{Part, expect_part};
 use crate::grammar::paths::{Mode, path_with_args, qualified_path};
 use crate::grammar::types::word_type;
-use parser_events::parser::{Marker, Parser};
 use parser_input::syntax_kind::SyntaxKind;
 use rust_productions::condition::Condition;
 use rust_productions::grammar::expression_words::{at_new_atom, opt_jump_label};
 use rust_productions::grammar::expressions::{at_block_like, at_body, at_expression, at_operation};
 use rust_productions::grammar::names::{at_literal, literal};
 use rust_productions::grammar::token_trees::expect_token_tree;
-use rust_productions::grammar::{at, at_pair, complete, current, expect, start, take, wrap};
+use rust_productions::marker::Marker;
+use rust_productions::parser::Parser;
 
 /// Parses an expression without operators, within `frame`, which the caller abandons.
 // (a)
@@ -40,7 +40,7 @@ pub(crate) fn inside(p: &mut Parser<'_>, frame: Marker, condition: Condition) ->
     ensures reads { Reads condition (rule rules.atom) p.old p.new }
     ensures takes { TakesIn result 2890 p.old p.new }
 {
-    match current(p) {
+    match p.current() {
         SyntaxKind::L_PAREN => paren_expr(p, frame),
         SyntaxKind::L_BRACK => {
             array_expr(p);
@@ -109,22 +109,22 @@ pub(crate) fn after_path(p: &mut Parser<'_>, frame: Marker, condition: Condition
     ensures reads { Reads condition rows.after_path p.old p.new }
     ensures asks { AsksIn result 4 p.old p.new }
 {
-    if at_pair(p, SyntaxKind::BANG, SyntaxKind::EQ) {
-        return wrap(p, frame, SyntaxKind::PATH_EXPR);
+    if p.at_pair(SyntaxKind::BANG, SyntaxKind::EQ) {
+        return frame.wrap(p, SyntaxKind::PATH_EXPR);
     }
-    if at(p, SyntaxKind::BANG) {
+    if p.at(SyntaxKind::BANG) {
         macro_call(p);
-        let frame = wrap(p, frame, SyntaxKind::MACRO_CALL);
-        return wrap(p, frame, SyntaxKind::MACRO_EXPR);
+        let frame = frame.wrap(p, SyntaxKind::MACRO_CALL);
+        return frame.wrap(p, SyntaxKind::MACRO_EXPR);
     }
     match condition {
-        Condition::On => wrap(p, frame, SyntaxKind::PATH_EXPR),
+        Condition::On => frame.wrap(p, SyntaxKind::PATH_EXPR),
         Condition::Off => {
-            if at(p, SyntaxKind::L_CURLY) {
+            if p.at(SyntaxKind::L_CURLY) {
                 list(p, ListKind::FieldValues);
-                return wrap(p, frame, SyntaxKind::RECORD_EXPR);
+                return frame.wrap(p, SyntaxKind::RECORD_EXPR);
             }
-            wrap(p, frame, SyntaxKind::PATH_EXPR)
+            frame.wrap(p, SyntaxKind::PATH_EXPR)
         }
     }
 }
@@ -136,7 +136,7 @@ fn macro_call(p: &mut Parser<'_>)
     ensures reads { (c : Condition) → Reads c rows.macro_tail p.old p.new }
     ensures takes { Takes 4090 p.old p.new }
 {
-    take(p, SyntaxKind::BANG);
+    p.take(SyntaxKind::BANG);
     expect_token_tree(p);
 }
 
@@ -149,7 +149,7 @@ fn paren_expr(p: &mut Parser<'_>, frame: Marker) -> Marker
     ensures reads { (c : Condition) → Reads c rows.tuple_or_paren p.old p.new }
     ensures takes { TakesIn result 3300 p.old p.new }
 {
-    take(p, SyntaxKind::L_PAREN);
+    p.take(SyntaxKind::L_PAREN);
     after_paren(p, frame)
 }
 
@@ -161,9 +161,9 @@ fn after_paren(p: &mut Parser<'_>, frame: Marker) -> Marker
     ensures reads { (c : Condition) → Reads c rows.after_l_paren p.old p.new }
     ensures asks { AsksIn result 780 p.old p.new }
 {
-    if at(p, SyntaxKind::R_PAREN) {
-        take(p, SyntaxKind::R_PAREN);
-        return wrap(p, frame, SyntaxKind::TUPLE_EXPR);
+    if p.at(SyntaxKind::R_PAREN) {
+        p.take(SyntaxKind::R_PAREN);
+        return frame.wrap(p, SyntaxKind::TUPLE_EXPR);
     }
     expect_expression(p, Level::Expression, Condition::Off);
     tuple_tail(
@@ -183,10 +183,10 @@ fn array_expr(p: &mut Parser<'_>)
     ensures reads { (c : Condition) → Reads c rows.array_expr p.old p.new }
     ensures takes { Takes 3200 p.old p.new }
 {
-    let node = start(p);
-    take(p, SyntaxKind::L_BRACK);
+    let node = p.start();
+    p.take(SyntaxKind::L_BRACK);
     array_elements(p);
-    complete(p, node, SyntaxKind::ARRAY_EXPR);
+    node.complete(p, SyntaxKind::ARRAY_EXPR);
 }
 
 /// Parses an array expression after its `[`.
@@ -201,7 +201,7 @@ fn array_elements(p: &mut Parser<'_>)
         after_element(p);
         return;
     }
-    expect(p, SyntaxKind::R_BRACK);
+    p.expect(SyntaxKind::R_BRACK);
 }
 
 /// Parses an array expression after its first element.
@@ -211,14 +211,14 @@ fn after_element(p: &mut Parser<'_>)
     ensures reads { (c : Condition) → Reads c rows.after_element p.old p.new }
     ensures asks { Asks 3 p.old p.new }
 {
-    if at(p, SyntaxKind::SEMICOLON) {
-        take(p, SyntaxKind::SEMICOLON);
+    if p.at(SyntaxKind::SEMICOLON) {
+        p.take(SyntaxKind::SEMICOLON);
         expect_expression(p, Level::Expression, Condition::Off);
-        expect(p, SyntaxKind::R_BRACK);
+        p.expect(SyntaxKind::R_BRACK);
         return;
     }
-    if at(p, SyntaxKind::COMMA) {
-        take(p, SyntaxKind::COMMA);
+    if p.at(SyntaxKind::COMMA) {
+        p.take(SyntaxKind::COMMA);
         rest_of_list(
             p,
             SyntaxKind::ARRAY_EXPR,
@@ -227,7 +227,7 @@ fn after_element(p: &mut Parser<'_>)
         );
         return;
     }
-    expect(p, SyntaxKind::R_BRACK);
+    p.expect(SyntaxKind::R_BRACK);
 }
 
 /// Parses a `return` expression.
@@ -238,10 +238,10 @@ fn return_expr(p: &mut Parser<'_>, condition: Condition)
     ensures reads { Reads condition (RETURN_EXPR ⟨ One 'return' ▸ rows.value ⟩) p.old p.new }
     ensures takes { Takes 3300 p.old p.new }
 {
-    let node = start(p);
-    take(p, SyntaxKind::RETURN_KW);
+    let node = p.start();
+    p.take(SyntaxKind::RETURN_KW);
     opt_value(p, condition);
-    complete(p, node, SyntaxKind::RETURN_EXPR);
+    node.complete(p, SyntaxKind::RETURN_EXPR);
 }
 
 /// Parses a `break` expression.
@@ -252,11 +252,11 @@ fn break_expr(p: &mut Parser<'_>, condition: Condition)
     ensures reads { Reads condition rows.break_expr p.old p.new }
     ensures takes { Takes 3300 p.old p.new }
 {
-    let node = start(p);
-    take(p, SyntaxKind::BREAK_KW);
+    let node = p.start();
+    p.take(SyntaxKind::BREAK_KW);
     opt_jump_label(p);
     opt_value(p, condition);
-    complete(p, node, SyntaxKind::BREAK_EXPR);
+    node.complete(p, SyntaxKind::BREAK_EXPR);
 }
 
 /// Parses a `continue` expression.
@@ -266,10 +266,10 @@ fn continue_expr(p: &mut Parser<'_>)
     ensures reads { (c : Condition) → Reads c rows.continue_expr p.old p.new }
     ensures takes { Takes 4090 p.old p.new }
 {
-    let node = start(p);
-    take(p, SyntaxKind::CONTINUE_KW);
+    let node = p.start();
+    p.take(SyntaxKind::CONTINUE_KW);
     opt_jump_label(p);
-    complete(p, node, SyntaxKind::CONTINUE_EXPR);
+    node.complete(p, SyntaxKind::CONTINUE_EXPR);
 }
 
 /// Parses the optional value of a `return` or `break` expression.
@@ -295,12 +295,12 @@ fn let_expr(p: &mut Parser<'_>)
     ensures reads { (c : Condition) → Reads c rows.let_anywhere p.old p.new }
     ensures takes { Takes 3300 p.old p.new }
 {
-    let node = start(p);
-    take(p, SyntaxKind::LET_KW);
+    let node = p.start();
+    p.take(SyntaxKind::LET_KW);
     expect_part(p, Part::Pattern);
-    expect(p, SyntaxKind::EQ);
+    p.expect(SyntaxKind::EQ);
     expect_expression(p, Level::Comparison, Condition::On);
-    complete(p, node, SyntaxKind::LET_EXPR);
+    node.complete(p, SyntaxKind::LET_EXPR);
 }
 
 /// Parses an expression without operators that only the whole language has, within `frame`. `let`
@@ -315,7 +315,7 @@ fn new_atom(p: &mut Parser<'_>, frame: Marker, condition: Condition) -> Marker
     ensures reads { Reads condition rows.new_atom p.old p.new }
     ensures takes { TakesIn result 2900 p.old p.new }
 {
-    match current(p) {
+    match p.current() {
         SyntaxKind::L_ANGLE => {
             let frame = qualified_path(p, frame, Mode::Expr);
             after_path(p, frame, condition)

@@ -14,9 +14,8 @@ ghost use Rattle.rust_productions.specs.declared.condition.Condition.TheVariants
 
 use crate::grammar::list_end::{ListEnd, at_end_of};
 use crate::grammar::statements::statement;
-use parser_events::parser::Parser;
 use parser_input::syntax_kind::SyntaxKind;
-use rust_productions::grammar::{complete, expect, start, take, tokens_left};
+use rust_productions::parser::Parser;
 
 /// Parses a block expression.
 // { f(); a }
@@ -26,9 +25,9 @@ pub(crate) fn block(p: &mut Parser<'_>)
     ensures gives { (c : Condition) → Gives rules.block c p.old p.new }
     ensures takes { Takes 2990 p.old p.new }
 {
-    let block = start(p);
+    let block = p.start();
     statement_list(p);
-    complete(p, block, SyntaxKind::BLOCK_EXPR);
+    block.complete(p, SyntaxKind::BLOCK_EXPR);
 }
 
 /// Parses the statements of a block, with their braces.
@@ -39,11 +38,11 @@ pub(crate) fn statement_list(p: &mut Parser<'_>)
     ensures gives { (c : Condition) → Gives rules.statement_list c p.old p.new }
     ensures takes { Takes 3000 p.old p.new }
 {
-    let list = start(p);
-    take(p, SyntaxKind::L_CURLY);
+    let list = p.start();
+    p.take(SyntaxKind::L_CURLY);
     statements(p, ListEnd::Brace);
-    expect(p, SyntaxKind::R_CURLY);
-    complete(p, list, SyntaxKind::STMT_LIST);
+    p.expect(SyntaxKind::R_CURLY);
+    list.complete(p, SyntaxKind::STMT_LIST);
 }
 
 /// Parses a statement. Returns `true` if the list may continue.
@@ -59,9 +58,9 @@ fn statement_turn(p: &mut Parser<'_>, end: ListEnd) -> bool
     if at_end_of(p, end) {
         return false;
     }
-    let before = tokens_left(p);
+    let before = p.tokens_left();
     statement(p, end);
-    tokens_left(p) < before
+    p.tokens_left() < before
 }
 
 /// Parses statements up to the end of their list.

@@ -23,13 +23,12 @@ use crate::grammar::lists::{ListKind, list};
 use crate::grammar::parts::{Part, expect_part};
 use crate::grammar::patterns::{single_or_missing, single_pattern};
 use crate::grammar::types::ret_type;
-use parser_events::parser::Parser;
 use parser_input::syntax_kind::SyntaxKind;
 use rust_productions::condition::Condition;
 use rust_productions::grammar::expression_words::{
     opt_const_to_move, words_from_async, words_from_const, words_from_static,
 };
-use rust_productions::grammar::{at, at_new, at_pair, complete, current, start, take};
+use rust_productions::parser::Parser;
 
 /// Parses a closure expression without `move`.
 // |a| a + 1
@@ -40,10 +39,10 @@ pub(crate) fn closure_expr(p: &mut Parser<'_>, condition: Condition)
         (CLOSURE_EXPR ⟨ rows.closure_params ▸ rows.closure_body ⟩) p.old p.new }
     ensures takes { Takes 3280 p.old p.new }
 {
-    let node = start(p);
+    let node = p.start();
     list(p, ListKind::ClosureParams);
     closure_body(p, condition);
-    complete(p, node, SyntaxKind::CLOSURE_EXPR);
+    node.complete(p, SyntaxKind::CLOSURE_EXPR);
 }
 
 /// Parses a closure expression with `move`.
@@ -55,11 +54,11 @@ pub(crate) fn move_closure(p: &mut Parser<'_>, condition: Condition)
         ⟨ One 'move' ▸ rows.closure_params ! ▸ rows.closure_body ⟩) p.old p.new }
     ensures takes { Takes 3280 p.old p.new }
 {
-    let node = start(p);
-    take(p, SyntaxKind::MOVE_KW);
+    let node = p.start();
+    p.take(SyntaxKind::MOVE_KW);
     expect_part(p, Part::ClosureParams);
     closure_body(p, condition);
-    complete(p, node, SyntaxKind::CLOSURE_EXPR);
+    node.complete(p, SyntaxKind::CLOSURE_EXPR);
 }
 
 /// Parses a closure parameter.
@@ -72,10 +71,10 @@ pub(crate) fn closure_param(p: &mut Parser<'_>)
     ensures reads { Reads Off rows.closure_param p.old p.new }
     ensures takes { Takes 2900 p.old p.new }
 {
-    let node = start(p);
+    let node = p.start();
     attributed_single(p);
     opt_type(p, Condition::Off);
-    complete(p, node, SyntaxKind::PARAM);
+    node.complete(p, SyntaxKind::PARAM);
 }
 
 /// Parses the pattern of a closure parameter, with its optional attributes.
@@ -83,10 +82,11 @@ pub(crate) fn closure_param(p: &mut Parser<'_>)
 #[cycle(grammar)]
 fn attributed_single(p: &mut Parser<'_>)
     requires begins { Starts (begins looks rows.closure_param) p.old }
-    ensures reads { (c : Condition) → Reads c (shared.outer_attributes ▸ SinglePattern) p.old p.new }
+    ensures reads { (c : Condition)
+        → Reads c (shared.outer_attributes ▸ SinglePattern) p.old p.new }
     ensures takes { Takes 2905 p.old p.new }
 {
-    if at_new(p, SyntaxKind::POUND) {
+    if p.at_new(SyntaxKind::POUND) {
         attribute(p);
         outer_attributes(p);
         single_or_missing(p);
@@ -102,8 +102,8 @@ pub(crate) fn opt_type(p: &mut Parser<'_>, condition: Condition)
     ensures reads { Reads condition ⁅ type_annotation ⁆ p.old p.new }
     ensures asks { Asks 1 p.old p.new }
 {
-    if at(p, SyntaxKind::COLON) {
-        take(p, SyntaxKind::COLON);
+    if p.at(SyntaxKind::COLON) {
+        p.take(SyntaxKind::COLON);
         expect_part(p, Part::Type);
     }
 }
@@ -115,7 +115,7 @@ fn closure_body(p: &mut Parser<'_>, condition: Condition)
     ensures reads { Reads condition rows.closure_body p.old p.new }
     ensures asks { Asks 780 p.old p.new }
 {
-    if at_pair(p, SyntaxKind::MINUS, SyntaxKind::R_ANGLE) {
+    if p.at_pair(SyntaxKind::MINUS, SyntaxKind::R_ANGLE) {
         ret_type(p);
         expect_part(p, Part::Block);
         return;
@@ -131,11 +131,11 @@ pub(crate) fn closure_with_words(p: &mut Parser<'_>, condition: Condition)
     ensures reads { Reads condition rows.closure_with_words p.old p.new }
     ensures takes { Takes 3200 p.old p.new }
 {
-    let node = start(p);
+    let node = p.start();
     closure_words(p);
     expect_part(p, Part::ClosureParams);
     closure_body(p, condition);
-    complete(p, node, SyntaxKind::CLOSURE_EXPR);
+    node.complete(p, SyntaxKind::CLOSURE_EXPR);
 }
 
 /// Parses the words before the parameters of a closure.
@@ -146,7 +146,7 @@ fn closure_words(p: &mut Parser<'_>)
     ensures reads { (c : Condition) → Reads c rows.closure_words p.old p.new }
     ensures takes { Takes 4080 p.old p.new }
 {
-    match current(p) {
+    match p.current() {
         SyntaxKind::FOR_KW => {
             for_binder(p);
             opt_const_to_move(p);

@@ -20,14 +20,14 @@ use crate::grammar::expressions::expect_condition;
 use crate::grammar::expressions::match_arm::match_arm;
 use crate::grammar::parts::{Part, expect_part};
 use parser_events::message::Message;
-use parser_events::parser::{Marker, Parser};
 use parser_input::syntax_kind::SyntaxKind;
 use rust_productions::condition::Condition;
 use rust_productions::grammar::expression_words::{at_new_block, block_words, label};
 use rust_productions::grammar::lists::at_list_end;
 use rust_productions::grammar::match_arms::{at_match_arm, at_match_attribute};
 use rust_productions::grammar::token_trees::token_tree;
-use rust_productions::grammar::{abandon, at, complete, current, error, expect, skip, start, take};
+use rust_productions::marker::Marker;
+use rust_productions::parser::Parser;
 
 /// Parses an expression that ends in a block.
 // if a { b }
@@ -38,7 +38,7 @@ pub(crate) fn block_like(p: &mut Parser<'_>)
     ensures gives { (c : Condition) → Gives rules.block_like c p.old p.new }
     ensures takes { Takes 2910 p.old p.new }
 {
-    match current(p) {
+    match p.current() {
         SyntaxKind::L_CURLY => block(p),
         SyntaxKind::UNSAFE_KW => unsafe_block(p),
         SyntaxKind::IF_KW => if_expr(p),
@@ -64,10 +64,10 @@ fn unsafe_block(p: &mut Parser<'_>)
     ensures reads { (c : Condition) → Reads c rows.unsafe_block p.old p.new }
     ensures takes { Takes 4090 p.old p.new }
 {
-    let node = start(p);
-    take(p, SyntaxKind::UNSAFE_KW);
+    let node = p.start();
+    p.take(SyntaxKind::UNSAFE_KW);
     expect_part(p, Part::StatementList);
-    complete(p, node, SyntaxKind::BLOCK_EXPR);
+    node.complete(p, SyntaxKind::BLOCK_EXPR);
 }
 
 /// Parses an `if` expression.
@@ -78,12 +78,12 @@ pub(crate) fn if_expr(p: &mut Parser<'_>)
     ensures gives { (c : Condition) → Gives rules.if_expr c p.old p.new }
     ensures takes { Takes 3300 p.old p.new }
 {
-    let node = start(p);
-    take(p, SyntaxKind::IF_KW);
+    let node = p.start();
+    p.take(SyntaxKind::IF_KW);
     expect_condition(p);
     expect_part(p, Part::Block);
     opt_else(p);
-    complete(p, node, SyntaxKind::IF_EXPR);
+    node.complete(p, SyntaxKind::IF_EXPR);
 }
 
 /// Parses the optional `else` branch of an `if` expression.
@@ -93,8 +93,8 @@ fn opt_else(p: &mut Parser<'_>)
     ensures reads { (c : Condition) → Reads c ⁅ rows.else_branch ⁆ p.old p.new }
     ensures asks { Asks 1 p.old p.new }
 {
-    if at(p, SyntaxKind::ELSE_KW) {
-        take(p, SyntaxKind::ELSE_KW);
+    if p.at(SyntaxKind::ELSE_KW) {
+        p.take(SyntaxKind::ELSE_KW);
         after_else(p);
     }
 }
@@ -106,7 +106,7 @@ fn after_else(p: &mut Parser<'_>)
     ensures reads { (c : Condition) → Reads c rows.if_or_block p.old p.new }
     ensures asks { Asks 2 p.old p.new }
 {
-    if at(p, SyntaxKind::IF_KW) {
+    if p.at(SyntaxKind::IF_KW) {
         if_expr(p);
         return;
     }
@@ -121,9 +121,9 @@ fn while_expr(p: &mut Parser<'_>)
     ensures reads { (c : Condition) → Reads c rows.while_expr p.old p.new }
     ensures takes { Takes 3300 p.old p.new }
 {
-    let node = start(p);
+    let node = p.start();
     while_rest(p);
-    complete(p, node, SyntaxKind::WHILE_EXPR);
+    node.complete(p, SyntaxKind::WHILE_EXPR);
 }
 
 /// Parses a `while` loop, within its node.
@@ -134,7 +134,7 @@ fn while_rest(p: &mut Parser<'_>)
     ensures reads { (c : Condition) → Reads c rows.while_rest p.old p.new }
     ensures takes { Takes 3300 p.old p.new }
 {
-    take(p, SyntaxKind::WHILE_KW);
+    p.take(SyntaxKind::WHILE_KW);
     expect_condition(p);
     expect_part(p, Part::Block);
 }
@@ -147,9 +147,9 @@ fn loop_expr(p: &mut Parser<'_>)
     ensures reads { (c : Condition) → Reads c rows.loop_expr p.old p.new }
     ensures takes { Takes 4090 p.old p.new }
 {
-    let node = start(p);
+    let node = p.start();
     loop_rest(p);
-    complete(p, node, SyntaxKind::LOOP_EXPR);
+    node.complete(p, SyntaxKind::LOOP_EXPR);
 }
 
 /// Parses a `loop` expression, within its node.
@@ -160,7 +160,7 @@ fn loop_rest(p: &mut Parser<'_>)
     ensures reads { (c : Condition) → Reads c rows.loop_rest p.old p.new }
     ensures takes { Takes 4090 p.old p.new }
 {
-    take(p, SyntaxKind::LOOP_KW);
+    p.take(SyntaxKind::LOOP_KW);
     expect_part(p, Part::Block);
 }
 
@@ -172,9 +172,9 @@ fn for_expr(p: &mut Parser<'_>)
     ensures reads { (c : Condition) → Reads c rows.for_expr p.old p.new }
     ensures takes { Takes 3300 p.old p.new }
 {
-    let node = start(p);
+    let node = p.start();
     for_rest(p);
-    complete(p, node, SyntaxKind::FOR_EXPR);
+    node.complete(p, SyntaxKind::FOR_EXPR);
 }
 
 /// Parses a `for` loop, within its node.
@@ -185,9 +185,9 @@ fn for_rest(p: &mut Parser<'_>)
     ensures reads { (c : Condition) → Reads c rows.for_rest p.old p.new }
     ensures takes { Takes 3300 p.old p.new }
 {
-    take(p, SyntaxKind::FOR_KW);
+    p.take(SyntaxKind::FOR_KW);
     expect_part(p, Part::Pattern);
-    expect(p, SyntaxKind::IN_KW);
+    p.expect(SyntaxKind::IN_KW);
     expect_condition(p);
     expect_part(p, Part::Block);
 }
@@ -201,7 +201,7 @@ fn new_block(p: &mut Parser<'_>)
     ensures from_start { (c : Condition) → FromStart c rows.new_block p.old p.new }
     ensures takes { Takes 3200 p.old p.new }
 {
-    if at(p, SyntaxKind::LIFETIME_IDENT) {
+    if p.at(SyntaxKind::LIFETIME_IDENT) {
         labelled(p);
         return;
     }
@@ -216,7 +216,7 @@ fn labelled(p: &mut Parser<'_>)
     ensures from_start { (c : Condition) → FromStart c rows.labelled p.old p.new }
     ensures takes { Takes 4080 p.old p.new }
 {
-    let node = start(p);
+    let node = p.start();
     label(p);
     after_label(p, node);
 }
@@ -229,22 +229,22 @@ fn after_label(p: &mut Parser<'_>, node: Marker)
     ensures completes { (c : Condition) → Completes c rows.after_label p.old p.new }
     ensures asks { Asks 2 p.old p.new }
 {
-    match current(p) {
+    match p.current() {
         SyntaxKind::WHILE_KW => {
             while_rest(p);
-            complete(p, node, SyntaxKind::WHILE_EXPR);
+            node.complete(p, SyntaxKind::WHILE_EXPR);
         }
         SyntaxKind::LOOP_KW => {
             loop_rest(p);
-            complete(p, node, SyntaxKind::LOOP_EXPR);
+            node.complete(p, SyntaxKind::LOOP_EXPR);
         }
         SyntaxKind::FOR_KW => {
             for_rest(p);
-            complete(p, node, SyntaxKind::FOR_EXPR);
+            node.complete(p, SyntaxKind::FOR_EXPR);
         }
         _ => {
             expect_part(p, Part::StatementList);
-            complete(p, node, SyntaxKind::BLOCK_EXPR);
+            node.complete(p, SyntaxKind::BLOCK_EXPR);
         }
     }
 }
@@ -257,10 +257,10 @@ fn block_with_words(p: &mut Parser<'_>)
     ensures reads { (c : Condition) → Reads c rows.block_with_words p.old p.new }
     ensures takes { Takes 4070 p.old p.new }
 {
-    let node = start(p);
+    let node = p.start();
     block_words(p);
     expect_part(p, Part::StatementList);
-    complete(p, node, SyntaxKind::BLOCK_EXPR);
+    node.complete(p, SyntaxKind::BLOCK_EXPR);
 }
 
 /// Parses a `match` expression.
@@ -271,11 +271,11 @@ fn match_expr(p: &mut Parser<'_>)
     ensures reads { (c : Condition) → Reads c rows.match_expr p.old p.new }
     ensures takes { Takes 3300 p.old p.new }
 {
-    let node = start(p);
-    take(p, SyntaxKind::MATCH_KW);
+    let node = p.start();
+    p.take(SyntaxKind::MATCH_KW);
     expect_condition(p);
     expect_part(p, Part::MatchArms);
-    complete(p, node, SyntaxKind::MATCH_EXPR);
+    node.complete(p, SyntaxKind::MATCH_EXPR);
 }
 
 /// Parses match arms in braces.
@@ -287,11 +287,11 @@ pub(crate) fn match_arms(p: &mut Parser<'_>)
     ensures gives { (c : Condition) → Gives rules.match_arms c p.old p.new }
     ensures takes { Takes 3000 p.old p.new }
 {
-    let list = start(p);
-    take(p, SyntaxKind::L_CURLY);
+    let list = p.start();
+    p.take(SyntaxKind::L_CURLY);
     arms(p);
-    expect(p, SyntaxKind::R_CURLY);
-    complete(p, list, SyntaxKind::MATCH_ARM_LIST);
+    p.expect(SyntaxKind::R_CURLY);
+    list.complete(p, SyntaxKind::MATCH_ARM_LIST);
 }
 
 /// Parses match arms up to the closing brace.
@@ -325,7 +325,7 @@ fn arm_turn(p: &mut Parser<'_>) -> bool
         match_arm(p, Condition::Off);
         return true;
     }
-    skip(p, Message::ExpectedMatchArm);
+    p.skip(Message::ExpectedMatchArm);
     true
 }
 
@@ -337,15 +337,15 @@ fn word_path(p: &mut Parser<'_>)
     ensures left { tokens p.new + 1 ≡ tokens p.old }
     ensures looks { spent p.new + 4096 ≡ spent p.old }
 {
-    let frame = start(p);
-    let path = start(p);
-    let segment = start(p);
-    let name = start(p);
-    take(p, SyntaxKind::IDENT);
-    complete(p, name, SyntaxKind::NAME_REF);
-    complete(p, segment, SyntaxKind::PATH_SEGMENT);
-    complete(p, path, SyntaxKind::PATH);
-    abandon(p, frame);
+    let frame = p.start();
+    let path = p.start();
+    let segment = p.start();
+    let name = p.start();
+    p.take(SyntaxKind::IDENT);
+    name.complete(p, SyntaxKind::NAME_REF);
+    segment.complete(p, SyntaxKind::PATH_SEGMENT);
+    path.complete(p, SyntaxKind::PATH);
+    frame.abandon(p);
 }
 
 /// Parses a macro call with braces.
@@ -356,11 +356,11 @@ fn macro_block(p: &mut Parser<'_>)
     ensures reads { (c : Condition) → Reads c rows.macro_block p.old p.new }
     ensures takes { Takes 4080 p.old p.new }
 {
-    let node = start(p);
-    let call = start(p);
+    let node = p.start();
+    let call = p.start();
     word_path(p);
-    take(p, SyntaxKind::BANG);
+    p.take(SyntaxKind::BANG);
     token_tree(p);
-    complete(p, call, SyntaxKind::MACRO_CALL);
-    complete(p, node, SyntaxKind::MACRO_EXPR);
+    call.complete(p, SyntaxKind::MACRO_CALL);
+    node.complete(p, SyntaxKind::MACRO_EXPR);
 }

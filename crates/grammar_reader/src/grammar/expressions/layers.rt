@@ -14,12 +14,12 @@ ghost use Rattle.rust_productions.specs.Starts.{StartsIn};
 use crate::grammar::expressions::operand::prefixed;
 use crate::grammar::parts::{Part, expect_part};
 use parser_events::message::Message;
-use parser_events::parser::{Marker, Parser};
 use parser_input::syntax_kind::SyntaxKind;
 use rust_productions::condition::Condition;
 use rust_productions::grammar::expressions::at_operand;
 use rust_productions::grammar::operators::{Operator, current_op, take_operator};
-use rust_productions::grammar::{abandon, error, start, wrap};
+use rust_productions::marker::Marker;
+use rust_productions::parser::Parser;
 
 /// Parses an operand with the operators of the layers up to `height`.
 // a * b + c
@@ -30,10 +30,10 @@ pub(crate) fn layers(p: &mut Parser<'_>, height: u8, condition: Condition)
     ensures gives { Gives (layer_at height) condition p.old p.new }
     ensures takes { Takes 2860 p.old p.new }
 {
-    let frame = start(p);
+    let frame = p.start();
     prefixed(p, condition);
     let frame = climb(p, frame, height, condition);
-    abandon(p, frame);
+    frame.abandon(p);
 }
 
 /// Parses operators of the layers up to `top`, each with its right operand. After an operator of a
@@ -70,10 +70,10 @@ fn turn(p: &mut Parser<'_>, frame: Marker, operator: Operator, condition: Condit
     take_operator(p, operator);
     if operator.height == 1 {
         expect_part(p, Part::TypeNoBounds);
-        return wrap(p, frame, SyntaxKind::CAST_EXPR);
+        return frame.wrap(p, SyntaxKind::CAST_EXPR);
     }
     expect_layer(p, operator.height - 1, condition);
-    wrap(p, frame, SyntaxKind::BIN_EXPR)
+    frame.wrap(p, SyntaxKind::BIN_EXPR)
 }
 
 /// Parses an operand with the operators of the layers up to `height`; emits an error if there is
@@ -89,5 +89,5 @@ pub(crate) fn expect_layer(p: &mut Parser<'_>, height: u8, condition: Condition)
         layers(p, height, condition);
         return;
     }
-    error(p, Message::ExpectedExpression);
+    p.error(Message::ExpectedExpression);
 }

@@ -24,16 +24,14 @@ use crate::grammar::or_patterns::{pattern, pattern_or_missing};
 use crate::grammar::paths::{Mode, path_with_args};
 use crate::grammar::statements::at_more;
 use parser_events::message::Message;
-use parser_events::parser::{Marker, Parser};
 use parser_input::syntax_kind::SyntaxKind;
 use rust_productions::condition::Condition;
 use rust_productions::grammar::expressions::at_block_like;
 use rust_productions::grammar::lists::comma;
 use rust_productions::grammar::match_arms::{at_braced_macro, at_long_path};
 use rust_productions::grammar::token_trees::token_tree;
-use rust_productions::grammar::{
-    abandon, at, at_new, at_pair, at_whole, complete, eat, error, start, take, take_pair, wrap,
-};
+use rust_productions::marker::Marker;
+use rust_productions::parser::Parser;
 
 /// Parses a match arm.
 // Some(a) if a > 1 => b,
@@ -44,12 +42,12 @@ pub(crate) fn match_arm(p: &mut Parser<'_>, condition: Condition)
     ensures gives { Gives rules.match_arm condition p.old p.new }
     ensures takes { Takes 2100 p.old p.new }
 {
-    let node = start(p);
+    let node = p.start();
     attributed_pattern(p);
     opt_guard(p);
     expect_arrow(p);
     arm_value(p, condition);
-    complete(p, node, SyntaxKind::MATCH_ARM);
+    node.complete(p, SyntaxKind::MATCH_ARM);
 }
 
 /// Parses the pattern of a match arm, with its optional attributes.
@@ -60,7 +58,7 @@ fn attributed_pattern(p: &mut Parser<'_>)
     ensures reads { (c : Condition) → Reads c (shared.outer_attributes ▸ Pattern) p.old p.new }
     ensures takes { Takes 2895 p.old p.new }
 {
-    if at_new(p, SyntaxKind::POUND) {
+    if p.at_new(SyntaxKind::POUND) {
         attribute(p);
         outer_attributes(p);
         pattern_or_missing(p);
@@ -76,11 +74,11 @@ fn opt_guard(p: &mut Parser<'_>)
     ensures reads { (c : Condition) → Reads c ⁅ rows.match_guard ⁆ p.old p.new }
     ensures asks { Asks 1 p.old p.new }
 {
-    if at(p, SyntaxKind::IF_KW) {
-        let guard = start(p);
-        take(p, SyntaxKind::IF_KW);
+    if p.at(SyntaxKind::IF_KW) {
+        let guard = p.start();
+        p.take(SyntaxKind::IF_KW);
         guard_value(p);
-        complete(p, guard, SyntaxKind::MATCH_GUARD);
+        guard.complete(p, SyntaxKind::MATCH_GUARD);
     }
 }
 
@@ -91,7 +89,7 @@ fn guard_value(p: &mut Parser<'_>)
     ensures reads { (c : Condition) → Reads c rows.guard_value p.old p.new }
     ensures asks { Asks 30 p.old p.new }
 {
-    if at_whole(p) {
+    if p.at_whole() {
         expect_expression(p, Level::Operation, Condition::Off);
         return;
     }
@@ -104,11 +102,11 @@ fn expect_arrow(p: &mut Parser<'_>)
     ensures reads { (c : Condition) → Reads c (One '=>' !) p.old p.new }
     ensures asks { Asks 2 p.old p.new }
 {
-    if at_pair(p, SyntaxKind::EQ, SyntaxKind::R_ANGLE) {
-        take_pair(p, SyntaxKind::FAT_ARROW);
+    if p.at_pair(SyntaxKind::EQ, SyntaxKind::R_ANGLE) {
+        p.take_pair(SyntaxKind::FAT_ARROW);
         return;
     }
-    error(p, Message::Expected(SyntaxKind::FAT_ARROW));
+    p.error(Message::Expected(SyntaxKind::FAT_ARROW));
 }
 
 /// Parses the value of a match arm and its comma.
@@ -118,7 +116,7 @@ fn arm_value(p: &mut Parser<'_>, condition: Condition)
     ensures reads { Reads condition rows.arm_value p.old p.new }
     ensures asks { Asks 780 p.old p.new }
 {
-    if at_whole(p) {
+    if p.at_whole() {
         arm_body(p, condition);
         return;
     }
@@ -134,7 +132,7 @@ fn profile_value(p: &mut Parser<'_>, condition: Condition)
 {
     if at_block_like(p) {
         block_like(p);
-        eat(p, SyntaxKind::COMMA);
+        p.eat(SyntaxKind::COMMA);
         return;
     }
     expect_expression(p, Level::Expression, condition);
@@ -148,9 +146,9 @@ fn arm_body(p: &mut Parser<'_>, condition: Condition)
     ensures gives { Gives rules.arm_body condition p.old p.new }
     ensures asks { Asks 770 p.old p.new }
 {
-    let frame = start(p);
+    let frame = p.start();
     let frame = inside_arm(p, frame, condition);
-    abandon(p, frame);
+    frame.abandon(p);
 }
 
 /// Parses the value of a match arm in the whole language, and its comma, within `frame`.
@@ -184,10 +182,10 @@ fn after_long_path(p: &mut Parser<'_>, frame: Marker, condition: Condition) -> M
     ensures asks { AsksIn result 40 p.old p.new }
 {
     if at_braced_macro(p) {
-        take(p, SyntaxKind::BANG);
+        p.take(SyntaxKind::BANG);
         token_tree(p);
-        let frame = wrap(p, frame, SyntaxKind::MACRO_CALL);
-        let frame = wrap(p, frame, SyntaxKind::MACRO_EXPR);
+        let frame = frame.wrap(p, SyntaxKind::MACRO_CALL);
+        let frame = frame.wrap(p, SyntaxKind::MACRO_EXPR);
         return arm_tail(p, frame, condition);
     }
     let frame = after_path(p, frame, condition);
@@ -206,7 +204,7 @@ fn arm_tail(p: &mut Parser<'_>, frame: Marker, condition: Condition) -> Marker
         let frame = postfix(p, frame);
         return further_operators(p, frame, condition);
     }
-    eat(p, SyntaxKind::COMMA);
+    p.eat(SyntaxKind::COMMA);
     frame
 }
 
@@ -215,7 +213,8 @@ fn arm_tail(p: &mut Parser<'_>, frame: Marker, condition: Condition) -> Marker
 #[cycle(grammar)]
 fn further_operators(p: &mut Parser<'_>, frame: Marker, condition: Condition) -> Marker
     requires innermost { IsInnermost frame p.old.nodes }
-    ensures reads { Reads condition (more rules.postfix * ▸ rows.after_operand ▸ rows.arm_comma) p.old p.new }
+    ensures reads { Reads condition
+        (more rules.postfix * ▸ rows.after_operand ▸ rows.arm_comma) p.old p.new }
     ensures asks { AsksIn result 20 p.old p.new }
 {
     let frame = postfixes(p, frame);

@@ -26,16 +26,13 @@ use crate::grammar::lists::{ListKind, list};
 use crate::grammar::parts::{Part, expect_part, opt_part};
 use crate::grammar::types::word_type;
 use parser_events::message::Message;
-use parser_events::parser::{Marker, Parser};
 use parser_input::syntax_kind::SyntaxKind;
 use rust_productions::condition::Condition;
 use rust_productions::grammar::expressions::at_operand;
 use rust_productions::grammar::operands::{at_new_operand, at_raw, opt_mut_or_const};
 use rust_productions::grammar::operators::at_joint;
-use rust_productions::grammar::{
-    abandon, at, at_new, at_pair, at_pair_after, at_second, complete, current, eat, error, expect,
-    extend_left, start, take, take_contextual, wrap,
-};
+use rust_productions::marker::Marker;
+use rust_productions::parser::Parser;
 
 /// Parses an operand with its prefix operators.
 // -!a
@@ -46,7 +43,7 @@ pub(crate) fn prefixed(p: &mut Parser<'_>, condition: Condition)
     ensures gives { Gives rules.prefixed condition p.old p.new }
     ensures takes { Takes 2870 p.old p.new }
 {
-    match current(p) {
+    match p.current() {
         SyntaxKind::MINUS => prefix_expr(p, SyntaxKind::MINUS, condition),
         SyntaxKind::BANG => prefix_expr(p, SyntaxKind::BANG, condition),
         SyntaxKind::STAR => prefix_expr(p, SyntaxKind::STAR, condition),
@@ -55,7 +52,7 @@ pub(crate) fn prefixed(p: &mut Parser<'_>, condition: Condition)
                 new_operand(p, condition);
                 return;
             }
-            if at(p, SyntaxKind::AMP) {
+            if p.at(SyntaxKind::AMP) {
                 ref_expr(p, condition);
                 return;
             }
@@ -73,10 +70,10 @@ fn prefix_expr(p: &mut Parser<'_>, operator: SyntaxKind, condition: Condition)
         (PREFIX_EXPR ⟨ One (one (raw_of operator)) ▸ Prefixed ! ⟩) p.old p.new }
     ensures takes { Takes 3300 p.old p.new }
 {
-    let node = start(p);
-    take(p, operator);
+    let node = p.start();
+    p.take(operator);
     expect_expression(p, Level::Prefixed, condition);
-    complete(p, node, SyntaxKind::PREFIX_EXPR);
+    node.complete(p, SyntaxKind::PREFIX_EXPR);
 }
 
 /// Parses a borrow expression.
@@ -87,11 +84,11 @@ fn ref_expr(p: &mut Parser<'_>, condition: Condition)
     ensures reads { Reads condition rows.ref_expr p.old p.new }
     ensures takes { Takes 3300 p.old p.new }
 {
-    let node = start(p);
-    take(p, SyntaxKind::AMP);
-    eat(p, SyntaxKind::MUT_KW);
+    let node = p.start();
+    p.take(SyntaxKind::AMP);
+    p.eat(SyntaxKind::MUT_KW);
     expect_expression(p, Level::Prefixed, condition);
-    complete(p, node, SyntaxKind::REF_EXPR);
+    node.complete(p, SyntaxKind::REF_EXPR);
 }
 
 /// Parses an operand that only the whole language has: a raw reference, one after attributes, or a
@@ -107,7 +104,7 @@ fn new_operand(p: &mut Parser<'_>, condition: Condition)
         raw_ref_expr(p, condition);
         return;
     }
-    if at(p, SyntaxKind::POUND) {
+    if p.at(SyntaxKind::POUND) {
         attributed_operand(p, condition);
         return;
     }
@@ -119,10 +116,11 @@ fn new_operand(p: &mut Parser<'_>, condition: Condition)
 #[cycle(grammar)]
 fn attributed_operand(p: &mut Parser<'_>, condition: Condition)
     requires some { 1 ≤ tokens p.old }
-    ensures from_start { FromStart condition (attributed rows.operand_after_attributes) p.old p.new }
+    ensures from_start { FromStart condition
+        (attributed rows.operand_after_attributes) p.old p.new }
     ensures takes { Takes 4000 p.old p.new }
 {
-    let frame = start(p);
+    let frame = p.start();
     attribute(p);
     attributes(p);
     operand_after_attributes(p, frame, condition);
@@ -139,11 +137,11 @@ fn operand_after_attributes(p: &mut Parser<'_>, frame: Marker, condition: Condit
 {
     if at_operand(p, condition) {
         extended_operand(p, condition);
-        abandon(p, frame);
+        frame.abandon(p);
         return;
     }
-    error(p, Message::ExpectedExpression);
-    complete(p, frame, SyntaxKind::ERROR);
+    p.error(Message::ExpectedExpression);
+    frame.complete(p, SyntaxKind::ERROR);
 }
 
 /// Parses an operand. What the innermost node has so far becomes its first children.
@@ -154,9 +152,9 @@ pub(crate) fn extended_operand(p: &mut Parser<'_>, condition: Condition)
     ensures reads { Reads condition (lead Prefixed) p.old p.new }
     ensures takes { Takes 2870 p.old p.new }
 {
-    let inner = start(p);
+    let inner = p.start();
     prefixed(p, condition);
-    extend_left(p, inner);
+    inner.extend_left(p);
 }
 
 /// Parses a raw reference.
@@ -167,12 +165,12 @@ fn raw_ref_expr(p: &mut Parser<'_>, condition: Condition)
     ensures reads { Reads condition rows.raw_ref_expr p.old p.new }
     ensures takes { Takes 4000 p.old p.new }
 {
-    let node = start(p);
-    take(p, SyntaxKind::AMP);
-    take_contextual(p, SyntaxKind::RAW_KW);
+    let node = p.start();
+    p.take(SyntaxKind::AMP);
+    p.take_contextual(SyntaxKind::RAW_KW);
     opt_mut_or_const(p);
     expect_expression(p, Level::Prefixed, condition);
-    complete(p, node, SyntaxKind::REF_EXPR);
+    node.complete(p, SyntaxKind::REF_EXPR);
 }
 
 /// Parses an expression without operators, with its postfix operators.
@@ -184,7 +182,7 @@ fn operand(p: &mut Parser<'_>, condition: Condition)
     ensures from_start { FromStart condition rows.postfixed p.old p.new }
     ensures takes { Takes 2880 p.old p.new }
 {
-    let frame = start(p);
+    let frame = p.start();
     framed_operand(p, frame, condition);
 }
 
@@ -201,7 +199,7 @@ fn framed_operand(p: &mut Parser<'_>, frame: Marker, condition: Condition)
 {
     let frame = inside(p, frame, condition);
     let frame = postfixes(p, frame);
-    abandon(p, frame);
+    frame.abandon(p);
 }
 
 /// Returns `true` if a postfix operator is next: a call, an index, a `?` or a dot.
@@ -210,12 +208,12 @@ fn at_postfix(p: &mut Parser<'_>) -> bool
     ensures some { IsTrue result → 1 ≤ tokens p.old }
     ensures peeks { Peeks 3 p.old p.new }
 {
-    match current(p) {
+    match p.current() {
         SyntaxKind::L_PAREN => true,
         SyntaxKind::L_BRACK => true,
         SyntaxKind::QUESTION => true,
         SyntaxKind::DOT => {
-            if at_pair(p, SyntaxKind::DOT, SyntaxKind::DOT) {
+            if p.at_pair(SyntaxKind::DOT, SyntaxKind::DOT) {
                 return false;
             }
             true
@@ -249,21 +247,21 @@ pub(crate) fn postfix(p: &mut Parser<'_>, frame: Marker) -> Marker
     ensures reads { (c : Condition) → Reads c (more rules.postfix) p.old p.new }
     ensures takes { TakesIn result 3290 p.old p.new }
 {
-    match current(p) {
+    match p.current() {
         SyntaxKind::L_PAREN => {
             list(p, ListKind::Arguments);
-            wrap(p, frame, SyntaxKind::CALL_EXPR)
+            frame.wrap(p, SyntaxKind::CALL_EXPR)
         }
         SyntaxKind::L_BRACK => {
             index(p);
-            wrap(p, frame, SyntaxKind::INDEX_EXPR)
+            frame.wrap(p, SyntaxKind::INDEX_EXPR)
         }
         SyntaxKind::QUESTION => {
-            take(p, SyntaxKind::QUESTION);
-            wrap(p, frame, SyntaxKind::TRY_EXPR)
+            p.take(SyntaxKind::QUESTION);
+            frame.wrap(p, SyntaxKind::TRY_EXPR)
         }
         _ => {
-            take(p, SyntaxKind::DOT);
+            p.take(SyntaxKind::DOT);
             after_dot(p, frame)
         }
     }
@@ -277,9 +275,9 @@ fn index(p: &mut Parser<'_>)
     ensures reads { (c : Condition) → Reads c rows.index p.old p.new }
     ensures takes { Takes 3300 p.old p.new }
 {
-    take(p, SyntaxKind::L_BRACK);
+    p.take(SyntaxKind::L_BRACK);
     expect_expression(p, Level::Expression, Condition::Off);
-    expect(p, SyntaxKind::R_BRACK);
+    p.expect(SyntaxKind::R_BRACK);
 }
 
 /// Returns `true` if the name of a method is next: an identifier before `(` or `::`.
@@ -288,13 +286,13 @@ fn at_method(p: &mut Parser<'_>) -> bool
     ensures some { IsTrue result → 1 ≤ tokens p.old }
     ensures peeks { Peeks 4 p.old p.new }
 {
-    if !at(p, SyntaxKind::IDENT) {
+    if !p.at(SyntaxKind::IDENT) {
         return false;
     }
-    if at_second(p, SyntaxKind::L_PAREN) {
+    if p.at_second(SyntaxKind::L_PAREN) {
         return true;
     }
-    if at_pair_after(p, SyntaxKind::COLON, SyntaxKind::COLON) {
+    if p.at_pair_after(SyntaxKind::COLON, SyntaxKind::COLON) {
         return true;
     }
     false
@@ -310,25 +308,25 @@ fn after_dot(p: &mut Parser<'_>, frame: Marker) -> Marker
 {
     if at_method(p) {
         method_call(p);
-        return wrap(p, frame, SyntaxKind::METHOD_CALL_EXPR);
+        return frame.wrap(p, SyntaxKind::METHOD_CALL_EXPR);
     }
-    if at_new(p, SyntaxKind::AWAIT_KW) {
-        take(p, SyntaxKind::AWAIT_KW);
-        return wrap(p, frame, SyntaxKind::AWAIT_EXPR);
+    if p.at_new(SyntaxKind::AWAIT_KW) {
+        p.take(SyntaxKind::AWAIT_KW);
+        return frame.wrap(p, SyntaxKind::AWAIT_EXPR);
     }
-    match current(p) {
+    match p.current() {
         SyntaxKind::IDENT => {
             word_type(p, SyntaxKind::IDENT, SyntaxKind::NAME_REF);
-            wrap(p, frame, SyntaxKind::FIELD_EXPR)
+            frame.wrap(p, SyntaxKind::FIELD_EXPR)
         }
         SyntaxKind::INT_NUMBER => {
             word_type(p, SyntaxKind::INT_NUMBER, SyntaxKind::NAME_REF);
-            wrap(p, frame, SyntaxKind::FIELD_EXPR)
+            frame.wrap(p, SyntaxKind::FIELD_EXPR)
         }
         SyntaxKind::FLOAT_NUMBER => float(p, frame),
         _ => {
-            error(p, Message::ExpectedField);
-            wrap(p, frame, SyntaxKind::FIELD_EXPR)
+            p.error(Message::ExpectedField);
+            frame.wrap(p, SyntaxKind::FIELD_EXPR)
         }
     }
 }
@@ -376,6 +374,6 @@ fn split(p: &mut Parser<'_>, frame: Marker, joint: bool) -> Marker
     if !joint {
         return frame;
     }
-    let closed = frame.complete(p, SyntaxKind::FIELD_EXPR);
-    closed.precede(p)
+    let closed = frame.close(p, SyntaxKind::FIELD_EXPR);
+    p.precede(closed)
 }

@@ -10,11 +10,11 @@ ghost use Rattle.rust_productions.specs.declared.condition.Condition.{Condition}
 
 use crate::grammar::lists::{ListKind, list};
 use crate::grammar::parts::{Part, expect_part, opt_part};
-use parser_events::parser::{Marker, Parser};
 use parser_input::syntax_kind::SyntaxKind;
 use rust_productions::condition::Condition;
 use rust_productions::grammar::names::expect_name;
-use rust_productions::grammar::{at, complete, expect, take};
+use rust_productions::marker::Marker;
+use rust_productions::parser::Parser;
 
 /// Parses a struct, and completes its node.
 // struct S<T> { a: T }
@@ -25,11 +25,11 @@ pub(crate) fn struct_item(p: &mut Parser<'_>, item: Marker, condition: Condition
     ensures completes { Completes condition rows.struct_item p.old p.new }
     ensures takes { Takes 4080 p.old p.new }
 {
-    take(p, SyntaxKind::STRUCT_KW);
+    p.take(SyntaxKind::STRUCT_KW);
     expect_name(p);
     opt_part(p, Part::GenericParams);
     fields(p, condition);
-    complete(p, item, SyntaxKind::STRUCT);
+    item.complete(p, SyntaxKind::STRUCT);
 }
 
 /// Parses the fields of a struct, or its `;`.
@@ -39,10 +39,10 @@ fn fields(p: &mut Parser<'_>, condition: Condition)
     ensures reads { Reads condition rows.struct_fields p.old p.new }
     ensures asks { Asks 4 p.old p.new }
 {
-    if at(p, SyntaxKind::L_PAREN) {
+    if p.at(SyntaxKind::L_PAREN) {
         list(p, ListKind::TupleFields);
         opt_part(p, Part::WhereClause);
-        expect(p, SyntaxKind::SEMICOLON);
+        p.expect(SyntaxKind::SEMICOLON);
         return;
     }
     opt_part(p, Part::WhereClause);
@@ -56,11 +56,11 @@ fn named_fields(p: &mut Parser<'_>)
     ensures reads { (c : Condition) → Reads c rows.named_fields p.old p.new }
     ensures asks { Asks 2 p.old p.new }
 {
-    if at(p, SyntaxKind::L_CURLY) {
+    if p.at(SyntaxKind::L_CURLY) {
         list(p, ListKind::RecordFields);
         return;
     }
-    expect(p, SyntaxKind::SEMICOLON);
+    p.expect(SyntaxKind::SEMICOLON);
 }
 
 /// Parses an enum, and completes its node.
@@ -72,10 +72,10 @@ pub(crate) fn enum_item(p: &mut Parser<'_>, item: Marker, condition: Condition)
     ensures completes { Completes condition rows.enum_item p.old p.new }
     ensures takes { Takes 4080 p.old p.new }
 {
-    take(p, SyntaxKind::ENUM_KW);
+    p.take(SyntaxKind::ENUM_KW);
     expect_name(p);
     opt_part(p, Part::GenericParams);
     opt_part(p, Part::WhereClause);
     expect_part(p, Part::Variants);
-    complete(p, item, SyntaxKind::ENUM);
+    item.complete(p, SyntaxKind::ENUM);
 }

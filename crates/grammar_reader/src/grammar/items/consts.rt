@@ -13,12 +13,12 @@ use crate::grammar::expressions::{Level, expect_expression};
 use crate::grammar::generic_params::bounds_after_colon;
 use crate::grammar::parts::{Part, expect_part, opt_part};
 use crate::grammar::types::opt_type_after;
-use parser_events::parser::{Marker, Parser};
 use parser_input::syntax_kind::SyntaxKind;
 use rust_productions::condition::Condition;
 use rust_productions::grammar::names::expect_name;
 use rust_productions::grammar::use_trees::underscore_or_name;
-use rust_productions::grammar::{at, complete, eat, expect, take};
+use rust_productions::marker::Marker;
+use rust_productions::parser::Parser;
 
 /// Parses a constant, and completes its node.
 // const A: u8 = 1;
@@ -29,11 +29,11 @@ pub(crate) fn const_item(p: &mut Parser<'_>, item: Marker, condition: Condition)
     ensures completes { Completes condition rows.const_item p.old p.new }
     ensures takes { Takes 4070 p.old p.new }
 {
-    take(p, SyntaxKind::CONST_KW);
+    p.take(SyntaxKind::CONST_KW);
     underscore_or_name(p);
     opt_part(p, Part::NewGenericParams);
     const_typed(p, condition);
-    complete(p, item, SyntaxKind::CONST);
+    item.complete(p, SyntaxKind::CONST);
 }
 
 /// Parses the type and the optional value of a constant, its where clause and its `;`.
@@ -43,11 +43,11 @@ fn const_typed(p: &mut Parser<'_>, in_condition: Condition)
     ensures reads { Reads in_condition rows.const_typed p.old p.new }
     ensures asks { Asks 20 p.old p.new }
 {
-    expect(p, SyntaxKind::COLON);
+    p.expect(SyntaxKind::COLON);
     expect_part(p, Part::Type);
     opt_value(p, in_condition);
     opt_part(p, Part::NewWhereClause);
-    expect(p, SyntaxKind::SEMICOLON);
+    p.expect(SyntaxKind::SEMICOLON);
 }
 
 /// Parses a static, and completes its node.
@@ -59,11 +59,11 @@ pub(crate) fn static_item(p: &mut Parser<'_>, item: Marker, condition: Condition
     ensures completes { Completes condition rows.static_item p.old p.new }
     ensures takes { Takes 4070 p.old p.new }
 {
-    take(p, SyntaxKind::STATIC_KW);
-    eat(p, SyntaxKind::MUT_KW);
+    p.take(SyntaxKind::STATIC_KW);
+    p.eat(SyntaxKind::MUT_KW);
     expect_name(p);
     typed_value(p, condition);
-    complete(p, item, SyntaxKind::STATIC);
+    item.complete(p, SyntaxKind::STATIC);
 }
 
 /// Parses the type and the optional value of a static, and its `;`.
@@ -73,10 +73,10 @@ fn typed_value(p: &mut Parser<'_>, condition: Condition)
     ensures reads { Reads condition rows.typed_value p.old p.new }
     ensures asks { Asks 20 p.old p.new }
 {
-    expect(p, SyntaxKind::COLON);
+    p.expect(SyntaxKind::COLON);
     expect_part(p, Part::Type);
     opt_value(p, condition);
-    expect(p, SyntaxKind::SEMICOLON);
+    p.expect(SyntaxKind::SEMICOLON);
 }
 
 /// Parses an optional value with its `=`.
@@ -86,8 +86,8 @@ pub(crate) fn opt_value(p: &mut Parser<'_>, condition: Condition)
     ensures reads { Reads condition ⁅ initializer ⁆ p.old p.new }
     ensures asks { Asks 1 p.old p.new }
 {
-    if at(p, SyntaxKind::EQ) {
-        take(p, SyntaxKind::EQ);
+    if p.at(SyntaxKind::EQ) {
+        p.take(SyntaxKind::EQ);
         expect_expression(p, Level::Expression, condition);
     }
 }
@@ -101,13 +101,13 @@ pub(crate) fn type_alias(p: &mut Parser<'_>, item: Marker, condition: Condition)
     ensures completes { Completes condition rows.type_alias p.old p.new }
     ensures takes { Takes 4080 p.old p.new }
 {
-    take(p, SyntaxKind::TYPE_KW);
+    p.take(SyntaxKind::TYPE_KW);
     expect_name(p);
     opt_part(p, Part::GenericParams);
     bounds_after_colon(p);
     opt_part(p, Part::WhereClause);
     alias_value(p);
-    complete(p, item, SyntaxKind::TYPE_ALIAS);
+    item.complete(p, SyntaxKind::TYPE_ALIAS);
 }
 
 /// Parses the optional type of a type alias, its where clause and its `;`.
@@ -119,5 +119,5 @@ fn alias_value(p: &mut Parser<'_>)
 {
     opt_type_after(p, SyntaxKind::EQ);
     opt_part(p, Part::NewWhereClause);
-    expect(p, SyntaxKind::SEMICOLON);
+    p.expect(SyntaxKind::SEMICOLON);
 }

@@ -16,12 +16,12 @@ ghost use Rattle.rust_productions.specs.declared.condition.Condition.{Condition}
 use crate::grammar::expressions::blocks::block;
 use crate::grammar::parts::{Part, expect_part, opt_part};
 use crate::grammar::types::opt_ret_type;
-use parser_events::parser::{Marker, Parser};
 use parser_input::syntax_kind::SyntaxKind;
 use rust_productions::condition::Condition;
 use rust_productions::grammar::items::fn_words;
 use rust_productions::grammar::names::expect_name;
-use rust_productions::grammar::{at, complete, expect, take};
+use rust_productions::marker::Marker;
+use rust_productions::parser::Parser;
 
 /// Parses a function, and completes its node.
 // const unsafe fn f<T>(a: T) -> T { a }
@@ -34,7 +34,7 @@ pub(crate) fn fn_item(p: &mut Parser<'_>, item: Marker, condition: Condition)
 {
     fn_words(p);
     after_fn(p);
-    complete(p, item, SyntaxKind::FN);
+    item.complete(p, SyntaxKind::FN);
 }
 
 /// Parses a function without words before its `fn`, and completes its node.
@@ -43,12 +43,13 @@ pub(crate) fn fn_item(p: &mut Parser<'_>, item: Marker, condition: Condition)
 pub(crate) fn plain_fn(p: &mut Parser<'_>, node: Marker)
     requires some { 1 ≤ tokens p.old }
     requires innermost { IsInnermost node p.old.nodes }
-    ensures completes { (c : Condition) → Completes c (FN <⟨ One 'fn' ▸ rows.after_fn ⟩) p.old p.new }
+    ensures completes { (c : Condition)
+        → Completes c (FN <⟨ One 'fn' ▸ rows.after_fn ⟩) p.old p.new }
     ensures takes { Takes 4080 p.old p.new }
 {
-    take(p, SyntaxKind::FN_KW);
+    p.take(SyntaxKind::FN_KW);
     after_fn(p);
-    complete(p, node, SyntaxKind::FN);
+    node.complete(p, SyntaxKind::FN);
 }
 
 /// Parses a function after its `fn`.
@@ -73,9 +74,9 @@ fn fn_body(p: &mut Parser<'_>)
     ensures reads { (c : Condition) → Reads c rows.fn_body p.old p.new }
     ensures asks { Asks 2 p.old p.new }
 {
-    if at(p, SyntaxKind::L_CURLY) {
+    if p.at(SyntaxKind::L_CURLY) {
         block(p);
         return;
     }
-    expect(p, SyntaxKind::SEMICOLON);
+    p.expect(SyntaxKind::SEMICOLON);
 }

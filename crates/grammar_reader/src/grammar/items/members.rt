@@ -16,14 +16,13 @@ use crate::grammar::items::attributes_and_visibility;
 use crate::grammar::lists::{ListKind, list};
 use crate::grammar::parts::{Part, expect_part};
 use crate::grammar::types::any_type;
-use parser_events::parser::Parser;
 use parser_input::syntax_kind::SyntaxKind;
 use rust_productions::condition::Condition;
 use rust_productions::grammar::items::opt_unsafe_field;
 use rust_productions::grammar::names::{expect_name, name};
 use rust_productions::grammar::types::at_type;
 use rust_productions::grammar::visibility::visibility;
-use rust_productions::grammar::{at_new, at_whole, complete, current, expect, start, take};
+use rust_productions::parser::Parser;
 
 /// Returns `true` if a variant starts here: at an attribute, a visibility or a name.
 pub(crate) fn at_named_member(p: &mut Parser<'_>) -> bool
@@ -31,7 +30,7 @@ pub(crate) fn at_named_member(p: &mut Parser<'_>) -> bool
         (begins looks (Attribute * ▸ ⁅ Visibility ⁆ ▸ Name !)) p.old result }
     ensures peeks { Peeks 1 p.old p.new }
 {
-    match current(p) {
+    match p.current() {
         SyntaxKind::POUND | SyntaxKind::PUB_KW | SyntaxKind::IDENT => true,
         _ => false,
     }
@@ -43,10 +42,10 @@ pub(crate) fn at_record_field(p: &mut Parser<'_>) -> bool
     ensures sees { (c : Condition) → Saw c (begins looks rows.field_front) p.old result }
     ensures peeks { Peeks 1 p.old p.new }
 {
-    match current(p) {
+    match p.current() {
         SyntaxKind::PUB_KW | SyntaxKind::POUND | SyntaxKind::IDENT => true,
         SyntaxKind::UNSAFE_KW => {
-            if at_whole(p) {
+            if p.at_whole() {
                 return true;
             }
             false
@@ -60,7 +59,7 @@ pub(crate) fn at_tuple_field(p: &mut Parser<'_>) -> bool
     ensures sees { (c : Condition) → Saw c (begins looks rows.typed) p.old result }
     ensures peeks { Peeks 17 p.old p.new }
 {
-    match current(p) {
+    match p.current() {
         SyntaxKind::POUND | SyntaxKind::PUB_KW => true,
         _ => at_type(p),
     }
@@ -76,11 +75,11 @@ pub(crate) fn variant(p: &mut Parser<'_>)
     ensures reads { Reads Off rows.variant p.old p.new }
     ensures takes { Takes 4000 p.old p.new }
 {
-    let variant = start(p);
+    let variant = p.start();
     named(p);
     opt_fields(p);
     opt_discriminant(p);
-    complete(p, variant, SyntaxKind::VARIANT);
+    variant.complete(p, SyntaxKind::VARIANT);
 }
 
 /// Parses a named field.
@@ -93,12 +92,12 @@ pub(crate) fn record_field(p: &mut Parser<'_>)
     ensures reads { Reads Off rows.record_field p.old p.new }
     ensures takes { Takes 4000 p.old p.new }
 {
-    let field = start(p);
+    let field = p.start();
     field_front(p);
-    expect(p, SyntaxKind::COLON);
+    p.expect(SyntaxKind::COLON);
     expect_part(p, Part::Type);
     opt_discriminant(p);
-    complete(p, field, SyntaxKind::RECORD_FIELD);
+    field.complete(p, SyntaxKind::RECORD_FIELD);
 }
 
 /// Parses a tuple field.
@@ -111,9 +110,9 @@ pub(crate) fn tuple_field(p: &mut Parser<'_>)
     ensures reads { Reads Off rows.tuple_field p.old p.new }
     ensures takes { Takes 2900 p.old p.new }
 {
-    let field = start(p);
+    let field = p.start();
     typed(p);
-    complete(p, field, SyntaxKind::TUPLE_FIELD);
+    field.complete(p, SyntaxKind::TUPLE_FIELD);
 }
 
 /// Parses the attributes, the visibility and the name of a named field.
@@ -125,7 +124,7 @@ fn field_front(p: &mut Parser<'_>)
     ensures reads { Reads Off rows.field_front p.old p.new }
     ensures takes { Takes 4060 p.old p.new }
 {
-    match current(p) {
+    match p.current() {
         SyntaxKind::POUND => {
             attributes_and_visibility(p);
             unsafe_and_name(p);
@@ -135,7 +134,7 @@ fn field_front(p: &mut Parser<'_>)
             unsafe_and_name(p);
         }
         SyntaxKind::UNSAFE_KW => {
-            take(p, SyntaxKind::UNSAFE_KW);
+            p.take(SyntaxKind::UNSAFE_KW);
             expect_name(p);
         }
         _ => {
@@ -161,8 +160,8 @@ fn opt_discriminant(p: &mut Parser<'_>)
     ensures reads { Reads Off rows.discriminant p.old p.new }
     ensures asks { Asks 1 p.old p.new }
 {
-    if at_new(p, SyntaxKind::EQ) {
-        take(p, SyntaxKind::EQ);
+    if p.at_new(SyntaxKind::EQ) {
+        p.take(SyntaxKind::EQ);
         const_value(p);
     }
 }
@@ -174,9 +173,9 @@ fn const_value(p: &mut Parser<'_>)
     ensures reads { Reads Off (CONST_ARG ⟨ Expression ! ⟩) p.old p.new }
     ensures asks { Asks 770 p.old p.new }
 {
-    let node = start(p);
+    let node = p.start();
     expect_expression(p, Level::Expression, Condition::Off);
-    complete(p, node, SyntaxKind::CONST_ARG);
+    node.complete(p, SyntaxKind::CONST_ARG);
 }
 
 /// Parses the attributes, the visibility and the name of a variant.
@@ -188,7 +187,7 @@ fn named(p: &mut Parser<'_>)
     ensures reads { Reads Off (Attribute * ▸ ⁅ Visibility ⁆ ▸ Name !) p.old p.new }
     ensures takes { Takes 4060 p.old p.new }
 {
-    match current(p) {
+    match p.current() {
         SyntaxKind::POUND => {
             attributes_and_visibility(p);
             expect_name(p);
@@ -210,7 +209,7 @@ fn typed(p: &mut Parser<'_>)
     ensures reads { Reads Off rows.typed p.old p.new }
     ensures takes { Takes 2900 p.old p.new }
 {
-    match current(p) {
+    match p.current() {
         SyntaxKind::POUND => {
             attributes_and_visibility(p);
             expect_part(p, Part::Type);
@@ -230,7 +229,7 @@ fn opt_fields(p: &mut Parser<'_>)
     ensures reads { (c : Condition) → Reads c ⁅ rows.variant_fields ⁆ p.old p.new }
     ensures asks { Asks 1 p.old p.new }
 {
-    match current(p) {
+    match p.current() {
         SyntaxKind::L_CURLY => list(p, ListKind::RecordFields),
         SyntaxKind::L_PAREN => list(p, ListKind::TupleFields),
         _ => {}

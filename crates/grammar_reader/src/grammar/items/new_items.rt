@@ -15,7 +15,6 @@ use crate::grammar::items::item_list;
 use crate::grammar::items::traits::{plain_impl, plain_trait};
 use crate::grammar::parts::{Part, expect_part, opt_part};
 use parser_events::message::Message;
-use parser_events::parser::{Marker, Parser};
 use parser_input::syntax_kind::SyntaxKind;
 use rust_productions::condition::Condition;
 use rust_productions::grammar::item_words::{
@@ -25,7 +24,8 @@ use rust_productions::grammar::item_words::{
 };
 use rust_productions::grammar::macros::{extern_crate, macro_def, macro_rules};
 use rust_productions::grammar::names::name;
-use rust_productions::grammar::{at, complete, current, eat, error, take, take_contextual};
+use rust_productions::marker::Marker;
+use rust_productions::parser::Parser;
 
 /// Parses an item that only the whole language has, or that has words before its own there, and
 /// completes its node.
@@ -49,7 +49,7 @@ pub(crate) fn new_item(p: &mut Parser<'_>, item: Marker, condition: Condition)
         macro_rules(p, item);
         return;
     }
-    if at(p, SyntaxKind::MACRO_KW) {
+    if p.at(SyntaxKind::MACRO_KW) {
         macro_def(p, item);
         return;
     }
@@ -65,12 +65,12 @@ fn union_item(p: &mut Parser<'_>, item: Marker)
     ensures completes { (c : Condition) → Completes c rows.union_item p.old p.new }
     ensures takes { Takes 4080 p.old p.new }
 {
-    take_contextual(p, SyntaxKind::UNION_KW);
+    p.take_contextual(SyntaxKind::UNION_KW);
     name(p);
     opt_part(p, Part::GenericParams);
     opt_part(p, Part::WhereClause);
     expect_part(p, Part::RecordFields);
-    complete(p, item, SyntaxKind::UNION);
+    item.complete(p, SyntaxKind::UNION);
 }
 
 /// Parses an item with words before its own, and completes its node.
@@ -83,22 +83,22 @@ fn item_words(p: &mut Parser<'_>, item: Marker, condition: Condition)
     ensures takes { Takes 4000 p.old p.new }
 {
     if at_const_word(p) {
-        take(p, SyntaxKind::CONST_KW);
+        p.take(SyntaxKind::CONST_KW);
         words_from_async(p, item, condition);
         return;
     }
     if at_async_word(p) {
-        take(p, SyntaxKind::ASYNC_KW);
+        p.take(SyntaxKind::ASYNC_KW);
         words_from_gen(p, item, condition);
         return;
     }
     if at_gen_word(p) {
-        take(p, SyntaxKind::GEN_KW);
+        p.take(SyntaxKind::GEN_KW);
         words_from_unsafe(p, item, condition);
         return;
     }
     if at_unsafe_word(p) {
-        take(p, SyntaxKind::UNSAFE_KW);
+        p.take(SyntaxKind::UNSAFE_KW);
         safe_or_abi(p, item, condition);
         return;
     }
@@ -115,23 +115,23 @@ fn contextual_words(p: &mut Parser<'_>, item: Marker, condition: Condition)
     ensures takes { Takes 4020 p.old p.new }
 {
     if at_safe_word(p) {
-        take_contextual(p, SyntaxKind::SAFE_KW);
+        p.take_contextual(SyntaxKind::SAFE_KW);
         abi_or_words(p, item, condition);
         return;
     }
-    if at(p, SyntaxKind::EXTERN_KW) {
+    if p.at(SyntaxKind::EXTERN_KW) {
         read_abi(p);
         after_abi(p, item, condition);
         return;
     }
     if at_auto_word(p) {
-        take_contextual(p, SyntaxKind::AUTO_KW);
+        p.take_contextual(SyntaxKind::AUTO_KW);
         opt_default_words(p);
         item_word(p, item, condition);
         return;
     }
-    take_contextual(p, SyntaxKind::DEFAULT_KW);
-    eat(p, SyntaxKind::ASYNC_KW);
+    p.take_contextual(SyntaxKind::DEFAULT_KW);
+    p.eat(SyntaxKind::ASYNC_KW);
     opt_unsafe_after_default(p);
     item_word(p, item, condition);
 }
@@ -192,7 +192,7 @@ fn abi_or_words(p: &mut Parser<'_>, item: Marker, condition: Condition)
     ensures completes { Completes condition rows.abi_or_words p.old p.new }
     ensures asks { Asks 28 p.old p.new }
 {
-    if at(p, SyntaxKind::EXTERN_KW) {
+    if p.at(SyntaxKind::EXTERN_KW) {
         read_abi(p);
         after_abi(p, item, condition);
         return;
@@ -210,9 +210,9 @@ fn after_abi(p: &mut Parser<'_>, item: Marker, condition: Condition)
     ensures completes { Completes condition rows.after_abi p.old p.new }
     ensures asks { Asks 12 p.old p.new }
 {
-    if at(p, SyntaxKind::L_CURLY) {
+    if p.at(SyntaxKind::L_CURLY) {
         item_list(p, SyntaxKind::ITEM_LIST);
-        complete(p, item, SyntaxKind::EXTERN_BLOCK);
+        item.complete(p, SyntaxKind::EXTERN_BLOCK);
         return;
     }
     item_word(p, item, condition);
@@ -226,7 +226,7 @@ fn item_word(p: &mut Parser<'_>, item: Marker, condition: Condition)
     ensures completes { Completes condition rows.item_word p.old p.new }
     ensures asks { Asks 10 p.old p.new }
 {
-    match current(p) {
+    match p.current() {
         SyntaxKind::FN_KW => plain_fn(p, item),
         SyntaxKind::TRAIT_KW => plain_trait(p, item),
         SyntaxKind::IMPL_KW => plain_impl(p, item),
@@ -234,8 +234,8 @@ fn item_word(p: &mut Parser<'_>, item: Marker, condition: Condition)
         SyntaxKind::CONST_KW => const_item(p, item, condition),
         SyntaxKind::TYPE_KW => type_alias(p, item, condition),
         _ => {
-            error(p, Message::ExpectedItem);
-            complete(p, item, SyntaxKind::ERROR);
+            p.error(Message::ExpectedItem);
+            item.complete(p, SyntaxKind::ERROR);
         }
     }
 }

@@ -13,14 +13,14 @@ use crate::grammar::generic_params::{bounds, bounds_after_colon};
 use crate::grammar::lists::{ListKind, list};
 use crate::grammar::parts::{Part, expect_part, opt_part};
 use crate::grammar::types::opt_type_after;
-use parser_events::parser::{Marker, Parser};
 use parser_input::syntax_kind::SyntaxKind;
 use rust_productions::condition::Condition;
 use rust_productions::grammar::items::{
     at_impl_params, opt_const_before_trait, opt_negation, unsafe_word,
 };
 use rust_productions::grammar::names::expect_name;
-use rust_productions::grammar::{at_new, complete, expect, take};
+use rust_productions::marker::Marker;
+use rust_productions::parser::Parser;
 
 /// Parses an implementation, and completes its node.
 // impl<T> A for B<T> { fn f() {} }
@@ -33,7 +33,7 @@ pub(crate) fn impl_item(p: &mut Parser<'_>, item: Marker, condition: Condition)
 {
     unsafe_word(p, SyntaxKind::IMPL_KW);
     after_impl(p);
-    complete(p, item, SyntaxKind::IMPL);
+    item.complete(p, SyntaxKind::IMPL);
 }
 
 /// Parses an implementation without words before its `impl`, and completes its node.
@@ -45,9 +45,9 @@ pub(crate) fn plain_impl(p: &mut Parser<'_>, item: Marker)
     ensures completes { (c : Condition) → Completes c rows.plain_impl p.old p.new }
     ensures takes { Takes 4060 p.old p.new }
 {
-    take(p, SyntaxKind::IMPL_KW);
+    p.take(SyntaxKind::IMPL_KW);
     after_impl(p);
-    complete(p, item, SyntaxKind::IMPL);
+    item.complete(p, SyntaxKind::IMPL);
 }
 
 /// Parses an implementation after its `impl`.
@@ -89,7 +89,7 @@ pub(crate) fn trait_item(p: &mut Parser<'_>, item: Marker, condition: Condition)
 {
     unsafe_word(p, SyntaxKind::TRAIT_KW);
     after_trait(p);
-    complete(p, item, SyntaxKind::TRAIT);
+    item.complete(p, SyntaxKind::TRAIT);
 }
 
 /// Parses a trait without words before its `trait`, and completes its node.
@@ -101,9 +101,9 @@ pub(crate) fn plain_trait(p: &mut Parser<'_>, item: Marker)
     ensures completes { (c : Condition) → Completes c rows.plain_trait p.old p.new }
     ensures takes { Takes 4080 p.old p.new }
 {
-    take(p, SyntaxKind::TRAIT_KW);
+    p.take(SyntaxKind::TRAIT_KW);
     after_trait(p);
-    complete(p, item, SyntaxKind::TRAIT);
+    item.complete(p, SyntaxKind::TRAIT);
 }
 
 /// Parses a trait after its `trait`.
@@ -125,7 +125,7 @@ fn trait_body(p: &mut Parser<'_>)
     ensures reads { (c : Condition) → Reads c rows.trait_body p.old p.new }
     ensures asks { Asks 4 p.old p.new }
 {
-    if at_new(p, SyntaxKind::EQ) {
+    if p.at_new(SyntaxKind::EQ) {
         alias_bounds(p);
         return;
     }
@@ -140,10 +140,10 @@ fn alias_bounds(p: &mut Parser<'_>)
     ensures reads { (c : Condition) → Reads c rows.alias_bounds p.old p.new }
     ensures takes { Takes 4000 p.old p.new }
 {
-    take(p, SyntaxKind::EQ);
+    p.take(SyntaxKind::EQ);
     bounds(p);
     opt_part(p, Part::WhereClause);
-    expect(p, SyntaxKind::SEMICOLON);
+    p.expect(SyntaxKind::SEMICOLON);
 }
 
 /// Parses the optional bounds of a trait, and its items.

@@ -8,7 +8,7 @@ abbrev pub invariant-down : goal.invariant-down
 invariant-down l = record {
   cut : IsCut (tree_text l.inside) l.end;
   before : l.byte < l.end;
-  found : (r : Option ℕ) → IsCharAt (take l.end (tree_text l.inside)) l.byte r → IsCharAt (take l.fn.end (tree_text l.node)) l.fn.byte r;
+  found : (r : Option ℕ) → IsCharAt (take l.end (tree_text l.inside)) l.byte r → IsCharAt (take l.fn.end (tree_text l.fn.node)) l.fn.byte r;
 }
 
 abbrev pub decreases-down : goal.decreases-down

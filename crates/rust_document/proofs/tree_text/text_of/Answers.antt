@@ -1,7 +1,6 @@
 -- A node's children are entered, and left when none of them is left.
 use Rattle.std.proofs.Common.{◌++◌, ap, ◌∙◌}
 use Rattle.std.specs.Prelude.{string_bytes}
-use Rattle.rowan_green.specs.Referred.{referred_term}
 use Rattle.rust_document.proofs.OpenTexts.{begun-text, entered-text, entered-steps, left-text, left-steps}
 use Rattle.rust_document.proofs.tree_text.text_of.Goals as goal
 
@@ -10,12 +9,12 @@ elements-init c = begun-text c.args.tree.now _ _ _ c.in_ok-text.ensures.bytes c.
 
 pub elements-smaller-in-Some-Node : goal.elements-smaller-in-Some-Node
 elements-smaller-in-Some-Node c =
-    entered-steps _ _ _ _ _ _ _ c.in-Some-Node.ensures.steps (ap referred_term c.in-Some-Node.field-0-is) c.children-children-in-Some-Node.ensures.children c.in_ok-push-in-Some-Node.ensures.items
+    entered-steps _ _ _ _ _ _ _ c.in-Some-Node.ensures.steps c.in-Some-Node.field-0-is c.children-children-in-Some-Node.ensures.children c.in_ok-push-in-Some-Node.ensures.items
 
 pub elements-preserved-in-Some-Node : goal.elements-preserved-in-Some-Node
 elements-preserved-in-Some-Node c =
     ap (λ s. string_bytes c.elements.text ++ s)
-    (entered-text _ _ _ _ _ _ _ c.in-Some-Node.ensures.steps (ap referred_term c.in-Some-Node.field-0-is) c.children-children-in-Some-Node.ensures.children c.in_ok-push-in-Some-Node.ensures.items)
+    (entered-text _ _ _ _ _ _ _ c.in-Some-Node.ensures.steps c.in-Some-Node.field-0-is c.children-children-in-Some-Node.ensures.children c.in_ok-push-in-Some-Node.ensures.items)
     ∙ c.elements.invariant
 
 pub elements-smaller : goal.elements-smaller

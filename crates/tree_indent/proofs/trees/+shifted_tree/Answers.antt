@@ -5,7 +5,6 @@ use Rattle.rowan_green.specs.Term.{children_of, forest_of, FitsNode, FitsToken}
 use Rattle.rowan_green.specs.Forest.{tree_count}
 use Rattle.rowan_green.specs.Leaf.{Leaf}
 use Rattle.rowan_green.specs.declared.utility_types.NodeOrToken.TheVariants.{Node, Token}
-use Rattle.rowan_green.specs.Referred.{referred_term}
 use Rattle.tree_indent.specs.Shifted.{shifted_tree, FitsForest, FitsTree}
 use Rattle.tree_indent.proofs.Shifting.{shifted_term, shifted-terms, whole-tree, next-child, all-below, rest-below, fits-rest, fits-children, refuses-whole, whole-fits, node-more, token-more}
 use Rattle.tree_indent.proofs.trees.+shifted_tree.Goals as goal
@@ -31,14 +30,14 @@ loop-child-preserved t c =
     let s = c.args.shift in
     let made = c.loop-child.children.items in
     let more = c.push.new.self.items in
-    let e = referred_term c.in-Some.child in
+    let e = c.in-Some.child in
     let before = c.loop-child.child-iterator in
     let after = c.next.new.self in
     let first : before ≡ e ∷ after = c.in-Some.ensures.steps in
     let new = c.match-child.new in
     let is : new ≡ shifted_term s e = elim c.match-child.branch [
-      | in-Node+in_ok-shifted_tree-in-Node w ↦ w.new-is ∙ ap Node w.in_ok-shifted_tree-in-Node.ensures.ok ∙ ap (shifted_term s) (sym (ap referred_term w.in-Node.is))
-      | in-Token+in_ok-shifted_token-in-Token w ↦ w.new-is ∙ ap Token w.in_ok-shifted_token-in-Token.ensures.ok ∙ ap (shifted_term s) (sym (ap referred_term w.in-Token.is))
+      | in-Node+in_ok-shifted_tree-in-Node w ↦ w.new-is ∙ ap Node w.in_ok-shifted_tree-in-Node.ensures.ok ∙ ap (shifted_term s) (sym w.in-Node.is)
+      | in-Token+in_ok-shifted_token-in-Token w ↦ w.new-is ∙ ap Token w.in_ok-shifted_token-in-Token.ensures.ok ∙ ap (shifted_term s) (sym w.in-Token.is)
     ] in
     let stands : FitsForest (forest_of more) = elim c.match-child.branch [
       | in-Node+in_ok-shifted_tree-in-Node w ↦

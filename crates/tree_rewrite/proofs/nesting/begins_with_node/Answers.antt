@@ -1,7 +1,6 @@
 use Rattle.std.proofs.Common.{◌∷◌, length, sym, ◌∙◌, ap}
-use Rattle.std.specs.Option.{option_copied}
 use Rattle.tree_rewrite.specs.Recorded.{change_of}
-use Rattle.tree_rewrite.proofs.NestingLemmas.{first_child, no_row, no_gap, some_copied}
+use Rattle.tree_rewrite.proofs.NestingLemmas.{first_child, no_row, no_gap}
 use Rattle.tree_rewrite.proofs.nesting.begins_with_node.Goals as goal
 
 pub returns-in-Gap : goal.returns-in-Gap
@@ -24,6 +23,5 @@ returns-in-Some c = λ t v i up there.
     let is = c.target.ensures.1 ∙ ap (λ x. change_of x es) c.in-Slots.is in
     let at = sym c.deref.ensures.value ∙ c.in-Some.ensures.cases.0 in
     c.is_some.ensures
-    ∙ some_copied c.child_node.result
-    ∙ first_child t v i c.args.change.now f c.in-Slots.more es c.in-Slots.single c.in-Some.index.now c.in-Some.field-0-1.now (option_copied c.args.parent) (option_copied c.child_node.result)
+    ∙ first_child t v i c.args.change.now f c.in-Slots.more es c.in-Slots.single c.in-Some.index.now c.in-Some.field-0-1.now c.args.parent.now c.child_node.result
     is at there up c.child_node.ensures

@@ -1,6 +1,5 @@
-use Rattle.std.proofs.Common.{◌≡◌, ◌-◌, ◌∙◌, ◌&&◌, Bool, not, ap, drop, slice_index, arith, length}
+use Rattle.std.proofs.Common.{◌≡◌, ◌-◌, ◌∙◌, ◌&&◌, Some, Bool, not, ap, drop, slice_index, arith, length}
 use Rattle.std.specs.List.{list_any}
-use Rattle.std.specs.Option.{option_copied}
 use Rattle.tree_rewrite.specs.Change.{Change, is_node_by_node}
 use Rattle.tree_rewrite.specs.Held.{leads_through}
 use Rattle.tree_rewrite.specs.WayTrie.{node_at}
@@ -17,7 +16,7 @@ loop-depth-init c =
     record {
       within = omega arith;
       at = walk_top c.args.held.now w d (omega arith);
-      parent = node_top c.args.root.now w d (omega arith);
+      parent = ap Some c.as_ref.ensures ∙ node_top c.args.root.now w d (omega arith);
       lost = lost_top k c.args.changes.now (drop d w) _ (way_top w d (omega arith)) c.is_gone-lost.ensures;
     }
 
@@ -31,7 +30,7 @@ loop-depth-preserved c =
     record {
       within = omega (arith, inv.within);
       at = at;
-      parent = node_step c.args.root.now w (e - 1) e (option_copied c.loop-depth.parent) (option_copied c.child_node-parent.result) (omega arith) inv.within inv.parent c.child_node-parent.ensures;
+      parent = node_step c.args.root.now w (e - 1) e c.loop-depth.parent c.child_node-parent.result (omega arith) inv.within inv.parent c.child_node-parent.ensures;
       lost = lost_more k c.args.changes.now w (e - 1) e c.loop-depth.lost c.is_child_gone-lost.result (omega arith) inv.within inv.lost
           (c.is_child_gone-lost.ensures c.args.root.now (drop e w) (slice_index w (e - 1)) (at ∙ ap (node_at c.args.held.now) (way_step w (e - 1) e (omega arith) inv.within)) inv.parent);
     }

@@ -1,6 +1,5 @@
 use Rattle.std.proofs.Common.{◌≡◌, ◌≤◌, ◌&&◌, not, length, drop}
 use Rattle.std.specs.List.{list_any}
-use Rattle.std.specs.Option.{option_copied}
 use Rattle.rowan.specs.Place.{term_by}
 use Rattle.tree_rewrite.specs.Change.{is_node_by_node}
 use Rattle.tree_rewrite.specs.Held.{leads_through}
@@ -12,7 +11,7 @@ abbrev pub invariant-loop-depth : goal.invariant-loop-depth
 invariant-loop-depth l = record {
   within : l.depth ≤ length l.way;
   at : l.node ≡ node_at l.held (drop l.depth l.way);
-  parent : option_copied l.parent ≡ node_in (term_by l.root (drop l.depth l.way));
+  parent : l.parent ≡ node_in (term_by l.root (drop l.depth l.way));
   lost : l.lost ≡ list_any (λ r. leads_through (drop l.depth l.way) r && not (is_node_by_node l.root r)) l.changes;
 }
 

@@ -1,5 +1,4 @@
-use Rattle.std.proofs.Common.{◌≡◌, ◌-◌, ◌∙◌, ap, drop, arith, length}
-use Rattle.std.specs.Option.{option_copied}
+use Rattle.std.proofs.Common.{◌≡◌, ◌-◌, ◌∙◌, Some, ap, drop, arith, length}
 use Rattle.rowan.specs.Place.{term_by}
 use Rattle.tree_rewrite.specs.Walk.{node_in}
 use Rattle.tree_rewrite.proofs.NestingLemmas.{node_step, node_top}
@@ -8,7 +7,7 @@ use Rattle.tree_rewrite.proofs.nesting.node_by.Goals as goal
 pub loop-depth-init : goal.loop-depth-init
 loop-depth-init c = record {
   within = omega arith;
-  at = node_top c.args.root.now c.args.way.now (length c.args.way.now) (omega arith);
+  at = ap Some c.as_ref.ensures ∙ node_top c.args.root.now c.args.way.now (length c.args.way.now) (omega arith);
 }
 
 pub loop-depth-preserved : goal.loop-depth-preserved
@@ -17,7 +16,7 @@ loop-depth-preserved c =
     let inv = c.loop-depth.invariant in
     record {
       within = omega (arith, inv.within);
-      at = node_step c.args.root.now c.args.way.now (e - 1) e (option_copied c.loop-depth.node) (option_copied c.child_node-node.result) (omega arith) inv.within inv.at c.child_node-node.ensures;
+      at = node_step c.args.root.now c.args.way.now (e - 1) e c.loop-depth.node c.child_node-node.result (omega arith) inv.within inv.at c.child_node-node.ensures;
     }
 
 pub returns : goal.returns

@@ -65,7 +65,7 @@ items::attributed_item-body-requires t c = (omega arith, ((λ e. absurd (true≢
 pub items::attributed_item-returns-clause-from_start : goal.items::attributed_item-returns-clause-from_start
 unfolding tokens fresh read look_of begins_below whole rule items statements expressions patterns types paths there_at shift passes is_silent begins in_mode from_start row one_of any_of no_longer longest is_longer
 items::attributed_item-returns-clause-from_start t c =
-    let seen : Saw c.args.condition (begins looks (Call rules.attribute)) c.start-item.new.p true = saw-inside c.start-item.ensures.opens (c.requires.begins c.args.condition) in
+    let seen : Saw c.args.condition (begins looks (Call rules.attribute)) c.start-item.new.self true = saw-inside c.start-item.ensures.opens (c.requires.begins c.args.condition) in
     from_start-apart (from_start-given c.start-item.ensures.opens (c.attributes_and_visibility.ensures.reads c.args.condition) (λ s e. option-keeps rules.visibility c.args.condition refl (reads (is_on c.args.condition) (Star (Call rules.attribute)) (fresh s)) (turns-give rules.attribute c.args.condition refl (fresh s) (omega (arith, c.requires.some, c.start-item.ensures.stays.left, ap (λ (ts : List Token). length ts) e)) (seen.at (fresh s) e))) (where-more c.body.ensures.completes))
 
 pub items::attributes_and_visibility-returns-clause-reads : goal.items::attributes_and_visibility-returns-clause-reads

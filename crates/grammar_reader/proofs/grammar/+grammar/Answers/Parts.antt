@@ -152,7 +152,7 @@ pub parts::expect_part-returns-then-at_part-clause-reads : goal.parts::expect_pa
 parts::expect_part-returns-then-at_part-clause-reads t c = λ cond. reads-want cond (part-there c.args.part (saw-so (c.at_part.ensures.sees cond) c.if-at_part.true)) (after-look cond c.at_part.ensures.peeks.same (c.read_part.ensures.reads cond))
 
 pub parts::expect_part-returns-clause-reads : goal.parts::expect_part-returns-clause-reads
-parts::expect_part-returns-clause-reads t c = λ cond. reads-missing cond (part-there c.args.part (saw-so (c.at_part.ensures.sees cond) c.if-at_part.false)) (after-look cond c.at_part.ensures.peeks.same (subst (λ (m : Message). Reads cond (Say m) c.at_part.new.p c.error.new.p) c.missing_part.ensures.is (c.error.ensures.reads cond)))
+parts::expect_part-returns-clause-reads t c = λ cond. reads-missing cond (part-there c.args.part (saw-so (c.at_part.ensures.sees cond) c.if-at_part.false)) (after-look cond c.at_part.ensures.peeks.same (subst (λ (m : Message). Reads cond (Say m) c.at_part.new.p c.error.new.self) c.missing_part.ensures.is (c.error.ensures.reads cond)))
 
 pub parts::opt_part-read_part-requires : goal.parts::opt_part-read_part-requires
 parts::opt_part-read_part-requires t c = (omega arith, record { sees = λ d. saw-after c.at_part.ensures.peeks.same (saw-so (c.at_part.ensures.sees d) c.if-at_part.true); some = omega (arith, c.at_part.ensures.some c.if-at_part.true, c.at_part.ensures.peeks.left) })

@@ -25,7 +25,7 @@ pub returns-in-Arguments-clause-peeks : goal.returns-in-Arguments-clause-peeks
 returns-in-Arguments-clause-peeks c = record {
   same = search rules;
   left = omega arith;
-  looks = elim c.in-Arguments.is [ inl a0 ↦ subst (λ (e : Part). spent c.at.new.p ≤ spent c.args.p.now + looks_of e) (sym a0) (omega (arith, c.at.ensures.peeks.looks)) | inr b0 ↦ elim b0 [ inl a1 ↦ subst (λ (e : Part). spent c.at.new.p ≤ spent c.args.p.now + looks_of e) (sym a1) (omega (arith, c.at.ensures.peeks.looks)) | inr b1 ↦ subst (λ (e : Part). spent c.at.new.p ≤ spent c.args.p.now + looks_of e) (sym b1) (omega (arith, c.at.ensures.peeks.looks)) ] ];
+  looks = elim c.in-Arguments.is [ inl a0 ↦ subst (λ (e : Part). spent c.at.new.self ≤ spent c.args.p.now + looks_of e) (sym a0) (omega (arith, c.at.ensures.peeks.looks)) | inr b0 ↦ elim b0 [ inl a1 ↦ subst (λ (e : Part). spent c.at.new.self ≤ spent c.args.p.now + looks_of e) (sym a1) (omega (arith, c.at.ensures.peeks.looks)) | inr b1 ↦ subst (λ (e : Part). spent c.at.new.self ≤ spent c.args.p.now + looks_of e) (sym b1) (omega (arith, c.at.ensures.peeks.looks)) ] ];
 }
 
 pub returns-in-AssocItems-clause-sees : goal.returns-in-AssocItems-clause-sees
@@ -36,7 +36,7 @@ pub returns-in-AssocItems-clause-peeks : goal.returns-in-AssocItems-clause-peeks
 returns-in-AssocItems-clause-peeks c = record {
   same = search rules;
   left = omega arith;
-  looks = elim c.in-AssocItems.is [ inl a0 ↦ subst (λ (e : Part). spent c.at-in-AssocItems.new.p ≤ spent c.args.p.now + looks_of e) (sym a0) (omega (arith, c.at-in-AssocItems.ensures.peeks.looks)) | inr b0 ↦ elim b0 [ inl a1 ↦ subst (λ (e : Part). spent c.at-in-AssocItems.new.p ≤ spent c.args.p.now + looks_of e) (sym a1) (omega (arith, c.at-in-AssocItems.ensures.peeks.looks)) | inr b1 ↦ elim b1 [ inl a2 ↦ subst (λ (e : Part). spent c.at-in-AssocItems.new.p ≤ spent c.args.p.now + looks_of e) (sym a2) (omega (arith, c.at-in-AssocItems.ensures.peeks.looks)) | inr b2 ↦ elim b2 [ inl a3 ↦ subst (λ (e : Part). spent c.at-in-AssocItems.new.p ≤ spent c.args.p.now + looks_of e) (sym a3) (omega (arith, c.at-in-AssocItems.ensures.peeks.looks)) | inr b3 ↦ elim b3 [ inl a4 ↦ subst (λ (e : Part). spent c.at-in-AssocItems.new.p ≤ spent c.args.p.now + looks_of e) (sym a4) (omega (arith, c.at-in-AssocItems.ensures.peeks.looks)) | inr b4 ↦ subst (λ (e : Part). spent c.at-in-AssocItems.new.p ≤ spent c.args.p.now + looks_of e) (sym b4) (omega (arith, c.at-in-AssocItems.ensures.peeks.looks)) ] ] ] ] ];
+  looks = elim c.in-AssocItems.is [ inl a0 ↦ subst (λ (e : Part). spent c.at-in-AssocItems.new.self ≤ spent c.args.p.now + looks_of e) (sym a0) (omega (arith, c.at-in-AssocItems.ensures.peeks.looks)) | inr b0 ↦ elim b0 [ inl a1 ↦ subst (λ (e : Part). spent c.at-in-AssocItems.new.self ≤ spent c.args.p.now + looks_of e) (sym a1) (omega (arith, c.at-in-AssocItems.ensures.peeks.looks)) | inr b1 ↦ elim b1 [ inl a2 ↦ subst (λ (e : Part). spent c.at-in-AssocItems.new.self ≤ spent c.args.p.now + looks_of e) (sym a2) (omega (arith, c.at-in-AssocItems.ensures.peeks.looks)) | inr b2 ↦ elim b2 [ inl a3 ↦ subst (λ (e : Part). spent c.at-in-AssocItems.new.self ≤ spent c.args.p.now + looks_of e) (sym a3) (omega (arith, c.at-in-AssocItems.ensures.peeks.looks)) | inr b3 ↦ elim b3 [ inl a4 ↦ subst (λ (e : Part). spent c.at-in-AssocItems.new.self ≤ spent c.args.p.now + looks_of e) (sym a4) (omega (arith, c.at-in-AssocItems.ensures.peeks.looks)) | inr b4 ↦ subst (λ (e : Part). spent c.at-in-AssocItems.new.self ≤ spent c.args.p.now + looks_of e) (sym b4) (omega (arith, c.at-in-AssocItems.ensures.peeks.looks)) ] ] ] ] ];
 }
 
 pub returns-in-ClosureParams-clause-sees : goal.returns-in-ClosureParams-clause-sees
@@ -47,7 +47,7 @@ pub returns-in-ClosureParams-clause-peeks : goal.returns-in-ClosureParams-clause
 returns-in-ClosureParams-clause-peeks c = record {
   same = search rules;
   left = omega arith;
-  looks = subst (λ (e : Part). spent c.at-in-ClosureParams.new.p ≤ spent c.args.p.now + looks_of e) (sym c.in-ClosureParams.is) (omega (arith, c.at-in-ClosureParams.ensures.peeks.looks));
+  looks = subst (λ (e : Part). spent c.at-in-ClosureParams.new.self ≤ spent c.args.p.now + looks_of e) (sym c.in-ClosureParams.is) (omega (arith, c.at-in-ClosureParams.ensures.peeks.looks));
 }
 
 pub returns-in-GenericArgs-clause-sees : goal.returns-in-GenericArgs-clause-sees
@@ -69,7 +69,7 @@ pub returns-in-GenericParams-clause-peeks : goal.returns-in-GenericParams-clause
 returns-in-GenericParams-clause-peeks c = record {
   same = search rules;
   left = omega arith;
-  looks = subst (λ (e : Part). spent c.at-in-GenericParams.new.p ≤ spent c.args.p.now + looks_of e) (sym c.in-GenericParams.is) (omega (arith, c.at-in-GenericParams.ensures.peeks.looks));
+  looks = subst (λ (e : Part). spent c.at-in-GenericParams.new.self ≤ spent c.args.p.now + looks_of e) (sym c.in-GenericParams.is) (omega (arith, c.at-in-GenericParams.ensures.peeks.looks));
 }
 
 pub returns-in-NewGenericParams-clause-sees : goal.returns-in-NewGenericParams-clause-sees
@@ -80,7 +80,7 @@ pub returns-in-NewGenericParams-clause-peeks : goal.returns-in-NewGenericParams-
 returns-in-NewGenericParams-clause-peeks c = record {
   same = search rules;
   left = omega arith;
-  looks = subst (λ (e : Part). spent c.at_new.new.p ≤ spent c.args.p.now + looks_of e) (sym c.in-NewGenericParams.is) (omega (arith, c.at_new.ensures.peeks.looks));
+  looks = subst (λ (e : Part). spent c.at_new.new.self ≤ spent c.args.p.now + looks_of e) (sym c.in-NewGenericParams.is) (omega (arith, c.at_new.ensures.peeks.looks));
 }
 
 pub returns-in-NewWhereClause-clause-sees : goal.returns-in-NewWhereClause-clause-sees
@@ -91,7 +91,7 @@ pub returns-in-NewWhereClause-clause-peeks : goal.returns-in-NewWhereClause-clau
 returns-in-NewWhereClause-clause-peeks c = record {
   same = search rules;
   left = omega arith;
-  looks = subst (λ (e : Part). spent c.at_new-in-NewWhereClause.new.p ≤ spent c.args.p.now + looks_of e) (sym c.in-NewWhereClause.is) (omega (arith, c.at_new-in-NewWhereClause.ensures.peeks.looks));
+  looks = subst (λ (e : Part). spent c.at_new-in-NewWhereClause.new.self ≤ spent c.args.p.now + looks_of e) (sym c.in-NewWhereClause.is) (omega (arith, c.at_new-in-NewWhereClause.ensures.peeks.looks));
 }
 
 pub returns-in-PathType-clause-sees : goal.returns-in-PathType-clause-sees
@@ -157,7 +157,7 @@ pub returns-in-WhereClause-clause-peeks : goal.returns-in-WhereClause-clause-pee
 returns-in-WhereClause-clause-peeks c = record {
   same = search rules;
   left = omega arith;
-  looks = subst (λ (e : Part). spent c.at-in-WhereClause.new.p ≤ spent c.args.p.now + looks_of e) (sym c.in-WhereClause.is) (omega (arith, c.at-in-WhereClause.ensures.peeks.looks));
+  looks = subst (λ (e : Part). spent c.at-in-WhereClause.new.self ≤ spent c.args.p.now + looks_of e) (sym c.in-WhereClause.is) (omega (arith, c.at-in-WhereClause.ensures.peeks.looks));
 }
 
 pub returns-in-WherePred-clause-sees : goal.returns-in-WherePred-clause-sees

@@ -1,11 +1,12 @@
 -- The token so far after the position.
-use Rattle.std.proofs.Common.{◌∙◌, ℕ, ◌+◌, ◌-◌, ap}
+use Rattle.std.proofs.Common.{◌∙◌, ◌+◌, ap}
 use Rattle.parser_input.specs.Recorded.{token_at}
 use Rattle.parser_events.specs.View.{View}
+use Rattle.parser_events.proofs.Rest.{rest-token}
 use Rattle.parser_events.proofs.parser.Parser.joint_at.Goals as goal
 
-pub returns-then-n-self : goal.returns-then-n-self
-returns-then-n-self c =
+pub returns : goal.returns
+returns c =
     c.is_joint.ensures
-    ∙ ap (λ (k : ℕ). (token_at c.self.inside.input.now (k - c.self.inside.left + c.args.n)).joint) c.len.ensures
+    ∙ ap (λ t. t.joint) (rest-token c.self.inside.rest c.self.inside.input.now c.args.n c.self.invariant.0)
     ∙ ap (λ (v : View). (token_at v.input (v.position + c.args.n)).joint) c.self.view_is

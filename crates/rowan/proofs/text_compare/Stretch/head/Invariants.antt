@@ -6,7 +6,7 @@ use Rattle.rowan.proofs.text_compare.Stretch.head.Given as goal
 abbrev pub invariant-elements : goal.invariant-elements
 invariant-elements l = record {
   passes : Passes 0 l.initial.self l.self;
-  count : l.count ≡ length (children_of l.self.node.now);
+  count : l.count ≡ length (children_of l.self.node);
 }
 
 abbrev pub decreases-elements : goal.decreases-elements

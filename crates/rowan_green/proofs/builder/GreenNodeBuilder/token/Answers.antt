@@ -1,16 +1,20 @@
 use Rattle.std.proofs.Common.{◌∙◌, ap, arith, length-append}
-use Rattle.rowan_green.specs.Word.{token}
-use Rattle.rowan_green.specs.Building.{with_sign}
+use Rattle.rowan_green.specs.Kept.{terms_done}
 use Rattle.rowan_green.specs.OpenNodes.{building_of}
 use Rattle.rowan_green.proofs.OpenNodeLemmas.{IsNested-more, token_built}
+use Rattle.rowan_green.proofs.BuilderLemmas.{token_rooted}
 use Rattle.rowan_green.proofs.builder.GreenNodeBuilder.token.Goals as goal
 
 pub invariant_of-self-2 : goal.invariant_of-self-2
-invariant_of-self-2 c =
-    IsNested-more _ _ _ (grind (arith, length-append)) c.self.invariant
+invariant_of-self-2 c = record {
+  filled = c.push_token.ensures.filled;
+  nested = IsNested-more _ _ _ (grind (arith, length-append)) c.self.invariant.nested;
+  root = λ _. token_rooted c.push_token.new.arena c.push_token.new.done.items _ _ c.in_ok-push_token.ensures.ok;
+}
 
 pub returns-clause-ok : goal.returns-clause-ok
 returns-clause-ok c =
-    ap (λ es. building_of c.self.inside.open_nodes.items es c.self.inside.started) c.in_ok-push.ensures.items
-    ∙ token_built c.args.self.now c.self.inside.open_nodes.items c.self.inside.done.items c.self.inside.started _ c.self.view_is c.self.invariant
-    ∙ ap (λ l. with_sign c.args.self.now (token l)) c.in_ok-token.ensures.ok
+    let os = c.self.inside.open_nodes.items in
+    let es = terms_done c.self.inside.arena c.self.inside.done.items in
+    ap (λ ts. building_of os ts c.self.inside.started) c.in_ok-push_token.ensures.ok
+    ∙ token_built c.args.self.now os es c.self.inside.started _ c.self.view_is c.self.invariant.nested

@@ -1,5 +1,6 @@
 use Rattle.std.proofs.Common.{◌≡◌, length, arith}
 use Rattle.rowan_green.proofs.Summing.{at_fork, at_block, child_right}
+use Rattle.rowan_green.proofs.RunLemmas.{at_list_run}
 use Rattle.rowan_green.proofs.element_list.ElementList.+find.Goals as goal
 
 pub find_in_block-requires-clause-fits : goal.find_in_block-requires-clause-fits
@@ -35,3 +36,8 @@ returns-else-offset-half-clause-place t c =
     let p = rw (c.list-else-offset-half.ensures, c.deref-else-offset-half.ensures) at c.find-else-offset-half.ensures.place in
     let n : c.len.result ≡ length c.in-Fork.left.value.0 = rw c.deref-else-offset-half-2.ensures at c.len.ensures.count in
     rw (c.further-else-offset-half.ensures, f.terms, n) (child_right _ _ _ _ _ _ f.before c.if-offset-half.false p)
+
+pub returns-in-Run-clause-many : goal.returns-in-Run-clause-many
+returns-in-Run-clause-many t c =
+    let r = at_list_run c.self.view_is c.self.invariant c.in-Run.is in
+    λ _. r.many

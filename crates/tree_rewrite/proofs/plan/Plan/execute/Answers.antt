@@ -10,7 +10,7 @@ use Rattle.tree_rewrite.proofs.plan.Plan.execute.Goals as goal
 
 pub unreachable-requires : goal.unreachable-requires
 unreachable-requires c =
-    let m = rewritten c.args.self.now.top (reverse c.args.self.now.jobs) in
+    let m = rewritten c.args.self.top (reverse c.args.self.jobs) in
     let say = subst (λ l. Say l m) (sym c.deref.ensures.value) c.in_ok-pieces.ensures.says in
     let node = c.in_ok-pieces.ensures.node in
     let alone = terms_alone m c.in_ok-elements.elements.items node.0 (c.in_ok-elements.ensures.elements m say) node.1 in
@@ -18,7 +18,7 @@ unreachable-requires c =
 
 pub changed_of-requires : goal.changed_of-requires
 changed_of-requires c =
-    let m = rewritten c.args.self.now.top (reverse c.args.self.now.jobs) in
+    let m = rewritten c.args.self.top (reverse c.args.self.jobs) in
     let say = subst (λ l. Say l m) (sym c.deref.ensures.value) c.in_ok-pieces.ensures.says in
     let node = node_alone m c.in_ok-elements.elements.items c.in-Some.green (c.in_ok-elements.ensures.elements m say) c.in-Some.ensures.is in
     let bytes = bytes-fit c.deref-2.result.now m c.in-Some.green (subst (λ l. Say l m) (sym c.deref-2.ensures.value) c.in_ok-pieces.ensures.says) node in
@@ -26,18 +26,18 @@ changed_of-requires c =
 
 pub returns-clause-green : goal.returns-clause-green
 returns-clause-green c =
-    let m = rewritten c.args.self.now.top (reverse c.args.self.now.jobs) in
+    let m = rewritten c.args.self.top (reverse c.args.self.jobs) in
     let say = subst (λ l. Say l m) (sym c.deref.ensures.value) c.in_ok-pieces.ensures.says in
     node_alone m c.in_ok-elements.elements.items c.in-Some.green (c.in_ok-elements.ensures.elements m say) c.in-Some.ensures.is
 
 pub returns-clause-fits : goal.returns-clause-fits
 returns-clause-fits c =
-    let m = rewritten c.args.self.now.top (reverse c.args.self.now.jobs) in
+    let m = rewritten c.args.self.top (reverse c.args.self.jobs) in
     new-to m (c.in_ok-elements.ensures.fits m (subst (λ l. Say l m) (sym c.deref.ensures.value) c.in_ok-pieces.ensures.says))
 
 pub returns-clause-changed : goal.returns-clause-changed
 returns-clause-changed c =
-    let m = rewritten c.args.self.now.top (reverse c.args.self.now.jobs) in
+    let m = rewritten c.args.self.top (reverse c.args.self.jobs) in
     c.in_ok-changed.ensures m (subst (λ l. Say l m) (sym c.deref-2.ensures.value) c.in_ok-pieces.ensures.says)
 
 pub returns-clause-says : goal.returns-clause-says
@@ -45,7 +45,7 @@ returns-clause-says c = c.in_ok-pieces.ensures.says
 
 pub returns-in_err-elements-clause-refused : goal.returns-in_err-elements-clause-refused
 returns-in_err-elements-clause-refused c =
-    let m = rewritten c.args.self.now.top (reverse c.args.self.now.jobs) in
+    let m = rewritten c.args.self.top (reverse c.args.self.jobs) in
     let say = subst (λ l. Say l m) (sym c.deref.ensures.value) c.in_ok-pieces.ensures.says in
     let p = err_from_is_err_and c.from_residual-in_err-elements.result c.from_residual-in_err-elements.ensures.1 in
     rewrite_refused c.from_residual-in_err-elements.result p.0 c.in_err-elements.field-0.0 m p.1 p.2 (c.in_err-elements.ensures.refused m say)

@@ -20,26 +20,26 @@ returns-then-not-joint-clause-takes c = record {
   marker = search rules;
 }
 
-pub complete-closed-requires : goal.complete-closed-requires
-complete-closed-requires c = subst (λ (m : ℕ). IsInnermost m c.split_float-frame.new.self.nodes) (sym c.split_float-frame.ensures.marker) (split-innermost _ _ _ _ c.requires.innermost c.split_float-frame.ensures.nodes)
+pub close-closed-requires : goal.close-closed-requires
+close-closed-requires c = subst (λ (m : ℕ). IsInnermost m c.split_float-frame.new.self.nodes) (sym c.split_float-frame.ensures.marker) (split-innermost _ _ _ _ c.requires.innermost c.split_float-frame.ensures.nodes)
 
 pub precede-requires : goal.precede-requires
-precede-requires c = child _ _ _ _ _ (split-innermost _ _ _ _ c.requires.innermost c.split_float-frame.ensures.nodes) c.complete-closed.ensures.nodes c.complete-closed.ensures.place
+precede-requires c = child _ _ _ _ _ (split-innermost _ _ _ _ c.requires.innermost c.split_float-frame.ensures.nodes) c.close-closed.ensures.nodes c.close-closed.ensures.place
 
 pub returns-clause-reads : goal.returns-clause-reads
 returns-clause-reads c =
     let there = split-innermost _ _ _ _ c.requires.innermost c.split_float-frame.ensures.nodes in
-    does-access c.args.joint c.args.frame _ c.requires.float.joint c.if-not-joint.false c.split_float-frame.ensures.nodes c.split_float-frame.ensures.same there c.complete-closed.ensures.nodes c.complete-closed.ensures.same c.complete-closed.ensures.place c.precede.ensures.nodes c.precede.ensures.same
-    (λ n i. (does-wrap _ _ _ _ _ _ there c.complete-closed.ensures.nodes c.complete-closed.ensures.same c.complete-closed.ensures.place c.precede.ensures.nodes c.precede.ensures.same).innermost n (split-innermost _ _ _ _ i c.split_float-frame.ensures.nodes))
+    does-access c.args.joint c.args.frame _ c.requires.float.joint c.if-not-joint.false c.split_float-frame.ensures.nodes c.split_float-frame.ensures.same there c.close-closed.ensures.nodes c.close-closed.ensures.same c.close-closed.ensures.place c.precede.ensures.nodes c.precede.ensures.same
+    (λ n i. (does-wrap _ _ _ _ _ _ there c.close-closed.ensures.nodes c.close-closed.ensures.same c.close-closed.ensures.place c.precede.ensures.nodes c.precede.ensures.same).innermost n (split-innermost _ _ _ _ i c.split_float-frame.ensures.nodes))
 
 pub returns-clause-takes : goal.returns-clause-takes
 returns-clause-takes c = record {
   left =
-      let kept : tokens c.precede.new.p ≡ tokens c.split_float-frame.new.self = same-left _ _ _ c.precede.ensures.same ∙ same-left _ _ _ c.complete-closed.ensures.same in
+      let kept : tokens c.precede.new.self ≡ tokens c.split_float-frame.new.self = same-left _ _ _ c.precede.ensures.same ∙ same-left _ _ _ c.close-closed.ensures.same in
       let taken : tokens c.split_float-frame.new.self + 1 ≡ tokens c.args.p.now = fewer-tokens 1 _ _ c.split_float-frame.ensures.same c.requires.float.some in
       omega (arith, kept, taken);
   looks =
-      let kept : spent c.precede.new.p ≡ spent c.split_float-frame.new.self = same-spent _ _ _ c.precede.ensures.same ∙ same-spent _ _ _ c.complete-closed.ensures.same in
+      let kept : spent c.precede.new.self ≡ spent c.split_float-frame.new.self = same-spent _ _ _ c.precede.ensures.same ∙ same-spent _ _ _ c.close-closed.ensures.same in
       let paid : spent c.split_float-frame.new.self + 4096 ≡ spent c.args.p.now = paid-looks 1 _ _ c.split_float-frame.ensures.same c.requires.float.some in
       omega (arith, kept, paid);
   marker = search rules;

@@ -1,5 +1,0 @@
-pub mod Arena
-pub mod FlatNode
-pub mod FlatRef
-pub mod Kept
-pub mod OpenNodes
