@@ -1,56 +1,14 @@
 -- By a mapping whose outputs are in trees of greater numbers an element leads to one end.
-use Rattle.std.proofs.Common.{◌≡◌, ℕ, zero, suc, ◌+◌, ◌<◌, ◌≤◌, [], ◌∷◌, length, Option, Some, None, option_map, option_and_then, Bool, true, false, cond, nat_eq, nat_le, nat_lt, refl, ap, sym, ◌∙◌, subst, arith}
-use Rattle.std.proofs.lemmas.Bool.{and_parts, eqb-true}
-use Rattle.std.proofs.lemmas.Bool.Decides.{nat_tests}
+use Rattle.std.proofs.Common.{◌≡◌, ℕ, zero, suc, ◌+◌, ◌<◌, [], ◌∷◌, length, Option, Some, None, option_map, option_and_then, true, refl, ap, sym, ◌∙◌, subst, arith}
 use Rattle.std.proofs.lemmas.Option.{same_Some, none-some}
 use Rattle.rowan_green.specs.Forest.{Tree}
-use Rattle.syntax_tree.specs.Element.{Way, Element, element_at, same_way, same_element, term_of}
+use Rattle.syntax_tree.specs.Element.{Way, Element, element_at, term_of}
 use Rattle.syntax_tree.specs.Mapping.{Mapping, image_of, or_else, are_ordered}
+use Rattle.tree_rewrite.proofs.AheadLemmas.{ahead, ahead-few, IsAhead, image-ahead}
 use Rattle.annotated_elements.specs.Following.{child_of, lead_at, lead_of, standing, end_after, followed_within, followed}
 use Rattle.annotated_elements.specs.Follows.{Follows, ends, lost, on}
 
--- how many entries have an input in a tree of this number or a greater one
-abbrev ahead : Mapping → ℕ → ℕ
-ahead [] n = 0
-ahead (m ∷ ms) n = cond (nat_le n m.0.number) 1 0 + ahead ms n
-
-ahead-few : (ms : Mapping) (n : ℕ) → ahead ms n ≤ length ms
-ahead-few [] n = omega arith
-ahead-few (m ∷ ms) n = let h = ahead-few ms n in grind (arith, nat_tests)
-
-ahead-fewer : (ms : Mapping) (a b : ℕ) → a ≤ b → ahead ms b ≤ ahead ms a
-ahead-fewer [] a b h = omega arith
-ahead-fewer (m ∷ ms) a b h = let less = ahead-fewer ms a b h in grind (arith, nat_tests)
-
--- an image is of a tree of a greater number, and has fewer entries ahead
-abbrev IsAhead : Mapping → ℕ → Element → Type 0
-IsAhead ms n o = (n < o.number) × (ahead ms o.number < ahead ms n)
-
-one_more : (m : Element × Element) (ms : Mapping) (n : ℕ) (o : Element) → IsAhead ms n o → IsAhead (m ∷ ms) n o
-one_more m ms n o h = let up = h.0 in let few = h.1 in (up, grind (arith, nat_tests))
-
-this_one : (m : Element × Element) (ms : Mapping) (n : ℕ) → m.0.number ≡ n → m.0.number < m.1.number → IsAhead (m ∷ ms) n m.1
-this_one m ms n same up = let few = ahead-fewer ms n m.1.number (omega arith) in (omega arith, grind (arith, nat_tests))
-
-image-ahead : (ms : Mapping) (e o : Element) → are_ordered ms ≡ true → image_of ms e ≡ Some o → IsAhead ms e.number o
-image-ahead [] e o h is = absurd (none-some o is)
-image-ahead (m ∷ ms) e o h is =
-    let both = and_parts (nat_lt m.0.number m.1.number) (are_ordered ms) h in
-    by_rest both.0 (image_of ms e) (λ x r. image-ahead ms e x both.1 r) refl is
-  where
-    by_test : nat_lt m.0.number m.1.number ≡ true → (b : Bool) → same_element m.0 e ≡ b → cond b (Some m.1) None ≡ Some o → IsAhead (m ∷ ms) e.number o
-    by_test up false s r = absurd (none-some o r)
-    by_test up true s r =
-        let number : m.0.number ≡ e.number = eqb-true _ _ (and_parts (nat_eq m.0.number e.number) (same_way m.0.place.up e.place.up) s).0 in
-        let greater : m.0.number < m.1.number = grind (arith, nat_tests, up) in
-        subst (λ x. IsAhead (m ∷ ms) e.number x) (same_Some _ _ r) (this_one m ms e.number number greater)
-
-    by_rest : nat_lt m.0.number m.1.number ≡ true → (x : Option Element) → ((y : Element) → image_of ms e ≡ Some y → IsAhead ms e.number y) → image_of ms e ≡ x
-        → or_else x (cond (same_element m.0 e) (Some m.1) None) ≡ Some o → IsAhead (m ∷ ms) e.number o
-    by_rest up None low is_none r = by_test up (same_element m.0 e) refl r
-    by_rest up (Some y) low is_some r = one_more m ms e.number o (low o (is_some ∙ r))
-
--- so is a lead
+-- a lead has fewer entries ahead
 child-ahead : (ms : Mapping) (n i : ℕ) (x : Option Element) (o : Element) → ((y : Element) → x ≡ Some y → IsAhead ms n y) → option_map (child_of i) x ≡ Some o → IsAhead ms n o
 child-ahead ms n i None o h is = absurd (none-some o is)
 child-ahead ms n i (Some y) o h is =

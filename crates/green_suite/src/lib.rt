@@ -2,4 +2,6 @@
 #![tactic(auto)]
 
 #[cfg(test)]
+mod built_trees;
+#[cfg(test)]
 mod tests;

@@ -3,8 +3,8 @@
 mod deep;
 
 use rowan_green::{
-    GreenElement, GreenError, GreenNode, GreenNodeBuilder, GreenToken, NodeCache, NodeOrToken,
-    SyntaxKind, TextRange, TextSize,
+    GreenElement, GreenError, GreenNode, GreenNodeBuilder, GreenTextBuilder, GreenToken, NodeCache,
+    NodeOrToken, SyntaxKind, TextRange, TextSize,
 };
 use std::alloc::{AllocError, Global};
 use std::hash::{DefaultHasher, Hash, Hasher};
@@ -302,6 +302,66 @@ fn a_length_past_u32_is_too_long(rt: HostRuntime) -> Result<(), Fail> {
     assert!(rt; element.text_len() == TextSize(1 << 31));
     let refused = node_of_two(alloc, 2, element.clone()?, element);
     assert!(rt; refused.err() == Some(GreenError::TooLong));
+    Ok(())
+}
+
+/// Builds a node of kind 1 over `aäbb`: the token `a`, a node of kind 4 around the token `ä`, and the
+/// token `bb`.
+fn built_over(alloc: Global) -> Result<GreenNode, GreenError> {
+    let mut builder = GreenTextBuilder::new(alloc, "aäbb")?;
+    builder.start_node(SyntaxKind(1))?;
+    builder.token(SyntaxKind(2), 1)?;
+    builder.start_node(SyntaxKind(4))?;
+    builder.token(SyntaxKind(3), 2)?;
+    builder.finish_node()?;
+    builder.token(SyntaxKind(3), 2)?;
+    builder.finish_node()?;
+    builder.finish()
+}
+
+#[test]
+fn pieces_of_a_text_are_its_tokens(rt: HostRuntime) -> Result<(), Fail> {
+    let alloc = rt.alloc();
+    let inner = node_of_one(alloc, 4, token(alloc, 3, "ä")?)?;
+    let children = vec![in alloc; token(alloc, 2, "a")?, inner, token(alloc, 3, "bb")?]?;
+    assert!(rt; GreenElement::from(built_over(alloc)?) == node(alloc, 1, children)?);
+    Ok(())
+}
+
+#[test]
+fn a_long_piece_has_its_text(rt: HostRuntime) -> Result<(), Fail> {
+    let alloc = rt.alloc();
+    let mut text = String::from_str(alloc, "b")?;
+    for _ in 0..300 {
+        text.push('a')?;
+    }
+    let mut builder = GreenTextBuilder::new(alloc, &text)?;
+    builder.start_node(SyntaxKind(1))?;
+    builder.token(SyntaxKind(2), 1)?;
+    builder.token(SyntaxKind(3), 300)?;
+    builder.finish_node()?;
+    let built = GreenElement::from(builder.finish()?);
+    let long = token(alloc, 3, &text.as_str()[1..])?;
+    assert!(rt; built == node_of_two(alloc, 1, token(alloc, 2, "b")?, long)?);
+    Ok(())
+}
+
+#[test]
+fn pieces_end_with_characters_and_the_text(rt: HostRuntime) -> Result<(), Fail> {
+    let alloc = rt.alloc();
+    let mut builder = GreenTextBuilder::new(alloc, "ä")?;
+    assert!(rt; builder.finish_node() == Err(GreenError::Unbalanced));
+    builder.start_node(SyntaxKind(1))?;
+    assert!(rt; builder.token(SyntaxKind(2), 1) == Err(GreenError::TooLong));
+    assert!(rt; builder.token(SyntaxKind(2), 3) == Err(GreenError::TooLong));
+    builder.token(SyntaxKind(2), 2)?;
+    assert!(rt; builder.token(SyntaxKind(2), 1) == Err(GreenError::TooLong));
+    builder.finish_node()?;
+    let built = GreenElement::from(builder.finish()?);
+    assert!(rt; built == node_of_one(alloc, 1, token(alloc, 2, "ä")?)?);
+    let mut open = GreenTextBuilder::new(alloc, "")?;
+    open.start_node(SyntaxKind(1))?;
+    assert!(rt; open.finish().err() == Some(GreenError::Unbalanced));
     Ok(())
 }
 

@@ -1,6 +1,8 @@
 //! Green tokens and nodes, and their builder.
 use memory_table::row::{Ask, Row};
-use rowan_green::{GreenElement, GreenError, GreenNode, GreenNodeBuilder, GreenToken, SyntaxKind};
+use rowan_green::{
+    GreenElement, GreenError, GreenNode, GreenNodeBuilder, GreenTextBuilder, GreenToken, SyntaxKind,
+};
 use std::alloc::{AllocError, Global};
 
 /// The calls of `rowan_green`.
@@ -18,6 +20,7 @@ pub(crate) enum GreenCall {
     RemoveChild,
     SpliceChildren,
     Build,
+    BuildOver,
 }
 
 fn token(alloc: Global, kind: u16, text: &str) -> Result<GreenToken, GreenError> {
@@ -129,6 +132,30 @@ fn built(alloc: Global, refused: &mut u32) -> Result<GreenNode, GreenError> {
     }
 }
 
+/// Builds a node of three tokens over one text, the second of them in a node of its own.
+fn built_over(alloc: Global, refused: &mut u32) -> Result<GreenNode, GreenError> {
+    let mut builder = GreenTextBuilder::new(alloc, "abcd")?;
+    for (kind, len) in [(1, 1), (2, 2)] {
+        let kind = SyntaxKind(kind);
+        if is_refused(builder.start_node(kind), refused) {
+            builder.start_node(kind)?;
+        }
+        if is_refused(builder.token(SyntaxKind(3), len), refused) {
+            builder.token(SyntaxKind(3), len)?;
+        }
+    }
+    if is_refused(builder.finish_node(), refused) {
+        builder.finish_node()?;
+    }
+    if is_refused(builder.token(SyntaxKind(3), 1), refused) {
+        builder.token(SyntaxKind(3), 1)?;
+    }
+    if is_refused(builder.finish_node(), refused) {
+        builder.finish_node()?;
+    }
+    builder.finish()
+}
+
 impl Ask for GreenCall {
     fn answer(self, alloc: Global, refused: &mut u32) -> anyhow::Result<String> {
         match self {
@@ -142,6 +169,7 @@ impl Ask for GreenCall {
             GreenCall::NewNode => Ok(read(alloc, &pair(alloc)?)?),
             GreenCall::CloneNode | GreenCall::CloneElement => Ok(copied(alloc, self)?),
             GreenCall::Build => Ok(read(alloc, &built(alloc, refused)?)?),
+            GreenCall::BuildOver => Ok(read(alloc, &built_over(alloc, refused)?)?),
             _ => Ok(read(alloc, &edited(alloc, self)?)?),
         }
     }
@@ -191,5 +219,10 @@ pub(crate) const ROWS: &[Row<GreenCall>] = &[
         "rowan_green::GreenNodeBuilder::{start_node, token, start_node_at, finish_node, finish}",
         GreenCall::Build,
         "abcde 4",
+    ),
+    (
+        "rowan_green::GreenTextBuilder::{new, start_node, token, finish_node, finish}",
+        GreenCall::BuildOver,
+        "abcd 3",
     ),
 ];

@@ -77,6 +77,7 @@ impl Recorder {
     }
 
     /// Adds an entry.
+    #[inline(always)]
     pub(crate) fn record(&mut self, event: Event)
         ensures { Becomes (with_entry (event_of event)) self.old self.new }
     {
@@ -94,6 +95,7 @@ impl Recorder {
     }
 
     /// Opens a node that begins at an earlier entry.
+    #[inline(always)]
     pub(crate) fn start_at(&mut self, place: usize)
         ensures { Becomes (opened_at place) self.old self.new }
     {

@@ -42,6 +42,7 @@ pub(crate) fn put_all<S: StrSink>(steps: &[StrStep<'_>], sink: &mut S) -> Result
 }
 
 /// Gives a sink this step.
+#[inline(always)]
 fn put_one<S: StrSink>(step: StrStep<'_>, sink: &mut S) -> Result<(), S::Error>
     ensures taken { OnOk result
         (TakesAll S.takes sink.old (text_step_of step.entry ∷ []) sink.new) }
@@ -56,6 +57,7 @@ fn put_one<S: StrSink>(step: StrStep<'_>, sink: &mut S) -> Result<(), S::Error>
 }
 
 /// Gives a sink the leaves from one number to another, as they are. Most often there is none.
+#[inline(always)]
 pub(crate) fn put_leaves<S: StrSink>(
     lexed: &LexedStr<'_>,
     start: usize,
@@ -76,6 +78,7 @@ pub(crate) fn put_leaves<S: StrSink>(
 }
 
 /// Gives a sink the leaves from one number to another, one by one.
+#[inline(never)]
 fn put_each<S: StrSink>(
     lexed: &LexedStr<'_>,
     start: usize,
@@ -132,6 +135,7 @@ pub(crate) fn token_end(lexed: &LexedStr<'_>, start: usize, n: usize) -> usize
 }
 
 /// Puts a leaf over the next tokens.
+#[inline(always)]
 pub(crate) fn put_token<S: StrSink>(
     lexed: &LexedStr<'_>,
     kind: SyntaxKind,
@@ -159,6 +163,7 @@ pub(crate) fn put_token<S: StrSink>(
 }
 
 /// Enters a node.
+#[inline(always)]
 pub(crate) fn put_enter<S: StrSink>(
     lexed: &LexedStr<'_>,
     kind: SyntaxKind,
@@ -211,6 +216,7 @@ fn after_one(lexed: &LexedStr<'_>, i: usize) -> usize
 }
 
 /// Puts the float that ends the field access entered last.
+#[inline(never)]
 fn put_split<S: StrSink>(
     lexed: &LexedStr<'_>,
     ends_in_dot: bool,
@@ -238,6 +244,7 @@ fn put_split<S: StrSink>(
 }
 
 /// Leaves the node entered last.
+#[inline(always)]
 fn put_exit<S: StrSink>(lexed: &LexedStr<'_>, start: usize, sink: &mut S) -> Result<usize, S::Error>
     requires { start ≤ length lexed.now.leaves }
     ensures taken { IfOk result
@@ -252,6 +259,7 @@ fn put_exit<S: StrSink>(lexed: &LexedStr<'_>, start: usize, sink: &mut S) -> Res
 }
 
 /// Passes `msg` to the sink, at the offset where leaf `start` begins.
+#[inline(never)]
 fn put_message<S: StrSink>(
     lexed: &LexedStr<'_>,
     msg: Message,
@@ -272,6 +280,7 @@ fn put_message<S: StrSink>(
 }
 
 /// Puts what a step puts, from a leaf on, and gives the number of the leaf that it leads to.
+#[inline(always)]
 fn put_step<S: StrSink>(
     lexed: &LexedStr<'_>,
     step: Step,
@@ -297,6 +306,7 @@ fn put_step<S: StrSink>(
 }
 
 /// Puts all leaves that are left, and leaves the root.
+#[inline(never)]
 fn put_end<S: StrSink>(lexed: &LexedStr<'_>, start: usize, sink: &mut S) -> Result<(), S::Error>
     requires { start ≤ length lexed.now.leaves }
     ensures taken { OnOk result (TakesAll S.takes sink.old

@@ -137,6 +137,7 @@ fn stops_at(lexed: &LexedStr<'_>, start: usize, leaf: usize) -> bool
 
 /// Returns the index of the first leaf that belongs to a node at `end`, of a kind that takes
 /// comments; `end` if there is none. The leaves `start..end` are the trivia before the node.
+#[inline(never)]
 fn first_inside(lexed: &LexedStr<'_>, start: usize, end: usize) -> usize
     requires order { start ≤ end }
     requires within { end ≤ length lexed.now.leaves }
@@ -162,6 +163,7 @@ fn first_inside(lexed: &LexedStr<'_>, start: usize, end: usize) -> usize
 
 /// Returns the index of the first leaf that belongs to a node of this kind at `end`; `end` if there
 /// is none. The leaves `start..end` are the trivia before the node.
+#[inline(always)]
 pub(crate) fn attached_from(
     lexed: &LexedStr<'_>,
     kind: SyntaxKind,

@@ -29,6 +29,7 @@ pub(crate) struct Unwinding {
 
 impl Unwinding {
     // Takes the innermost pending node, if it begins here.
+    #[inline(always)]
     fn begun_at(&mut self, index: usize) -> Option<SyntaxKind>
         ensures steps { self.new.steps ≡ self.old.steps }
         ensures cases { MatchOption result (begun index (state_of self.old).pending
@@ -46,6 +47,7 @@ impl Unwinding {
     }
 
     // Enters the nodes that begin at a place.
+    #[inline(always)]
     fn enter(&mut self, index: usize) -> Result<(), AllocError>
         ensures { OnOk result (state_of self.new
             ≡ begun index (state_of self.old).pending (state_of self.old).laid) }
@@ -56,6 +58,7 @@ impl Unwinding {
         Ok(())
     }
 
+    #[inline(always)]
     fn end(&mut self, step: Step, kind: SyntaxKind, start: usize) -> Result<(), AllocError>
         ensures { OnOk result (state_of self.new ≡ record {
           pending =
@@ -69,6 +72,7 @@ impl Unwinding {
         Ok(())
     }
 
+    #[inline(always)]
     fn lay(&mut self, step: Step) -> Result<(), AllocError>
         ensures { OnOk result (state_of self.new ≡ record {
           pending =
@@ -81,6 +85,7 @@ impl Unwinding {
     }
 
     // Passes one entry.
+    #[inline(always)]
     fn pass(&mut self, event: Event) -> Result<(), AllocError>
         ensures { OnOk result (state_of self.new ≡ passed (event_of event) (state_of self.old)) }
     {

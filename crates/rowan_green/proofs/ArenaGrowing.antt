@@ -1,11 +1,11 @@
 -- Lemmas on an arena that grows: by a token, by a node without children, by the children of a node.
-use Rattle.std.proofs.Common.{◌≡◌, ℕ, zero, suc, ◌+◌, ◌-◌, ◌≤◌, ◌<◌, ◌^◌, List, [], ◌∷◌, ◌++◌, length, take, drop, map, refl, ap, sym, ◌∙◌, arith, subst, length-append, length-drop, get_or, set, string_bytes}
+use Rattle.std.proofs.Common.{◌≡◌, ℕ, zero, suc, ◌+◌, ◌-◌, ◌≤◌, ◌<◌, ◌^◌, List, [], ◌∷◌, ◌++◌, length, take, drop, map, refl, ap, sym, ◌∙◌, arith, subst, length-append, length-take, length-drop, get_or, set, string_bytes}
 use Rattle.std.proofs.lemmas.List.{take-append-drop, take-map, drop-map, map-append, length-map, get_or-map, take-append-le, take_all}
 use Rattle.std.proofs.Math.Seq.{take-length, drop-append_seam, get_or-append_seam}
 use Rattle.std.proofs.Math.ListN.{get_or-append}
 use Rattle.std.specs.Prelude.{IsCharBoundary, slice_get, Some}
 use Rattle.std.specs.Str.{IsUtf8}
-use Rattle.std.proofs.lemmas.Str.{IsUtf8-append, IsUtf8-take, IsCharBoundary-from_take, IsCharBoundary-start, IsCharBoundary-at_seam, IsCharBoundary-end}
+use Rattle.std.proofs.lemmas.Str.{IsUtf8-append, IsUtf8-take, IsUtf8-string_bytes, IsCharBoundary-from_take, IsCharBoundary-start, IsCharBoundary-at_seam, IsCharBoundary-end}
 use Rattle.rowan_green.specs.Term.{Term, tree_of, texts_of, term_len}
 use Rattle.rowan_green.specs.declared.utility_types.NodeOrToken.TheVariants.{Node, Token}
 use Rattle.rowan_green.specs.declared.arena.Entry.{Entry}
@@ -26,16 +26,16 @@ all_items t rs es = items_after t rs [] es
 abbrev pub done_items : List ℕ → List Record → List Entry → List Entry → List Item
 done_items t rs es done = map (item_of t rs (all_items t rs es)) done
 
--- `IsGrowing`, by the parts of the arena
-pub record Growing (t : List ℕ) (rs : List Record) (es : List Entry) (done : List Entry) : Type 0 where
+-- `IsGrowing`, by the parts of the arena; `used` is the length of the text that tokens have
+pub record Growing (t : List ℕ) (rs : List Record) (es : List Entry) (done : List Entry) (used : ℕ) : Type 0 where
   pub text : length t < 2 ^ 32
   pub count : length es < 2 ^ 32
   pub ordered : AreOrdered t rs [] es
   pub placed : ArePlaced t rs (all_items t rs es) done
   pub row : IsRow 0 (done_items t rs es done)
-  pub all : row_len (done_items t rs es done) ≡ length t
+  pub all : row_len (done_items t rs es done) ≡ used
 
-pub growing_parts : (a : Arena) (done : List Entry) → IsGrowing a done → Growing (string_bytes a.text) a.records.items a.entries.items done
+pub growing_parts : (a : Arena) (done : List Entry) → IsGrowing a done → Growing (string_bytes a.text) a.records.items a.entries.items done a.used
 growing_parts a done g = record { text = g.sound.text; count = g.sound.count; ordered = g.sound.ordered; placed = g.sound.placed; row = g.row; all = g.all }
 
 -- an arena of these parts, with these terms done
@@ -43,26 +43,21 @@ pub record Grew (a : Arena) (done : List Entry) (ts : List Term) : Type 0 where
   pub growing : IsGrowing a done
   pub terms : terms_over a done ≡ ts
 
-pub record GrewParts (t : List ℕ) (rs : List Record) (es : List Entry) (done : List Entry) (ts : List Term) : Type 0 where
-  pub growing : Growing t rs es done
+pub record GrewParts (t : List ℕ) (rs : List Record) (es : List Entry) (done : List Entry) (used : ℕ) (ts : List Term) : Type 0 where
+  pub growing : Growing t rs es done used
   pub terms : terms_at (done_items t rs es done) ≡ ts
 
-pub grew : (a : Arena) (done : List Entry) (t : List ℕ) (rs : List Record) (es ds : List Entry) (ts : List Term) → string_bytes a.text ≡ t → a.records.items ≡ rs → a.entries.items ≡ es → done ≡ ds → GrewParts t rs es ds ts → Grew a done ts
-grew a done t rs es ds ts e f g h p =
-    let p1 : GrewParts (string_bytes a.text) rs es ds ts = subst (λ (x : List ℕ). GrewParts x rs es ds ts) (sym e) p in
-    let p2 : GrewParts (string_bytes a.text) a.records.items es ds ts = subst (λ (x : List Record). GrewParts (string_bytes a.text) x es ds ts) (sym f) p1 in
-    let p3 : GrewParts (string_bytes a.text) a.records.items a.entries.items ds ts = subst (λ (x : List Entry). GrewParts (string_bytes a.text) a.records.items x ds ts) (sym g) p2 in
-    let p4 : GrewParts (string_bytes a.text) a.records.items a.entries.items done ts = subst (λ (x : List Entry). GrewParts (string_bytes a.text) a.records.items a.entries.items x ts) (sym h) p3 in
+pub grew : (a : Arena) (done : List Entry) (t : List ℕ) (rs : List Record) (es ds : List Entry) (used : ℕ) (ts : List Term) → string_bytes a.text ≡ t → a.records.items ≡ rs → a.entries.items ≡ es → done ≡ ds → a.used ≡ used → GrewParts t rs es ds used ts → Grew a done ts
+grew a done t rs es ds used ts e f g h k p =
+    let p1 : GrewParts (string_bytes a.text) rs es ds used ts = subst (λ (x : List ℕ). GrewParts x rs es ds used ts) (sym e) p in
+    let p2 : GrewParts (string_bytes a.text) a.records.items es ds used ts = subst (λ (x : List Record). GrewParts (string_bytes a.text) x es ds used ts) (sym f) p1 in
+    let p3 : GrewParts (string_bytes a.text) a.records.items a.entries.items ds used ts = subst (λ (x : List Entry). GrewParts (string_bytes a.text) a.records.items x ds used ts) (sym g) p2 in
+    let p4 : GrewParts (string_bytes a.text) a.records.items a.entries.items done used ts = subst (λ (x : List Entry). GrewParts (string_bytes a.text) a.records.items a.entries.items x used ts) (sym h) p3 in
     let q = p4.growing in
     record {
-      growing = record { sound = record { text = q.text; count = q.count; ordered = q.ordered; placed = q.placed }; row = q.row; all = q.all };
+      growing = record { sound = record { text = q.text; count = q.count; ordered = q.ordered; placed = q.placed }; row = q.row; all = q.all ∙ sym k };
       terms = p4.terms;
     }
-
--- nothing is new
-pub grew_same : (a b : Arena) (done ds : List Entry) → string_bytes b.text ≡ string_bytes a.text → b.records.items ≡ a.records.items → b.entries.items ≡ a.entries.items → ds ≡ done → IsGrowing a done → Grew b ds (terms_over a done)
-grew_same a b done ds e f g h p =
-    grew b ds (string_bytes a.text) a.records.items a.entries.items done (terms_over a done) e f g h (record { growing = growing_parts a done p; terms = refl })
 
 -- ---- more text, more records
 
@@ -104,17 +99,16 @@ row_len-append (x ∷ xs) ys = omega (arith, row_len-cons x xs, row_len-cons x (
 pub row_len-split : (i : ℕ) (xs : List Item) → row_len xs ≡ row_len (take i xs) + row_len (drop i xs)
 row_len-split i xs = ap row_len (sym (take-append-drop i xs)) ∙ row_len-append (take i xs) (drop i xs)
 
--- an entry whose text is what the arena's text has more than before
-pub record IsNext (t : List ℕ) (u : List ℕ) (ss : List Record) (b : List Item) (e : Entry) (term : Term) : Type 0 where
+-- an entry whose text starts where those of the entries that are done end
+pub record IsNext (used : ℕ) (u : List ℕ) (ss : List Record) (b : List Item) (e : Entry) (term : Term) : Type 0 where
   pub placed : IsPlaced u ss b e
-  pub item : item_of u ss b e ≡ record { start = length t; term = term }
-  pub text : length t + term_len term ≡ length u
+  pub item : item_of u ss b e ≡ record { start = used; term = term }
 
-pub push_entry : (t u : List ℕ) (rs ss : List Record) (es done : List Entry) (e : Entry) (term : Term) → Growing t rs es done → Grown t rs u ss → length u < 2 ^ 32 → IsNext t u ss (all_items t rs es) e term → GrewParts u ss es (done ++ e ∷ []) (terms_at (done_items t rs es done) ++ term ∷ [])
-push_entry t u rs ss es done e term p g h n =
+pub push_entry : (t u : List ℕ) (rs ss : List Record) (es done : List Entry) (used : ℕ) (e : Entry) (term : Term) → Growing t rs es done used → Grown t rs u ss → length u < 2 ^ 32 → IsNext used u ss (all_items t rs es) e term → GrewParts u ss es (done ++ e ∷ []) (used + term_len term) (terms_at (done_items t rs es done) ++ term ∷ [])
+push_entry t u rs ss es done used e term p g h n =
     let all = all_items t rs es in
     let old = done_items t rs es done in
-    let x : Item = record { start = length t; term = term } in
+    let x : Item = record { start = used; term = term } in
     let o = order_stays t u rs ss [] es g p.ordered in
     let s = all_stay t u rs ss all all done g (longer_same all) p.placed in
     let placed : ArePlaced u ss (all_items u ss es) (done ++ e ∷ []) =
@@ -122,9 +116,9 @@ push_entry t u rs ss es done e term p g h n =
     let new : done_items u ss es (done ++ e ∷ []) ≡ old ++ x ∷ [] =
     ap (λ (b : List Item). map (item_of u ss b) (done ++ e ∷ [])) o.items ∙ map-append (item_of u ss all) done (e ∷ [])
     ∙ ap (λ (ys : List Item). ys ++ item_of u ss all e ∷ []) s.items ∙ ap (λ (y : Item). old ++ y ∷ []) n.item in
-    let here : length t ≡ 0 + row_len old = omega (arith, p.all) in
+    let here : used ≡ 0 + row_len old = omega (arith, p.all) in
     let row : IsRow 0 (old ++ x ∷ []) = row_append 0 old (x ∷ []) p.row (here, tt) in
-    let len : row_len (old ++ x ∷ []) ≡ length u = omega (arith, row_len-append old (x ∷ []), row_len-cons x [], p.all, n.text) in
+    let len : row_len (old ++ x ∷ []) ≡ used + term_len term = omega (arith, row_len-append old (x ∷ []), row_len-cons x [], p.all) in
     record {
       growing = record {
         text = h;
@@ -144,9 +138,9 @@ pub record IsNode (t : List ℕ) (ss : List Record) (b : List Item) (children : 
   pub placed : IsPlaced t ss (b ++ children) e
   pub item : item_of t ss (b ++ children) e ≡ node_item k start children
 
-pub close_entry : (t : List ℕ) (rs ss : List Record) (es done : List Entry) (first k start : ℕ) (e : Entry) → Growing t rs es done → Grown t rs t ss → length (es ++ drop first done) < 2 ^ 32 → start ≡ row_len (take first (done_items t rs es done)) → IsNode t ss (all_items t rs es) (drop first (done_items t rs es done)) k start e
-    → GrewParts t ss (es ++ drop first done) (take first done ++ e ∷ []) (take first (terms_at (done_items t rs es done)) ++ Node (tree_of k (drop first (terms_at (done_items t rs es done)))) ∷ [])
-close_entry t rs ss es done first k start e p g h w n =
+pub close_entry : (t : List ℕ) (rs ss : List Record) (es done : List Entry) (used first k start : ℕ) (e : Entry) → Growing t rs es done used → Grown t rs t ss → length (es ++ drop first done) < 2 ^ 32 → start ≡ row_len (take first (done_items t rs es done)) → IsNode t ss (all_items t rs es) (drop first (done_items t rs es done)) k start e
+    → GrewParts t ss (es ++ drop first done) (take first done ++ e ∷ []) used (take first (terms_at (done_items t rs es done)) ++ Node (tree_of k (drop first (terms_at (done_items t rs es done)))) ∷ [])
+close_entry t rs ss es done used first k start e p g h w n =
     let all = all_items t rs es in
     let fn = item_of t rs all in
     let old = map fn done in
@@ -171,7 +165,7 @@ close_entry t rs ss es done first k start e p g h w n =
     let here : start ≡ 0 + row_len front = omega (arith, w) in
     let row : IsRow 0 (front ++ x ∷ []) = row_append 0 front (x ∷ []) (row_take 0 first old p.row) (here, tt) in
     let same : term_len x.term ≡ row_len kids = refl in
-    let len : row_len (front ++ x ∷ []) ≡ length t = omega (arith, row_len-append front (x ∷ []), row_len-cons x [], same, row_len-split first old, p.all) in
+    let len : row_len (front ++ x ∷ []) ≡ used = omega (arith, row_len-append front (x ∷ []), row_len-cons x [], same, row_len-split first old, p.all) in
     record {
       growing = record {
         text = p.text;
@@ -237,8 +231,8 @@ entries_lie : (t : List ℕ) (rs : List Record) (b : List Item) (es : List Entry
 entries_lie t rs b [] l p = tt
 entries_lie t rs b (e ∷ es) l p = (item_lies t rs b e l p.0, entries_lie t rs b es l p.1)
 
-pub cut_after : (t : List ℕ) (rs : List Record) (es done : List Entry) (i s : ℕ) → IsUtf8 t → Growing t rs es done → s ≡ row_len (take i (done_items t rs es done)) → IsCharBoundary t s
-cut_after t rs es done i s u p e =
+pub cut_after : (t : List ℕ) (rs : List Record) (es done : List Entry) (used i s : ℕ) → IsUtf8 t → Growing t rs es done used → s ≡ row_len (take i (done_items t rs es done)) → IsCharBoundary t s
+cut_after t rs es done used i s u p e =
     let all = all_items t rs es in
     let lie = all_lie t rs [] es tt p.ordered in
     let front = map (item_of t rs all) (take i done) in
@@ -265,14 +259,13 @@ added_range t more s n v e f =
     let g : length (t ++ more) ≡ s + n = omega (arith, e, f, length-append t more) in
     record { from = subst (λ (i : ℕ). IsCharBoundary (t ++ more) i) (sym e) a; to = subst (λ (i : ℕ). IsCharBoundary (t ++ more) i) g b }
 
-pub short_next : (t more : List ℕ) (rs : List Record) (b : List Item) (k s n : ℕ) → IsUtf8 more → s ≡ length t → n ≡ length more → IsNext t (t ++ more) rs b (Short n k s) (Token (record { kind = k; text = more }))
+pub short_next : (t more : List ℕ) (rs : List Record) (b : List Item) (k s n : ℕ) → IsUtf8 more → s ≡ length t → n ≡ length more → IsNext (length t) (t ++ more) rs b (Short n k s) (Token (record { kind = k; text = more }))
 short_next t more rs b k s n v e f = record {
   placed = added_range t more s n v e f;
   item = added_item t more k s n e f;
-  text = sym (length-append t more);
 }
 
-pub long_next : (t more : List ℕ) (rs : List Record) (b : List Item) (k i : ℕ) (r : Record) → IsUtf8 more → i ≡ length rs → r.start ≡ length t → r.len ≡ length more → IsNext t (t ++ more) (rs ++ r ∷ []) b (Long k i) (Token (record { kind = k; text = more }))
+pub long_next : (t more : List ℕ) (rs : List Record) (b : List Item) (k i : ℕ) (r : Record) → IsUtf8 more → i ≡ length rs → r.start ≡ length t → r.len ≡ length more → IsNext (length t) (t ++ more) (rs ++ r ∷ []) b (Long k i) (Token (record { kind = k; text = more }))
 long_next t more rs b k i r v e f g =
     let ss = rs ++ r ∷ [] in
     let z : record_at ss i ≡ r = last_record rs r i e in
@@ -281,20 +274,51 @@ long_next t more rs b k i r v e f g =
     record {
       placed = record { present = omega (arith, e, length-append rs (r ∷ [])); range = q };
       item = ap (λ (y : Record). token_by (t ++ more) k y) z ∙ added_item t more k r.start r.len f g;
-      text = sym (length-append t more);
     }
 
-pub short_pushed : (t more : List ℕ) (rs : List Record) (es done : List Entry) (k s n : ℕ) → Growing t rs es done → IsUtf8 t → IsUtf8 more → length t + length more < 2 ^ 32 → s ≡ length t → n ≡ length more
-    → GrewParts (t ++ more) rs es (done ++ Short n k s ∷ []) (terms_at (done_items t rs es done) ++ Token (record { kind = k; text = more }) ∷ [])
-short_pushed t more rs es done k s n p u v h e f =
-    push_entry t (t ++ more) rs rs es done (Short n k s) (Token (record { kind = k; text = more })) p (grown_text t more rs u v)
-    (omega (arith, h, length-append t more)) (short_next t more rs (all_items t rs es) k s n v e f)
+pub short_pushed : (t more : List ℕ) (rs : List Record) (es done : List Entry) (used k s n : ℕ) → Growing t rs es done used → used ≡ length t → IsUtf8 t → IsUtf8 more → length t + length more < 2 ^ 32 → s ≡ length t → n ≡ length more
+    → GrewParts (t ++ more) rs es (done ++ Short n k s ∷ []) (used + length more) (terms_at (done_items t rs es done) ++ Token (record { kind = k; text = more }) ∷ [])
+short_pushed t more rs es done used k s n p w u v h e f =
+    push_entry t (t ++ more) rs rs es done used (Short n k s) (Token (record { kind = k; text = more })) p (grown_text t more rs u v)
+    (omega (arith, h, length-append t more))
+    (subst (λ (i : ℕ). IsNext i (t ++ more) rs (all_items t rs es) (Short n k s) (Token (record { kind = k; text = more }))) (sym w) (short_next t more rs (all_items t rs es) k s n v e f))
 
-pub long_pushed : (t more : List ℕ) (rs : List Record) (es done : List Entry) (k i : ℕ) (r : Record) → Growing t rs es done → IsUtf8 t → IsUtf8 more → length t + length more < 2 ^ 32 → i ≡ length rs → r.start ≡ length t → r.len ≡ length more
-    → GrewParts (t ++ more) (rs ++ r ∷ []) es (done ++ Long k i ∷ []) (terms_at (done_items t rs es done) ++ Token (record { kind = k; text = more }) ∷ [])
-long_pushed t more rs es done k i r p u v h e f g =
-    push_entry t (t ++ more) rs (rs ++ r ∷ []) es done (Long k i) (Token (record { kind = k; text = more })) p (grown_both t more rs r u v)
-    (omega (arith, h, length-append t more)) (long_next t more rs (all_items t rs es) k i r v e f g)
+pub long_pushed : (t more : List ℕ) (rs : List Record) (es done : List Entry) (used k i : ℕ) (r : Record) → Growing t rs es done used → used ≡ length t → IsUtf8 t → IsUtf8 more → length t + length more < 2 ^ 32 → i ≡ length rs → r.start ≡ length t → r.len ≡ length more
+    → GrewParts (t ++ more) (rs ++ r ∷ []) es (done ++ Long k i ∷ []) (used + length more) (terms_at (done_items t rs es done) ++ Token (record { kind = k; text = more }) ∷ [])
+long_pushed t more rs es done used k i r p w u v h e f g =
+    push_entry t (t ++ more) rs (rs ++ r ∷ []) es done used (Long k i) (Token (record { kind = k; text = more })) p (grown_both t more rs r u v)
+    (omega (arith, h, length-append t more))
+    (subst (λ (j : ℕ). IsNext j (t ++ more) (rs ++ r ∷ []) (all_items t rs es) (Long k i) (Token (record { kind = k; text = more }))) (sym w) (long_next t more rs (all_items t rs es) k i r v e f g))
+
+-- ---- a token that is the next piece of the text
+
+piece_len : (t : List ℕ) (at n : ℕ) → at + n ≤ length t → length (piece t at n) ≡ n
+piece_len t at n h = omega (arith, h, length-take n (drop at t), length-drop at t)
+
+piece_used : (t : List ℕ) (rs : List Record) (es done : List Entry) (used n : ℕ) (ts : List Term) → used + n ≤ length t → GrewParts t rs es done (used + length (piece t used n)) ts → GrewParts t rs es done (used + n) ts
+piece_used t rs es done used n ts h p = subst (λ (m : ℕ). GrewParts t rs es done (used + m) ts) (piece_len t used n h) p
+
+pub short_piece : (t : List ℕ) (rs : List Record) (es done : List Entry) (used k n : ℕ) → Growing t rs es done used → IsTextRange t used n → used + n ≤ length t
+    → GrewParts t rs es (done ++ Short n k used ∷ []) (used + n) (terms_at (done_items t rs es done) ++ Token (record { kind = k; text = piece t used n }) ∷ [])
+short_piece t rs es done used k n p range h =
+    piece_used t rs es (done ++ Short n k used ∷ []) used n _ h
+    (push_entry t t rs rs es done used (Short n k used) (Token (record { kind = k; text = piece t used n })) p (grown_same t rs) p.text (record { placed = range; item = refl }))
+
+pub long_piece : (t : List ℕ) (rs : List Record) (es done : List Entry) (used k n i : ℕ) (r : Record) → Growing t rs es done used → IsTextRange t used n → used + n ≤ length t → i ≡ length rs → r.start ≡ used → r.len ≡ n
+    → GrewParts t (rs ++ r ∷ []) es (done ++ Long k i ∷ []) (used + n) (terms_at (done_items t rs es done) ++ Token (record { kind = k; text = piece t used n }) ∷ [])
+long_piece t rs es done used k n i r p range h e f g =
+    let ss = rs ++ r ∷ [] in
+    let z : record_at ss i ≡ r = last_record rs r i e in
+    let own : IsTextRange t r.start r.len = subst (λ (j : ℕ). IsTextRange t j r.len) (sym f) (subst (λ (m : ℕ). IsTextRange t used m) (sym g) range) in
+    let next : IsNext used t ss (all_items t rs es) (Long k i) (Token (record { kind = k; text = piece t used n })) = record {
+      placed = record {
+        present = omega (arith, e, length-append rs (r ∷ []));
+        range = subst (λ (y : Record). IsTextRange t y.start y.len) (sym z) own;
+      };
+      item = ap (λ (y : Record). token_by t k y) z ∙ ap (λ (j : ℕ). token_item t k j r.len) f ∙ ap (λ (m : ℕ). token_item t k used m) g;
+    } in
+    piece_used t ss es (done ++ Long k i ∷ []) used n _ h
+    (push_entry t t rs ss es done used (Long k i) (Token (record { kind = k; text = piece t used n })) p (grown_record t rs r) p.text next)
 
 -- ---- a node
 
@@ -303,8 +327,8 @@ length_kids t rs es done first =
     let fn = item_of t rs (all_items t rs es) in
     length-drop first (map fn done) ∙ ap (λ (n : ℕ). n - first) (length-map done fn)
 
-row_kids : (t : List ℕ) (rs : List Record) (es done : List Entry) (first : ℕ) → Growing t rs es done → IsRow (row_len (take first (done_items t rs es done))) (drop first (done_items t rs es done))
-row_kids t rs es done first p =
+row_kids : (t : List ℕ) (rs : List Record) (es done : List Entry) (used first : ℕ) → Growing t rs es done used → IsRow (row_len (take first (done_items t rs es done))) (drop first (done_items t rs es done))
+row_kids t rs es done used first p =
     let old = done_items t rs es done in
     let e : 0 + row_len (take first old) ≡ row_len (take first old) = omega arith in
     subst (λ (n : ℕ). IsRow n (drop first old)) e (row_drop 0 first old p.row)
@@ -312,29 +336,40 @@ row_kids t rs es done first p =
 longer_entries : (es done : List Entry) (first : ℕ) → first ≤ length done → length es + length done < first + 2 ^ 32 → length (es ++ drop first done) < 2 ^ 32
 longer_entries es done first h k = omega (arith, h, k, length-append es (drop first done), length-drop first done)
 
-pub few_closed : (t : List ℕ) (rs : List Record) (es done : List Entry) (first k n f : ℕ) → Growing t rs es done → first < length done → length es + length done < first + 2 ^ 32 → n ≡ length done - first → f ≡ length es
-    → GrewParts t rs (es ++ drop first done) (take first done ++ Few n k f ∷ []) (take first (terms_at (done_items t rs es done)) ++ Node (tree_of k (drop first (terms_at (done_items t rs es done)))) ∷ [])
-few_closed t rs es done first k n f p h w e g =
+pub few_closed : (t : List ℕ) (rs : List Record) (es done : List Entry) (used first k n f : ℕ) → Growing t rs es done used → first < length done → length es + length done < first + 2 ^ 32 → n ≡ length done - first → f ≡ length es
+    → GrewParts t rs (es ++ drop first done) (take first done ++ Few n k f ∷ []) used (take first (terms_at (done_items t rs es done)) ++ Node (tree_of k (drop first (terms_at (done_items t rs es done)))) ∷ [])
+few_closed t rs es done used first k n f p h w e g =
     let old = done_items t rs es done in
     let s = row_len (take first old) in
     let place : f ≡ length (all_items t rs es) = omega (arith, g, length-items_after t rs [] es) in
     let count : n ≡ length (drop first old) = e ∙ sym (length_kids t rs es done first) in
     let room : length (es ++ drop first done) < 2 ^ 32 = longer_entries es done first (omega (arith, h)) w in
-    close_entry t rs rs es done first k s (Few n k f) p (grown_same t rs) room refl
-    (few_node t rs (all_items t rs es) (drop first old) k s f n place count (omega (arith, e, h)) (row_kids t rs es done first p))
+    close_entry t rs rs es done used first k s (Few n k f) p (grown_same t rs) room refl
+    (few_node t rs (all_items t rs es) (drop first old) k s f n place count (omega (arith, e, h)) (row_kids t rs es done used first p))
 
-pub many_closed : (t : List ℕ) (rs : List Record) (es done : List Entry) (first k i : ℕ) (r : Record) → Growing t rs es done → IsUtf8 t → first ≤ length done → length es + length done < first + 2 ^ 32 → i ≡ length rs
-    → r.start ≡ row_len (take first (done_items t rs es done)) → r.start + r.len ≡ length t → r.first ≡ length es → r.count ≡ length done - first
-    → GrewParts t (rs ++ r ∷ []) (es ++ drop first done) (take first done ++ Many k i ∷ []) (take first (terms_at (done_items t rs es done)) ++ Node (tree_of k (drop first (terms_at (done_items t rs es done)))) ∷ [])
-many_closed t rs es done first k i r p u h w e starts ends f n =
+pub many_closed : (t : List ℕ) (rs : List Record) (es done : List Entry) (used first k i : ℕ) (r : Record) → Growing t rs es done used → IsUtf8 t → first ≤ length done → length es + length done < first + 2 ^ 32 → i ≡ length rs
+    → r.start ≡ row_len (take first (done_items t rs es done)) → r.start + r.len ≡ used → r.first ≡ length es → r.count ≡ length done - first
+    → GrewParts t (rs ++ r ∷ []) (es ++ drop first done) (take first done ++ Many k i ∷ []) used (take first (terms_at (done_items t rs es done)) ++ Node (tree_of k (drop first (terms_at (done_items t rs es done)))) ∷ [])
+many_closed t rs es done used first k i r p u h w e starts ends f n =
     let old = done_items t rs es done in
     let s = row_len (take first old) in
     let place : r.first ≡ length (all_items t rs es) = omega (arith, f, length-items_after t rs [] es) in
     let count : r.count ≡ length (drop first old) = n ∙ sym (length_kids t rs es done first) in
     let len : r.len ≡ row_len (drop first old) = omega (arith, starts, ends, row_len-split first old, p.all) in
-    let cut : IsCharBoundary t s = cut_after t rs es done first s u p refl in
-    close_entry t rs (rs ++ r ∷ []) es done first k s (Many k i) p (grown_record t rs r) (longer_entries es done first h w) refl
-    (many_node t rs (all_items t rs es) (drop first old) k s i r e starts len place count cut (row_kids t rs es done first p))
+    let cut : IsCharBoundary t s = cut_after t rs es done used first s u p refl in
+    close_entry t rs (rs ++ r ∷ []) es done used first k s (Many k i) p (grown_record t rs r) (longer_entries es done first h w) refl
+    (many_node t rs (all_items t rs es) (drop first old) k s i r e starts len place count cut (row_kids t rs es done used first p))
+
+-- the text may be cut where its used part ends
+pub used_cut : (a : Arena) (done : List Entry) → IsGrowing a done → IsCharBoundary (string_bytes a.text) a.used
+used_cut a done g =
+    let xs = items_over a done in
+    let whole : row_len xs ≡ row_len (take (length xs) xs) = sym (ap row_len (take_all (length xs) xs (omega arith))) in
+    cut_after (string_bytes a.text) a.records.items a.entries.items done a.used (length xs) a.used (IsUtf8-string_bytes a.text) (growing_parts a done g) (sym g.all ∙ whole)
+
+-- tokens have no more text than there is
+pub used_within : (a : Arena) (done : List Entry) → IsGrowing a done → a.used ≤ length (string_bytes a.text)
+used_within a done g = (used_cut a done g).0
 
 -- ---- where the entries from a number on start
 
@@ -349,7 +384,7 @@ start_at a done first n x g h q e =
     let w = row_at 0 first d xs g.row (omega (arith, h, length-map done (item_in a))) in
     omega (arith, e, z, w, texts_before a done first)
 
-pub start_at_end : (a : Arena) (done : List Entry) (first n : ℕ) → IsGrowing a done → first ≤ length done → length done ≤ first → n ≡ length (string_bytes a.text) → n ≡ length (texts_of (take first (terms_over a done)))
+pub start_at_end : (a : Arena) (done : List Entry) (first n : ℕ) → IsGrowing a done → first ≤ length done → length done ≤ first → n ≡ a.used → n ≡ length (texts_of (take first (terms_over a done)))
 start_at_end a done first n g h k e =
     let xs = items_over a done in
     let z : row_len (take first xs) ≡ row_len xs = ap row_len (take_all first xs (omega (arith, k, length-map done (item_in a)))) in
@@ -359,7 +394,7 @@ start_at_end a done first n g h k e =
 pub start_items : (a : Arena) (done : List Entry) (first n : ℕ) → n ≡ length (texts_of (take first (terms_over a done))) → n ≡ row_len (take first (items_over a done))
 start_items a done first n e = e ∙ texts_before a done first
 
-pub start_le : (a : Arena) (done : List Entry) (first n : ℕ) → IsGrowing a done → n ≡ length (texts_of (take first (terms_over a done))) → n ≤ length (string_bytes a.text)
+pub start_le : (a : Arena) (done : List Entry) (first n : ℕ) → IsGrowing a done → n ≡ length (texts_of (take first (terms_over a done))) → n ≤ a.used
 start_le a done first n g e = omega (arith, start_items a done first n e, row_len-split first (items_over a done), g.all)
 
 -- ---- lists of entries
@@ -367,6 +402,13 @@ start_le a done first n g e = omega (arith, start_items a done first n e, row_le
 -- all elements from a number on
 pub take_rest : (i : ℕ) (xs : List Entry) → take (length xs - i) (drop i xs) ≡ drop i xs
 take_rest i xs = ap (λ (n : ℕ). take n (drop i xs)) (sym (length-drop i xs)) ∙ take-length (drop i xs)
+
+-- the last element alone
+pub drop_last : (xs : List Entry) (i : ℕ) (d : Entry) → length xs ≡ i + 1 → drop i xs ≡ get_or xs i d ∷ []
+drop_last [] i d h = absurd (omega (arith, h))
+drop_last (x ∷ []) zero d h = refl
+drop_last (x ∷ y ∷ xs) zero d h = absurd (omega (arith, h))
+drop_last (x ∷ xs) (suc i) d h = drop_last xs i d (omega (arith, h))
 
 -- a slice of a list that is the entries that are done
 pub rest_is : (ds done : List Entry) (i : ℕ) → ds ≡ done → take (length ds - i) (drop i ds) ≡ drop i done
@@ -394,12 +436,12 @@ set_last (y ∷ ys) (suc i) x h =
 
 -- ---- a root
 
-pub record RootPushed (t : List ℕ) (rs : List Record) (es : List Entry) (done : List Entry) (at : ℕ) (x : Entry) : Type 0 where
-  pub grew : GrewParts t rs (es ++ x ∷ []) done (terms_at (done_items t rs es done))
+pub record RootPushed (t : List ℕ) (rs : List Record) (es : List Entry) (done : List Entry) (used : ℕ) (at : ℕ) (x : Entry) : Type 0 where
+  pub grew : GrewParts t rs (es ++ x ∷ []) done used (terms_at (done_items t rs es done))
   pub root : slice_get (terms_at (all_items t rs (es ++ x ∷ []))) (length es) ≡ slice_get (terms_at (done_items t rs es done)) at
 
-pub root_pushed : (t : List ℕ) (rs : List Record) (es done : List Entry) (at : ℕ) (x : Entry) → Growing t rs es done → at < length done → x ≡ get_or done at x → length es + 1 < 2 ^ 32 → RootPushed t rs es done at x
-root_pushed t rs es done at x p h q w =
+pub root_pushed : (t : List ℕ) (rs : List Record) (es done : List Entry) (used at : ℕ) (x : Entry) → Growing t rs es done used → at < length done → x ≡ get_or done at x → length es + 1 < 2 ^ 32 → RootPushed t rs es done used at x
+root_pushed t rs es done used at x p h q w =
     let all = all_items t rs es in
     let fn = item_of t rs all in
     let placed : IsPlaced t rs all x = subst (λ (y : Entry). IsPlaced t rs all y) (sym q) (element_placed t rs all done at x p.placed h) in

@@ -19,3 +19,4 @@ pub mod RunLemmas
 pub mod BuilderLemmas
 pub mod EditLemmas
 pub mod TokenLemmas
+pub mod TextBuilderLemmas

@@ -152,11 +152,15 @@ pub record IsSound (a : Arena) (es : List Entry) : Type 0 where
   pub placed : ArePlaced (string_bytes a.text) a.records.items (items_in a) es
 
 -- what holds of an arena that grows: the texts of the entries that have no parent yet lie in a row,
--- and are its whole text
+-- and are the part of its text that is used
 pub record IsGrowing (a : Arena) (done : List Entry) : Type 0 where
   pub sound : IsSound a done
   pub row : IsRow 0 (items_over a done)
-  pub all : length (texts_of (terms_over a done)) ≡ length (string_bytes a.text)
+  pub all : length (texts_of (terms_over a done)) ≡ a.used
+
+-- all of an arena's text is used
+abbrev pub IsWhole : Arena → Type 0
+IsWhole a = a.used ≡ length (string_bytes a.text)
 
 -- the children of a term; a token has none
 abbrev pub child_terms : Term → List Term

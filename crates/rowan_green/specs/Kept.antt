@@ -9,7 +9,7 @@ use Rattle.rowan_green.specs.declared.arena.Entry.{Entry}
 use Rattle.rowan_green.specs.declared.arena.Entry.TheVariants.{Short, Few, Long, Many}
 use Rattle.rowan_green.specs.declared.arena.Arena.{Arena}
 use Rattle.rowan_green.specs.declared.builder.OpenNode.{OpenNode}
-use Rattle.rowan_green.specs.Arena.{IsGrowing, items_in, terms_at, terms_over}
+use Rattle.rowan_green.specs.Arena.{IsGrowing, IsWhole, items_in, terms_at, terms_over}
 use Rattle.rowan_green.specs.FlatNode.{IsLast}
 use Rattle.rowan_green.specs.OpenNodes.{IsNested}
 
@@ -30,15 +30,17 @@ abbrev pub terms_kept : Option (Rc Arena Global) → List Term
 terms_kept None = []
 terms_kept (Some shared) = terms_at (items_in shared.value)
 
--- the arena grows by these entries; without an arena, nothing is done
+-- the arena grows by these entries, and all of its text is used; without an arena, nothing is done
 abbrev pub IsFilled : Option (Rc Arena Global) → List Entry → Type 0
 IsFilled None done = done ≡ []
-IsFilled (Some shared) done = IsGrowing shared.value done
+IsFilled (Some shared) done = IsGrowing shared.value done × IsWhole shared.value
 
 -- if one node is all that is done, it is also the last entry of the arena
+abbrev pub IsRootedBy : List Term → List Term → Type 0
+IsRootedBy done kept = (t : Tree) → done ≡ Node t ∷ [] → IsLast kept (Node t)
+
 abbrev pub IsRooted : Option (Rc Arena Global) → List Entry → Type 0
-IsRooted arena done =
-    (t : Tree) → terms_done arena done ≡ Node t ∷ [] → IsLast (terms_kept arena) (Node t)
+IsRooted arena done = IsRootedBy (terms_done arena done) (terms_kept arena)
 
 -- nothing is different, where these entries are done
 pub record IsSame (old new : Option (Rc Arena Global)) (done : List Entry) : Type 0 where

@@ -21,3 +21,4 @@ pub mod NodeForm
 pub mod NodeFormRef
 pub mod NodeReader
 pub mod Rest
+pub mod TextBuilding

@@ -36,9 +36,11 @@ pub(crate) struct Arena {
     pub(crate) text: String,
     pub(crate) entries: Vec<Entry>,
     pub(crate) records: Vec<Record>,
+    /// How many bytes of the text the tokens have.
+    pub(crate) used: u32,
 }
 
-const _: () = prove!(size_of::<Arena>() == 72);
+const _: () = prove!(size_of::<Arena>() == 80);
 
 impl Record {
     /// Returns the offset at which the text ends.

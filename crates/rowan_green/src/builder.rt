@@ -1,6 +1,6 @@
 //! A builder of green trees, in one arena for a tree: a node is opened, gets its tokens and nodes in
 //! order, and is closed.
-ghost use Rattle.std.specs.Prelude.{◌≡◌, ◌+◌, ◌-◌, ◌<◌, ◌≤◌, ◌^◌, ◌↔◌, length, IsTrue, IsOk, IfOk, IfErr, OnOk, OnErr, MatchOption, true, List, [], ◌∷◌, ◌++◌, take, drop};
+ghost use Rattle.std.specs.Prelude.{◌≡◌, ◌+◌, ◌-◌, ◌<◌, ◌≤◌, ◌^◌, ◌↔◌, length, IsTrue, IsOk, IfOk, IfErr, OnOk, OnErr, MatchOption, true, string_bytes, List, [], ◌∷◌, ◌++◌, take, drop};
 ghost use Rattle.std.specs.Bool.{OnTrue};
 ghost use Rattle.rowan_green.specs.Forest.{Tree};
 ghost use Rattle.rowan_green.specs.Term.{tree_of, FitsToken, FitsNode};
@@ -8,7 +8,8 @@ ghost use Rattle.rowan_green.specs.Word.{opens, token, words};
 ghost use Rattle.rowan_green.specs.Refusal.{RefusesUnless};
 ghost use Rattle.rowan_green.specs.Building.{nothing_built, with_sign, with_opened, with_closed, current_children, first_or_zero, IsCurrent, OpensAround};
 ghost use Rattle.rowan_green.specs.declared.utility_types.NodeOrToken.TheVariants.{Node, Token};
-ghost use Rattle.rowan_green.specs.Kept.{is_node, terms_done, IsFilled, IsRooted, IsSame};
+ghost use Rattle.rowan_green.specs.Arena.{IsGrowing, items_in, terms_at, terms_over};
+ghost use Rattle.rowan_green.specs.Kept.{is_node, terms_done, IsFilled, IsRooted, IsRootedBy, IsSame};
 
 use crate::arena::{Arena, Entry};
 use crate::error::GreenError;
@@ -28,10 +29,10 @@ const MOST: usize = u32::MAX as usize;
 /// An open node: its children are the complete entries from `first` on, up to where the next open
 /// node begins.
 #[derive(Clone, Copy)]
-struct OpenNode {
-    kind: u16,
-    first: usize,
-    number: u64,
+pub(crate) struct OpenNode {
+    pub(crate) kind: u16,
+    pub(crate) first: usize,
+    pub(crate) number: u64,
 }
 
 /// A builder of one tree. A contract sees the word of the calls that it accepted.
@@ -300,7 +301,7 @@ fn share(cache: Option<&mut NodeCache>, tree: GreenNode) -> GreenNode
 }
 
 /// Returns the innermost open node.
-fn innermost(open_nodes: &[OpenNode]) -> Option<OpenNode>
+pub(crate) fn innermost(open_nodes: &[OpenNode]) -> Option<OpenNode>
     ensures { let os = open_nodes.now in
         MatchOption result (os ≡ []) (λ o. os ≡ take (length os - 1) os ++ o ∷ []) }
 {
@@ -308,7 +309,7 @@ fn innermost(open_nodes: &[OpenNode]) -> Option<OpenNode>
 }
 
 /// Returns `true` if `open` is the only open node, and all that is done are its children.
-fn is_root(open_nodes: &[OpenNode], open: OpenNode) -> bool
+pub(crate) fn is_root(open_nodes: &[OpenNode], open: OpenNode) -> bool
     ensures whole { OnTrue result (open.first ≡ 0) }
     ensures alone { length open_nodes.now ≡ 1 → open.first ≡ 0 → result ≡ true }
 {
@@ -316,7 +317,7 @@ fn is_root(open_nodes: &[OpenNode], open: OpenNode) -> bool
 }
 
 /// Returns `true` if nothing is open, and one node is all that is done.
-fn is_complete(open_nodes: &[OpenNode], done: &[Entry]) -> bool
+pub(crate) fn is_complete(open_nodes: &[OpenNode], done: &[Entry]) -> bool
     ensures nothing_open { OnTrue result (open_nodes.now ≡ []) }
     ensures one_node { OnTrue result ((e : Entry) × (done.now ≡ e ∷ []) × (is_node e ≡ true)) }
     ensures complete { (e : Entry) → open_nodes.now ≡ [] → done.now ≡ e ∷ [] → is_node e ≡ true
@@ -326,7 +327,8 @@ fn is_complete(open_nodes: &[OpenNode], done: &[Entry]) -> bool
 }
 
 /// Opens one more node, whose children begin at `first`.
-fn push_open(
+#[inline(always)]
+pub(crate) fn push_open(
     open_nodes: &mut Vec<OpenNode>,
     started: &mut u64,
     kind: SyntaxKind,
@@ -390,8 +392,8 @@ fn push_token(
     arena.push_token(done, kind, text)
 }
 
-/// Closes an open node, whose children are `done[open.first..]`. A root becomes the last entry of
-/// the arena.
+/// Closes an open node of the arena, which is made if there is none. Its children are
+/// `done[open.first..]`. A root becomes the last entry of the arena.
 fn close(
     alloc: Global,
     arena: &mut Option<Rc<Arena>>,
@@ -424,6 +426,32 @@ fn close(
     let Some(arena) = Rc::get_mut(shared) else {
         return Err(GreenError::NoMemory);
     };
+    close_in(arena, done, open, is_root)?;
+    Ok(())
+}
+
+/// Closes an open node of an arena.
+#[inline(always)]
+pub(crate) fn close_in(
+    arena: &mut Arena,
+    done: &mut Vec<Entry>,
+    open: OpenNode,
+    is_root: bool,
+) -> Result<(), AllocError>
+    requires growing { IsGrowing arena.old done.old.items }
+    requires within { open.first ≤ length done.old.items }
+    requires whole { OnTrue is_root (open.first ≡ 0) }
+    ensures growing { IsGrowing arena.new done.new.items }
+    ensures text { string_bytes arena.new.text ≡ string_bytes arena.old.text }
+    ensures used { arena.new.used ≡ arena.old.used }
+    ensures ok { OnOk result (terms_over arena.new done.new.items
+        ≡ take open.first (terms_over arena.old done.old.items)
+        ++ Node (tree_of open.kind (drop open.first (terms_over arena.old done.old.items))) ∷ []) }
+    ensures rooted { OnOk result (OnTrue is_root
+        (IsRootedBy (terms_over arena.new done.new.items) (terms_at (items_in arena.new)))) }
+    ensures err { OnErr result
+        (terms_over arena.new done.new.items ≡ terms_over arena.old done.old.items) }
+{
     if is_root {
         arena.close_root(done, open.kind)?;
     } else {

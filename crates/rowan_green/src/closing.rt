@@ -1,5 +1,5 @@
 //! The close of a root, which becomes an entry of its arena at once.
-ghost use Rattle.std.specs.Prelude.{◌≡◌, [], ◌∷◌, OnOk, OnErr};
+ghost use Rattle.std.specs.Prelude.{◌≡◌, [], ◌∷◌, OnOk, OnErr, string_bytes};
 ghost use Rattle.rowan_green.specs.Term.{tree_of};
 ghost use Rattle.rowan_green.specs.Arena.{IsGrowing, items_in, terms_at, terms_over};
 ghost use Rattle.rowan_green.specs.FlatNode.{IsLast};
@@ -19,9 +19,13 @@ impl Arena {
     ///
     /// `AllocError` if an allocation fails, or if the arena would hold 2^32 entries or records. On
     /// error, the terms are unchanged.
+    #[cold]
+    #[inline(never)]
     pub(crate) fn close_root(&mut self, done: &mut Vec<Entry>, kind: u16) -> Result<(), AllocError>
         requires growing { IsGrowing self.old done.old.items }
         ensures growing { IsGrowing self.new done.new.items }
+        ensures text { string_bytes self.new.text ≡ string_bytes self.old.text }
+        ensures used { self.new.used ≡ self.old.used }
         ensures ok { OnOk result (terms_over self.new done.new.items
             ≡ Node (tree_of kind (terms_over self.old done.old.items)) ∷ []) }
         ensures last { OnOk result (IsLast (terms_at (items_in self.new))
@@ -37,7 +41,7 @@ impl Arena {
         }
         let record = Record {
             start: 0,
-            len: self.text.len() as u32,
+            len: self.used,
             first: first as u32,
             count: count as u32,
         };

@@ -1,7 +1,7 @@
 //! An arena grows: by a token, or by the children of a node that is closed.
 ghost use Rattle.std.specs.Prelude.{◌≡◌, ◌+◌, ◌≤◌, ◌<◌, ◌^◌, ◌++◌, [], ◌∷◌, length, take, drop, OnOk, OnErr, IfOk, string_bytes, slice_get};
 ghost use Rattle.rowan_green.specs.Term.{tree_of, texts_of};
-ghost use Rattle.rowan_green.specs.Arena.{IsSound, IsGrowing, items_in, terms_at, terms_over};
+ghost use Rattle.rowan_green.specs.Arena.{IsSound, IsGrowing, IsWhole, items_in, terms_at, terms_over};
 ghost use Rattle.rowan_green.specs.declared.utility_types.NodeOrToken.TheVariants.{Node, Token};
 
 use crate::arena::{Arena, Entry, Record};
@@ -16,15 +16,32 @@ const MOST_FEW: usize = 255;
 /// The most steps from a [`Entry::Few`] down to an entry that has an end of its text.
 const MOST_STEPS: u32 = 8;
 
+/// Appends `done[first..]` to `entries`. Most nodes have one child, which is no row to be copied.
+#[inline(always)]
+fn push_rest(entries: &mut Vec<Entry>, done: &[Entry], first: usize) -> Result<(), AllocError>
+    requires { first < length done.now }
+    ensures ok { OnOk result (entries.new.items ≡ entries.old.items ++ drop first done.now) }
+    ensures err { OnErr result (entries.new.items ≡ entries.old.items) }
+{
+    if done.len() - first == 1 {
+        entries.push(done[first])?;
+        return Ok(());
+    }
+    entries.extend_from_slice(&done[first..])?;
+    Ok(())
+}
+
 impl Arena {
     /// Returns an arena without entries.
     pub(crate) fn new(alloc: Global) -> Arena
-        ensures { IsGrowing result [] }
+        ensures growing { IsGrowing result [] }
+        ensures whole { IsWhole result }
     {
         Arena {
             text: String::new(alloc),
             entries: Vec::new(alloc),
             records: Vec::new(alloc),
+            used: 0,
         }
     }
 
@@ -42,7 +59,9 @@ impl Arena {
         text: &str,
     ) -> Result<(), AllocError>
         requires growing { IsGrowing self.old done.old.items }
+        requires whole { IsWhole self.old }
         ensures growing { IsGrowing self.new done.new.items }
+        ensures whole { IsWhole self.new }
         ensures ok { OnOk result (terms_over self.new done.new.items
             ≡ terms_over self.old done.old.items
             ++ Token (record { kind = kind; text = text.now }) ∷ []) }
@@ -63,9 +82,11 @@ impl Arena {
     /// Appends a token of less than 256 bytes.
     fn push_short(&mut self, done: &mut Vec<Entry>, kind: u16, text: &str) -> Result<(), AllocError>
         requires growing { IsGrowing self.old done.old.items }
+        requires whole { IsWhole self.old }
         requires short { length text.now < 256 }
         requires fits { length (string_bytes self.old.text) + length text.now < 2 ^ 32 }
         ensures growing { IsGrowing self.new done.new.items }
+        ensures whole { IsWhole self.new }
         ensures ok { OnOk result (terms_over self.new done.new.items
             ≡ terms_over self.old done.old.items
             ++ Token (record { kind = kind; text = text.now }) ∷ []) }
@@ -76,15 +97,21 @@ impl Arena {
         done.reserve(1)?;
         let start = self.text.len() as u32;
         self.text.push_str(text)?;
+        let used = self.text.len() as u32;
+        self.used = used;
         done.push(Entry::Short(text.len() as u8, kind, start))?;
         Ok(())
     }
 
     /// Appends a token with a record.
+    #[cold]
+    #[inline(never)]
     fn push_long(&mut self, done: &mut Vec<Entry>, kind: u16, text: &str) -> Result<(), AllocError>
         requires growing { IsGrowing self.old done.old.items }
+        requires whole { IsWhole self.old }
         requires fits { length (string_bytes self.old.text) + length text.now < 2 ^ 32 }
         ensures growing { IsGrowing self.new done.new.items }
+        ensures whole { IsWhole self.new }
         ensures ok { OnOk result (terms_over self.new done.new.items
             ≡ terms_over self.old done.old.items
             ++ Token (record { kind = kind; text = text.now }) ∷ []) }
@@ -105,6 +132,8 @@ impl Arena {
             count: 0,
         };
         self.text.push_str(text)?;
+        let used = self.text.len() as u32;
+        self.used = used;
         self.records.push(record)?;
         done.push(Entry::Long(kind, number))?;
         Ok(())
@@ -117,6 +146,7 @@ impl Arena {
     ///
     /// `AllocError` if an allocation fails, or if the arena would hold 2^32 entries or records. On
     /// error, the terms are unchanged.
+    #[inline(always)]
     pub(crate) fn close(
         &mut self,
         done: &mut Vec<Entry>,
@@ -126,6 +156,8 @@ impl Arena {
         requires growing { IsGrowing self.old done.old.items }
         requires within { first ≤ length done.old.items }
         ensures growing { IsGrowing self.new done.new.items }
+        ensures text { string_bytes self.new.text ≡ string_bytes self.old.text }
+        ensures used { self.new.used ≡ self.old.used }
         ensures ok { OnOk result (terms_over self.new done.new.items
             ≡ take first (terms_over self.old done.old.items)
             ++ Node (tree_of kind (drop first (terms_over self.old done.old.items))) ∷ []) }
@@ -179,6 +211,7 @@ impl Arena {
     }
 
     /// Closes a node of 1 to 255 children without a record.
+    #[inline(always)]
     fn close_few(
         &mut self,
         done: &mut Vec<Entry>,
@@ -190,6 +223,8 @@ impl Arena {
         requires few { length done.old.items ≤ first + 255 }
         requires fits { length self.old.entries.items + length done.old.items < first + 2 ^ 32 }
         ensures growing { IsGrowing self.new done.new.items }
+        ensures text { string_bytes self.new.text ≡ string_bytes self.old.text }
+        ensures used { self.new.used ≡ self.old.used }
         ensures ok { OnOk result (terms_over self.new done.new.items
             ≡ take first (terms_over self.old done.old.items)
             ++ Node (tree_of kind (drop first (terms_over self.old done.old.items))) ∷ []) }
@@ -198,13 +233,15 @@ impl Arena {
     {
         let count = (done.len() - first) as u8;
         let at = self.entries.len() as u32;
-        self.entries.extend_from_slice(&done[first..])?;
+        push_rest(&mut self.entries, done, first)?;
         done.truncate(first + 1);
         done[first] = Entry::Few(count, kind, at);
         Ok(())
     }
 
     /// Closes a node with a record.
+    #[cold]
+    #[inline(never)]
     fn close_many(
         &mut self,
         done: &mut Vec<Entry>,
@@ -215,6 +252,8 @@ impl Arena {
         requires within { first ≤ length done.old.items }
         requires fits { length self.old.entries.items + length done.old.items < first + 2 ^ 32 }
         ensures growing { IsGrowing self.new done.new.items }
+        ensures text { string_bytes self.new.text ≡ string_bytes self.old.text }
+        ensures used { self.new.used ≡ self.old.used }
         ensures ok { OnOk result (terms_over self.new done.new.items
             ≡ take first (terms_over self.old done.old.items)
             ++ Node (tree_of kind (drop first (terms_over self.old done.old.items))) ∷ []) }
@@ -242,12 +281,12 @@ impl Arena {
         requires fits { length self.now.entries.items + length done.now < first + 2 ^ 32 }
         ensures start { result.start
             ≡ length (texts_of (take first (terms_over self.now done.now))) }
-        ensures end { result.start + result.len ≡ length (string_bytes self.now.text) }
+        ensures end { result.start + result.len ≡ self.now.used }
         ensures first { result.first ≡ length self.now.entries.items }
         ensures count { result.count + first ≡ length done.now }
     {
         let start = self.start_from(done, first);
-        let len = self.text.len() as u32 - start;
+        let len = self.used - start;
         let count = done.len() - first;
         Record {
             start,
@@ -266,12 +305,13 @@ impl Arena {
         if first < done.len() {
             self.start_of(done[first])
         } else {
-            self.text.len() as u32
+            self.used
         }
     }
 
     /// Returns `true` if a node of these children would be at most [`MOST_STEPS`] steps away from
     /// both ends of its text.
+    #[inline(always)]
     fn has_near_ends(&self, children: &[Entry]) -> bool
         requires sound { IsSound self.now children.now }
         requires some { 1 ≤ length children.now }

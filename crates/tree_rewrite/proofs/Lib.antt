@@ -7,6 +7,7 @@ pub mod SwapLemmas
 pub mod MarkedLemmas
 pub mod NestingLemmas
 pub mod ClimbLemmas
+pub mod AheadLemmas
 pub mod DepthLemmas
 pub mod KeptLemmas
 pub mod MovedLemmas

@@ -20,6 +20,10 @@ use Rattle.tree_rewrite.specs.declared.fill.Level.{Level}
 
 -- ---- one open node
 
+-- the element at `w` comes from this one
+abbrev pub IsFrom : Element → Element → Way → Type 0
+IsFrom x e w = x ≡ (origin_at e w).origin
+
 -- the number of elements of an element, with the element itself
 abbrev pub size_of : Element → ℕ
 size_of x = 1 + forest_count (inside (term_of x))

@@ -1,10 +1,11 @@
 -- Laws of rewrites.
-use Rattle.std.specs.Prelude.{◌≡◌, ℕ, List, ◌∷◌, ◌++◌, map, true, false}
+use Rattle.std.specs.Prelude.{◌≡◌, ℕ, ◌+◌, List, ◌∷◌, ◌++◌, length, map, true, false}
 use Rattle.std.specs.List.{All}
 use Rattle.rowan_green.specs.Forest.{Tree}
 use Rattle.syntax_tree.specs.Element.{Element, is_node, term_of}
 use Rattle.tree_rewrite.specs.Change.{Change, KeepsRoot, has_collision}
-use Rattle.syntax_tree.specs.Mapping.{Mapping}
+use Rattle.syntax_tree.specs.Mapping.{Mapping, are_ordered}
+use Rattle.tree_rewrite.specs.Moved.{way_to}
 use Rattle.tree_rewrite.specs.Rewrite.{jobs, or_no_jobs, is_placeable, rewrite}
 use Rattle.tree_rewrite.specs.Marked.{Marked, changed}
 use Rattle.tree_rewrite.specs.Changed.{changed_at, bounds_in}
@@ -20,6 +21,10 @@ OrdersAgree = (top : Element) (cs : List Change) (ms : Mapping) (os : List ℕ) 
 abbrev pub OrderExists : Type 0
 OrderExists = (top : Element) (cs : List Change) (ms : Mapping) → is_placeable top cs ms ≡ true
     → (os : List ℕ) × (is_order (or_no_jobs (jobs top cs ms)) os ≡ true)
+
+-- by a mapping whose outputs are in trees of greater numbers, a climb ends within its bound: with more steps it finds the same
+abbrev pub ClimbsEnd : Type 0
+ClimbsEnd = (ms : Mapping) (more : ℕ) (b a : Element) → are_ordered ms ≡ true → way_to (length ms + 1 + more) ms b a ≡ way_to (length ms + 1) ms b a
 
 -- two recordings on one tree are equivalent: both or neither have a collision, both or neither have a place for each change, and the trees with all changes applied are equal
 pub record AreAlike (top : Element) (cs ds : List Change) (ms : Mapping) : Type 0 where

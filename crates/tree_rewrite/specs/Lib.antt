@@ -13,6 +13,7 @@ pub mod Pieces
 pub mod Fill
 pub mod Filling
 pub mod Below
+pub mod Shown
 pub mod Fits
 pub mod Came
 pub mod Changed

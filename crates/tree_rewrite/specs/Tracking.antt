@@ -38,6 +38,10 @@ before_in (in_group d b a) = before_in a + text_len d
 abbrev pub changed_in : Marked → Around → List (ℕ × ℕ)
 changed_in d a = changed_at (as_told (told_in a) d) (before_in a)
 
+-- this is entered: a node, or a group, with the state before it
+abbrev pub IsEntry : Entered → Bool → Tracker → Type 0
+IsEntry g is_node t = (g.is_node ≡ is_node) × (g.start ≡ t.offset) × (g.told ≡ t.told) × (g.before.items ≡ t.ranges.items)
+
 -- the open nodes and groups, innermost first, with the ranges before them
 abbrev pub IsEntered : List Entered → Around → Type 0
 IsEntered [] outside = Unit {0}

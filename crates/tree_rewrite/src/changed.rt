@@ -4,7 +4,7 @@ ghost use Rattle.tree_rewrite.specs.Marked.{Marked};
 ghost use Rattle.tree_rewrite.specs.declared.piece.Piece.TheVariants.{Whole};
 ghost use Rattle.tree_rewrite.specs.Pieces.{Stand, closed, after_piece, Say};
 ghost use Rattle.tree_rewrite.specs.Changed.{AreChanged, if_changed, bounds};
-ghost use Rattle.tree_rewrite.specs.Tracking.{Tracks, is_put, bytes_by, all_bytes};
+ghost use Rattle.tree_rewrite.specs.Tracking.{IsEntry, Tracks, is_put, bytes_by, all_bytes};
 
 use crate::piece::Piece;
 use rowan_green::{TextRange, TextSize};
@@ -93,8 +93,7 @@ impl Tracker {
         ensures told { OnOk result (self.new.told ≡ told) }
         ensures around { OnOk result ((g : Entered)
             × (self.new.around.items ≡ self.old.around.items ++ g ∷ [])
-            × (g.is_node ≡ is_node) × (g.start ≡ self.old.offset) × (g.told ≡ self.old.told)
-            × (g.before.items ≡ self.old.ranges.items)) }
+            × IsEntry g is_node self.old) }
     {
         let before = mem::replace(&mut self.ranges, Vec::new(alloc));
         let entered = Entered {

@@ -5,9 +5,9 @@ ghost use Rattle.syntax_tree.specs.Handle.{element_of};
 ghost use Rattle.tree_rewrite.specs.Marked.{blank, readings_of};
 ghost use Rattle.tree_rewrite.specs.Rewrite.{Job, puts, terms_of};
 ghost use Rattle.tree_rewrite.specs.Orders.{with_picked, picked};
-ghost use Rattle.tree_rewrite.specs.Recorded.{target_of};
-ghost use Rattle.tree_rewrite.specs.Fill.{Given, laid, HaveGiven, HavePut};
+ghost use Rattle.tree_rewrite.specs.Fill.{Given, HavePut};
 ghost use Rattle.tree_rewrite.specs.Listed.{IsListed};
+ghost use Rattle.tree_rewrite.specs.Shown.{AreShown, shown};
 ghost use Rattle.tree_rewrite.specs.Pieces.{Adds, Say};
 
 use crate::fill::{push_standing, push_whole};
@@ -38,10 +38,9 @@ fn push_all(
     elements: &[SyntaxElement],
     pieces: &mut Vec<Piece>,
 ) -> Result<(), AllocError>
-    ensures { (gs : List Given)
-        → HaveGiven overlay.now.jobs.now overlay.now.made.now numbers.now gs → OnOk result
+    ensures { (gs : List Given) → AreShown overlay.now numbers.now gs → OnOk result
         (Adds pieces.old.items pieces.new.items
-        (readings_of (laid gs (target_of overlay.now.target)) (map element_of elements.now))) }
+        (readings_of (shown overlay.now gs) (map element_of elements.now))) }
 {
     for element in elements {
         push_standing(overlay, numbers, element.clone()?, pieces)?;

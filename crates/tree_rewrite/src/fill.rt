@@ -4,12 +4,12 @@
 ghost use Rattle.std.specs.Prelude.{◌≡◌, ◌<◌, ◌+◌, ◌*◌, List, [], ◌∷◌, length, reverse, IfOk, OnOk};
 ghost use Rattle.syntax_tree.specs.Element.{Way, Element, term_of};
 ghost use Rattle.syntax_tree.specs.Handle.{element_of};
-ghost use Rattle.tree_rewrite.specs.Marked.{origin_at, blank, reading_of};
+ghost use Rattle.tree_rewrite.specs.Marked.{blank, reading_of};
 ghost use Rattle.tree_rewrite.specs.Moved.{way_above};
 ghost use Rattle.tree_rewrite.specs.Recorded.{target_of};
-ghost use Rattle.tree_rewrite.specs.Fill.{Given, laid, HaveGiven, at_gap, standing};
-ghost use Rattle.tree_rewrite.specs.Filling.{size_of, IsNew, child_in, Closes, AreOpen, LeadTo, with_opened, level_size, level_sizes};
-ghost use Rattle.tree_rewrite.specs.Below.{lists_of, AreLists};
+ghost use Rattle.tree_rewrite.specs.Fill.{Given, at_gap, standing};
+ghost use Rattle.tree_rewrite.specs.Filling.{size_of, IsFrom, IsNew, child_in, Closes, AreOpen, with_opened, level_size, level_sizes};
+ghost use Rattle.tree_rewrite.specs.Shown.{AreShown, shown, AreListed, LeadOn};
 ghost use Rattle.tree_rewrite.specs.Pieces.{Stand, added, after, Adds};
 ghost use Rattle.tree_rewrite.specs.declared.fill.Level.{Level};
 
@@ -69,12 +69,10 @@ impl Overlay<'_> {
         node: &SyntaxNode,
         depth: usize,
     ) -> Result<Level, AllocError>
-        ensures new { (e : Element) (w : Way) → node.now ≡ (origin_at e w).origin
+        ensures new { (e : Element) (w : Way) → IsFrom node.now e w
             → IfOk result (λ l. IsNew e w l) }
-        ensures lists { (gs : List Given) (w : Way)
-            → HaveGiven self.now.jobs.now self.now.made.now numbers.now gs → length w ≡ depth
-            → IfOk result (λ l. AreLists self.now.jobs.now self.now.made.now
-            (lists_of l.lists.items) (target_of self.now.target) w gs) }
+        ensures lists { (gs : List Given) (w : Way) → AreShown self.now numbers.now gs
+            → length w ≡ depth → IfOk result (λ l. AreListed self.now l w gs) }
         ensures size { IfOk result (λ l. level_size l < 2 * size_of node.now) }
     {
         let count = node.cursor().green().children().len();
@@ -97,19 +95,15 @@ impl Overlay<'_> {
         pieces: &mut Vec<Piece>,
     ) -> Result<Option<Level>, AllocError>
         ensures opened { (e : Element) (ls : List Level)
-            → element_of element ≡ (origin_at e path.old).origin
-            → AreOpen e (way_above path.old) ls
+            → IsFrom (element_of element) e path.old → AreOpen e (way_above path.old) ls
             → IfOk result (λ o. AreOpen e path.new (with_opened o ls)) }
         ensures terms { (gs : List Given) (e : Element) (ls : List Level) (s t : Stand)
-            → HaveGiven self.now.jobs.now self.now.made.now numbers.now gs
-            → element_of element ≡ (origin_at e path.old).origin
-            → LeadTo self.now.jobs.now self.now.made.now (target_of self.now.target) e
-            (way_above path.old) ls
-            (added (standing (laid gs (target_of self.now.target)) e path.old
-            (term_of (element_of element))) (after pieces.old.items s)) t
-            → IfOk result (λ o. LeadTo self.now.jobs.now self.now.made.now
-            (target_of self.now.target) e path.new (with_opened o ls)
-            (after pieces.new.items s) t) }
+            → AreShown self.now numbers.now gs → IsFrom (element_of element) e path.old
+            → LeadOn self.now e (way_above path.old) ls
+            (added (standing (shown self.now gs) e path.old (term_of (element_of element)))
+            (after pieces.old.items s)) t
+            → IfOk result (λ o.
+            LeadOn self.now e path.new (with_opened o ls) (after pieces.new.items s) t) }
         ensures size { IfOk result (λ o. level_sizes (with_opened o [])
             < 2 * size_of (element_of element)) }
     {
@@ -151,20 +145,16 @@ impl Overlay<'_> {
     ) -> Result<Option<Level>, AllocError>
         requires { level.now.index < length level.now.lists.items }
         ensures opened { (e : Element) (ls : List Level)
-            → element_of child ≡ (origin_at e (level.now.index ∷ path.old)).origin
-            → AreOpen e path.old ls
-            → IfOk result (λ o. AreOpen e path.new (with_opened o ls)) }
+            → IsFrom (element_of child) e (level.now.index ∷ path.old)
+            → AreOpen e path.old ls → IfOk result (λ o. AreOpen e path.new (with_opened o ls)) }
         ensures terms { (gs : List Given) (e : Element) (ls : List Level) (s t : Stand)
-            → AreLists self.now.jobs.now self.now.made.now (lists_of level.now.lists.items)
-            (target_of self.now.target) path.old gs
-            → element_of child ≡ (origin_at e (level.now.index ∷ path.old)).origin
-            → LeadTo self.now.jobs.now self.now.made.now (target_of self.now.target) e
-            path.old ls
+            → AreListed self.now level.now path.old gs
+            → IsFrom (element_of child) e (level.now.index ∷ path.old)
+            → LeadOn self.now e path.old ls
             (added (child_in gs (target_of self.now.target) e path.old
             level.now.index (element_of child)) (after pieces.old.items s)) t
-            → IfOk result (λ o. LeadTo self.now.jobs.now self.now.made.now
-            (target_of self.now.target) e path.new (with_opened o ls)
-            (after pieces.new.items s) t) }
+            → IfOk result (λ o.
+            LeadOn self.now e path.new (with_opened o ls) (after pieces.new.items s) t) }
         ensures size { IfOk result (λ o. level_sizes (with_opened o [])
             < 2 * size_of (element_of child)) }
     {
@@ -187,9 +177,7 @@ impl Overlay<'_> {
         pieces: &mut Vec<Piece>,
     ) -> Result<(), AllocError>
         requires { level.now.index < length level.now.lists.items }
-        ensures terms { (gs : List Given)
-            → AreLists self.now.jobs.now self.now.made.now (lists_of level.now.lists.items)
-            (target_of self.now.target) path.old gs
+        ensures terms { (gs : List Given) → AreListed self.now level.now path.old gs
             → OnOk result (Closes pieces.old.items pieces.new.items
             (at_gap gs (target_of self.now.target) path.old level.now.index)) }
         ensures path { OnOk result
@@ -217,11 +205,10 @@ impl Overlay<'_> {
             → AreOpen e path.old (level ∷ reverse levels.old.items)
             → OnOk result (AreOpen e path.new (reverse levels.new.items)) }
         ensures terms { (e : Element) (s t : Stand)
-            → LeadTo self.now.jobs.now self.now.made.now (target_of self.now.target) e
-            path.old (level ∷ reverse levels.old.items)
+            → LeadOn self.now e path.old (level ∷ reverse levels.old.items)
             (after pieces.old.items s) t
-            → OnOk result (LeadTo self.now.jobs.now self.now.made.now (target_of self.now.target) e
-            path.new (reverse levels.new.items) (after pieces.new.items s) t) }
+            → OnOk result (LeadOn self.now e path.new (reverse levels.new.items)
+            (after pieces.new.items s) t) }
         ensures size { OnOk result (level_sizes (reverse levels.new.items)
             < level_sizes (level ∷ reverse levels.old.items)) }
     {
@@ -247,10 +234,9 @@ pub fn push_standing(
     element: SyntaxElement,
     pieces: &mut Vec<Piece>,
 ) -> Result<(), AllocError>
-    ensures { (gs : List Given)
-        → HaveGiven overlay.now.jobs.now overlay.now.made.now numbers.now gs → OnOk result
+    ensures { (gs : List Given) → AreShown overlay.now numbers.now gs → OnOk result
         (Adds pieces.old.items pieces.new.items
-        (reading_of (laid gs (target_of overlay.now.target)) (element_of element))) }
+        (reading_of (shown overlay.now gs) (element_of element))) }
 {
     let mut path = Path::new(overlay.alloc);
     let mut levels = Vec::new(overlay.alloc);

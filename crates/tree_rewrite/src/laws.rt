@@ -1,5 +1,5 @@
 //! Laws of the definitions. Each is the contract of a function with an empty body.
-ghost use Rattle.tree_rewrite.specs.Laws.{OrderExists, OrdersAgree, SwapsAgree, RootStays, RangesAgree};
+ghost use Rattle.tree_rewrite.specs.Laws.{OrderExists, OrdersAgree, ClimbsEnd, SwapsAgree, RootStays, RangesAgree};
 
 /// Changes that are applied one at a time, in any admitted order, lead to the tree with all of them
 /// applied atomically.
@@ -10,6 +10,12 @@ pub fn orders_agree()
 /// Changes that have a place each and do not collide have an admitted order.
 pub fn order_exists()
     ensures { OrderExists }
+{}
+
+/// By a mapping whose outputs are in trees of greater numbers, a climb from a replaced node to its
+/// payload ends within its bound: one step for each entry, and one more.
+pub fn climbs_end()
+    ensures { ClimbsEnd }
 {}
 
 /// Two adjacent changes that do not both insert into the same gap may be recorded in either order:

@@ -6,8 +6,9 @@ ghost use Rattle.std.specs.Global.{Vec};
 ghost use Rattle.syntax_tree.specs.Element.{Way};
 ghost use Rattle.tree_rewrite.specs.Rewrite.{Job, same_sheet, puts, terms_of};
 ghost use Rattle.tree_rewrite.specs.Recorded.{target_of};
-ghost use Rattle.tree_rewrite.specs.Fill.{Given, IsGiven, HaveGiven, HavePut};
-ghost use Rattle.tree_rewrite.specs.Below.{IsBeyond, LeavesChild, with_row, lists_of, AreLists, OnSheet};
+ghost use Rattle.tree_rewrite.specs.Fill.{Given, HavePut};
+ghost use Rattle.tree_rewrite.specs.Below.{IsBeyond, LeavesChild, with_row, lists_of};
+ghost use Rattle.tree_rewrite.specs.Shown.{IsShown, AreShown, AreSpread, AreAllOn};
 
 use crate::overlay::Overlay;
 use crate::sheet::job_of;
@@ -53,8 +54,8 @@ fn push_row(
 /// none.
 fn row_of(overlay: &Overlay<'_>, number: usize, depth: usize) -> Option<(usize, usize)>
     ensures { (g : Given) (w : Way) (i : ℕ)
-        → IsGiven overlay.now.jobs.now (slice_get overlay.now.made.now number) g
-        → length w ≡ depth → IsBeyond result i → LeavesChild g.0.change w i }
+        → IsShown overlay.now number g → length w ≡ depth → IsBeyond result i
+        → LeavesChild g.0.change w i }
 {
     let job = job_of(overlay, number)?;
     job.row_below(depth)
@@ -68,11 +69,9 @@ fn push_number(
     lists: &mut Vec<Vec<usize>>,
 ) -> Result<(), AllocError>
     ensures lists { (gs : List Given) (g : Given) (n : Option Way) (w : Way)
-        → IsGiven overlay.now.jobs.now (slice_get overlay.now.made.now number) g
-        → length w ≡ depth → AreLists overlay.now.jobs.now overlay.now.made.now
-        (lists_of lists.old.items) n w gs
-        → OnOk result (AreLists overlay.now.jobs.now overlay.now.made.now
-        (lists_of lists.new.items) n w (g ∷ gs)) }
+        → IsShown overlay.now number g → length w ≡ depth
+        → AreSpread overlay.now lists.old.items n w gs
+        → OnOk result (AreSpread overlay.now lists.new.items n w (g ∷ gs)) }
     ensures count { OnOk result (length lists.new.items ≡ length lists.old.items) }
 {
     match row_of(overlay, number, depth) {
@@ -91,9 +90,8 @@ pub fn lists_below(
 ) -> Result<Vec<Vec<usize>>, AllocError>
     ensures count { IfOk result (λ v. length v.items ≡ count) }
     ensures lists { (gs : List Given) (n : Option Way) (w : Way)
-        → HaveGiven overlay.now.jobs.now overlay.now.made.now numbers.now gs → length w ≡ depth
-        → IfOk result (λ v. AreLists overlay.now.jobs.now overlay.now.made.now
-        (lists_of v.items) n w gs) }
+        → AreShown overlay.now numbers.now gs → length w ≡ depth
+        → IfOk result (λ v. AreSpread overlay.now v.items n w gs) }
 {
     let mut lists = empty_lists(overlay.alloc, count)?;
     for number in numbers {
@@ -112,7 +110,7 @@ pub fn list_at(lists: &[Vec<usize>], index: usize) -> &[usize]
 
 /// Returns `true` if the executed change at index `number` applies to the target tree.
 fn is_on(overlay: &Overlay<'_>, number: usize) -> bool
-    ensures { (g : Given) → IsGiven overlay.now.jobs.now (slice_get overlay.now.made.now number) g
+    ensures { (g : Given) → IsShown overlay.now number g
         → result ≡ same_sheet g.0.sheet (target_of overlay.now.target) }
 {
     match job_of(overlay, number) {
@@ -125,12 +123,9 @@ fn is_on(overlay: &Overlay<'_>, number: usize) -> bool
 /// tree.
 fn push_on(overlay: &Overlay<'_>, number: usize, numbers: &mut Vec<usize>) -> Result<(), AllocError>
     ensures { (j : Job) (js : List Job)
-        → IsGiven overlay.now.jobs.now (slice_get overlay.now.made.now number)
-        (j, terms_of (puts js) j)
-        → OnSheet overlay.now.jobs.now overlay.now.made.now numbers.old.items
-        (target_of overlay.now.target) js
-        → OnOk result (OnSheet overlay.now.jobs.now overlay.now.made.now numbers.new.items
-        (target_of overlay.now.target) (j ∷ js)) }
+        → IsShown overlay.now number (j, terms_of (puts js) j)
+        → AreAllOn overlay.now numbers.old.items js
+        → OnOk result (AreAllOn overlay.now numbers.new.items (j ∷ js)) }
 {
     if is_on(overlay, number) {
         numbers.push(number)?;
@@ -140,9 +135,8 @@ fn push_on(overlay: &Overlay<'_>, number: usize, numbers: &mut Vec<usize>) -> Re
 
 /// Returns the indices of the executed changes that apply to the target tree.
 pub fn on_sheet(overlay: &Overlay<'_>) -> Result<Vec<usize>, AllocError>
-    ensures { (js : List Job) → HavePut overlay.now.jobs.now overlay.now.made.now js → IfOk result
-        (λ v. OnSheet overlay.now.jobs.now overlay.now.made.now v.items
-        (target_of overlay.now.target) js) }
+    ensures { (js : List Job) → HavePut overlay.now.jobs.now overlay.now.made.now js
+        → IfOk result (λ v. AreAllOn overlay.now v.items js) }
 {
     let mut numbers = Vec::new(overlay.alloc);
     for number in 0..overlay.made.len() {

@@ -8,7 +8,8 @@ ghost use Rattle.syntax_tree.specs.Element.{Way, same_way};
 ghost use Rattle.tree_rewrite.specs.Marked.{Marked, nothing, gap, slot};
 ghost use Rattle.tree_rewrite.specs.Rewrite.{Job, same_sheet, sets, first_way};
 ghost use Rattle.tree_rewrite.specs.Recorded.{target_of};
-ghost use Rattle.tree_rewrite.specs.Fill.{Given, laid, IsGiven, HaveGiven, touches, is_deep_on, AreAlong, IsBlankBelow, at_gap, at_slot};
+ghost use Rattle.tree_rewrite.specs.Fill.{Given, IsGiven, touches, is_deep_on, AreAlong, IsBlankBelow, at_gap, at_slot};
+ghost use Rattle.tree_rewrite.specs.Shown.{IsShown, AreShown, shown};
 ghost use Rattle.tree_rewrite.specs.Pieces.{Adds};
 
 use crate::job::Job;
@@ -19,8 +20,7 @@ use std::alloc::AllocError;
 
 /// Returns the planned change of the executed change at index `number`.
 pub(crate) fn job_of<'a>(overlay: &Overlay<'a>, number: usize) -> Option<&'a Job>
-    ensures { (g : Given) → IsGiven overlay.now.jobs.now (slice_get overlay.now.made.now number) g
-        → option_copied result ≡ Some g.0 }
+    ensures { (g : Given) → IsShown overlay.now number g → option_copied result ≡ Some g.0 }
 {
     let put = overlay.made.get(number)?;
     overlay.jobs.get(put.number)
@@ -29,7 +29,7 @@ pub(crate) fn job_of<'a>(overlay: &Overlay<'a>, number: usize) -> Option<&'a Job
 /// Returns `true` if the executed change at index `number` inserts into gap `index` of the node at
 /// `path` in the target tree.
 fn sets_gap(overlay: &Overlay<'_>, number: usize, path: &Path, index: usize) -> bool
-    ensures { (g : Given) → IsGiven overlay.now.jobs.now (slice_get overlay.now.made.now number) g
+    ensures { (g : Given) → IsShown overlay.now number g
         → result ≡ (same_sheet g.0.sheet (target_of overlay.now.target)
         && sets g.0.change (gap path.now index)) }
 {
@@ -42,7 +42,7 @@ fn sets_gap(overlay: &Overlay<'_>, number: usize, path: &Path, index: usize) -> 
 /// Returns `true` if the executed change at index `number` replaces the element at `path` in
 /// the target tree.
 fn sets_slot(overlay: &Overlay<'_>, number: usize, path: &Path) -> bool
-    ensures { (g : Given) → IsGiven overlay.now.jobs.now (slice_get overlay.now.made.now number) g
+    ensures { (g : Given) → IsShown overlay.now number g
         → result ≡ (same_sheet g.0.sheet (target_of overlay.now.target)
         && sets g.0.change (slot path.now)) }
 {
@@ -55,7 +55,7 @@ fn sets_slot(overlay: &Overlay<'_>, number: usize, path: &Path) -> bool
 /// Returns `true` if `path` leads to the first element that the executed change at index `number`
 /// replaces; for an insertion, if `path` leads to the root.
 fn begins_at(overlay: &Overlay<'_>, number: usize, path: &Path) -> bool
-    ensures { (g : Given) → IsGiven overlay.now.jobs.now (slice_get overlay.now.made.now number) g
+    ensures { (g : Given) → IsShown overlay.now number g
         → result ≡ same_way (first_way g.0.change) path.now }
 {
     match job_of(overlay, number) {
@@ -73,8 +73,7 @@ pub fn push_gap(
     index: usize,
     pieces: &mut Vec<Piece>,
 ) -> Result<(), AllocError>
-    ensures { (gs : List Given)
-        → HaveGiven overlay.now.jobs.now overlay.now.made.now numbers.now gs → OnOk result
+    ensures { (gs : List Given) → AreShown overlay.now numbers.now gs → OnOk result
         (Adds pieces.old.items pieces.new.items
         (at_gap gs (target_of overlay.now.target) path.now index)) }
 {
@@ -129,11 +128,9 @@ pub fn push_slot(
     path: &Path,
     pieces: &mut Vec<Piece>,
 ) -> Result<bool, AllocError>
-    ensures replaced { (gs : List Given)
-        → HaveGiven overlay.now.jobs.now overlay.now.made.now numbers.now gs → IfOk result
-        (λ b. b ≡ is_some (laid gs (target_of overlay.now.target) (slot path.now))) }
-    ensures added { (gs : List Given)
-        → HaveGiven overlay.now.jobs.now overlay.now.made.now numbers.now gs → OnOk result
+    ensures replaced { (gs : List Given) → AreShown overlay.now numbers.now gs
+        → IfOk result (λ b. b ≡ is_some (shown overlay.now gs (slot path.now))) }
+    ensures added { (gs : List Given) → AreShown overlay.now numbers.now gs → OnOk result
         (Adds pieces.old.items pieces.new.items
         (at_slot gs (target_of overlay.now.target) path.now)) }
 {
@@ -156,7 +153,7 @@ pub fn push_slot(
 /// Returns `true` if the executed change at index `number` affects, in the target tree,
 /// children of an element at depth `depth`, or elements below these.
 fn is_deep(overlay: &Overlay<'_>, number: usize, depth: usize) -> bool
-    ensures { (g : Given) → IsGiven overlay.now.jobs.now (slice_get overlay.now.made.now number) g
+    ensures { (g : Given) → IsShown overlay.now number g
         → result ≡ is_deep_on (target_of overlay.now.target) depth g }
 {
     match job_of(overlay, number) {
@@ -171,10 +168,10 @@ fn is_deep(overlay: &Overlay<'_>, number: usize, depth: usize) -> bool
 /// `false`, the elements below are unchanged.
 pub fn is_touched(overlay: &Overlay<'_>, numbers: &[usize], depth: usize) -> bool
     ensures touched { (gs : List Given) (w : Way)
-        → HaveGiven overlay.now.jobs.now overlay.now.made.now numbers.now gs → length w ≡ depth
-        → AreAlong w gs → result ≡ list_any (touches (target_of overlay.now.target) w) gs }
+        → AreShown overlay.now numbers.now gs → length w ≡ depth → AreAlong w gs
+        → result ≡ list_any (touches (target_of overlay.now.target) w) gs }
     ensures blank { (gs : List Given) (w : Way)
-        → HaveGiven overlay.now.jobs.now overlay.now.made.now numbers.now gs → length w ≡ depth
+        → AreShown overlay.now numbers.now gs → length w ≡ depth
         → OnFalse result (IsBlankBelow gs (target_of overlay.now.target) w) }
 {
     let mut rest = numbers;

@@ -29,10 +29,10 @@ returns-clause-growing c =
     let start : r.start ≡ length (texts_of (take i (terms_over a ds))) =
     c.node_record-record.ensures.start ∙ ap (λ (xs : List Entry). length (texts_of (take i (terms_over a xs)))) d in
     let count : r.count ≡ length ds - i = omega (arith, c.node_record-record.ensures.count, ap length d) in
-    let q = many_closed (string_bytes a.text) rs es ds i c.args.kind c.len-number.result r (growing_parts a ds c.requires.growing) (IsUtf8-string_bytes a.text)
+    let q = many_closed (string_bytes a.text) rs es ds a.used i c.args.kind c.len-number.result r (growing_parts a ds c.requires.growing) (IsUtf8-string_bytes a.text)
     c.requires.within c.requires.fits number (start_items a ds i r.start start) c.node_record-record.ensures.end c.node_record-record.ensures.first count in
-    let b : Arena = record { text = a.text; entries = c.extend_from_slice.new.self; records = c.push.new.self } in
-    (grew b c.push-2.new.self.items _ _ _ _ _ refl g e f q).growing
+    let b : Arena = record { text = a.text; entries = c.extend_from_slice.new.self; records = c.push.new.self; used = a.used } in
+    (grew b c.push-2.new.self.items _ _ _ _ _ _ refl g e f refl q).growing
 
 pub returns-clause-ok : goal.returns-clause-ok
 returns-clause-ok c =
@@ -54,7 +54,7 @@ returns-clause-ok c =
     let start : r.start ≡ length (texts_of (take i (terms_over a ds))) =
     c.node_record-record.ensures.start ∙ ap (λ (xs : List Entry). length (texts_of (take i (terms_over a xs)))) d in
     let count : r.count ≡ length ds - i = omega (arith, c.node_record-record.ensures.count, ap length d) in
-    let q = many_closed (string_bytes a.text) rs es ds i c.args.kind c.len-number.result r (growing_parts a ds c.requires.growing) (IsUtf8-string_bytes a.text)
+    let q = many_closed (string_bytes a.text) rs es ds a.used i c.args.kind c.len-number.result r (growing_parts a ds c.requires.growing) (IsUtf8-string_bytes a.text)
     c.requires.within c.requires.fits number (start_items a ds i r.start start) c.node_record-record.ensures.end c.node_record-record.ensures.first count in
-    let b : Arena = record { text = a.text; entries = c.extend_from_slice.new.self; records = c.push.new.self } in
-    (grew b c.push-2.new.self.items _ _ _ _ _ refl g e f q).terms
+    let b : Arena = record { text = a.text; entries = c.extend_from_slice.new.self; records = c.push.new.self; used = a.used } in
+    (grew b c.push-2.new.self.items _ _ _ _ _ _ refl g e f refl q).terms

@@ -14,15 +14,15 @@ returns-clause-growing c =
     let rs = a.records.items in
     let es = a.entries.items in
     let ds = c.args.done.now.items in
-    let r : Record = record { start = 0; len = length t; first = length es; count = length ds } in
+    let r : Record = record { start = 0; len = a.used; first = length es; count = length ds } in
     let x = Many c.args.kind (length rs) in
     let e : c.push.new.self.items ≡ (es ++ ds) ++ x ∷ [] = search rules in
     let g : c.push-2.new.self.items ≡ rs ++ r ∷ [] = search rules in
     let f : c.push-3.new.self.items ≡ x ∷ [] = search rules in
     let room : length es + length ds + 1 < 2 ^ 32 = grind arith in
-    let q = root_closed t rs es ds c.args.kind (length rs) r (growing_parts a ds c.requires.growing) (IsUtf8-string_bytes a.text) room refl refl refl refl refl in
-    let b : Arena = record { text = a.text; entries = c.push.new.self; records = c.push-2.new.self } in
-    (root_of b c.push-3.new.self.items _ _ _ _ _ refl g e f q).grew.growing
+    let q = root_closed t rs es ds a.used c.args.kind (length rs) r (growing_parts a ds c.requires.growing) (IsUtf8-string_bytes a.text) room refl refl refl refl refl in
+    let b : Arena = record { text = a.text; entries = c.push.new.self; records = c.push-2.new.self; used = a.used } in
+    (root_of b c.push-3.new.self.items _ _ _ _ _ _ refl g e f refl q).grew.growing
 
 pub returns-clause-ok : goal.returns-clause-ok
 returns-clause-ok c =
@@ -31,15 +31,15 @@ returns-clause-ok c =
     let rs = a.records.items in
     let es = a.entries.items in
     let ds = c.args.done.now.items in
-    let r : Record = record { start = 0; len = length t; first = length es; count = length ds } in
+    let r : Record = record { start = 0; len = a.used; first = length es; count = length ds } in
     let x = Many c.args.kind (length rs) in
     let e : c.push.new.self.items ≡ (es ++ ds) ++ x ∷ [] = search rules in
     let g : c.push-2.new.self.items ≡ rs ++ r ∷ [] = search rules in
     let f : c.push-3.new.self.items ≡ x ∷ [] = search rules in
     let room : length es + length ds + 1 < 2 ^ 32 = grind arith in
-    let q = root_closed t rs es ds c.args.kind (length rs) r (growing_parts a ds c.requires.growing) (IsUtf8-string_bytes a.text) room refl refl refl refl refl in
-    let b : Arena = record { text = a.text; entries = c.push.new.self; records = c.push-2.new.self } in
-    (root_of b c.push-3.new.self.items _ _ _ _ _ refl g e f q).grew.terms
+    let q = root_closed t rs es ds a.used c.args.kind (length rs) r (growing_parts a ds c.requires.growing) (IsUtf8-string_bytes a.text) room refl refl refl refl refl in
+    let b : Arena = record { text = a.text; entries = c.push.new.self; records = c.push-2.new.self; used = a.used } in
+    (root_of b c.push-3.new.self.items _ _ _ _ _ _ refl g e f refl q).grew.terms
 
 pub returns-clause-last : goal.returns-clause-last
 returns-clause-last c =
@@ -48,12 +48,12 @@ returns-clause-last c =
     let rs = a.records.items in
     let es = a.entries.items in
     let ds = c.args.done.now.items in
-    let r : Record = record { start = 0; len = length t; first = length es; count = length ds } in
+    let r : Record = record { start = 0; len = a.used; first = length es; count = length ds } in
     let x = Many c.args.kind (length rs) in
     let e : c.push.new.self.items ≡ (es ++ ds) ++ x ∷ [] = search rules in
     let g : c.push-2.new.self.items ≡ rs ++ r ∷ [] = search rules in
     let f : c.push-3.new.self.items ≡ x ∷ [] = search rules in
     let room : length es + length ds + 1 < 2 ^ 32 = grind arith in
-    let q = root_closed t rs es ds c.args.kind (length rs) r (growing_parts a ds c.requires.growing) (IsUtf8-string_bytes a.text) room refl refl refl refl refl in
-    let b : Arena = record { text = a.text; entries = c.push.new.self; records = c.push-2.new.self } in
-    (root_of b c.push-3.new.self.items _ _ _ _ _ refl g e f q).last
+    let q = root_closed t rs es ds a.used c.args.kind (length rs) r (growing_parts a ds c.requires.growing) (IsUtf8-string_bytes a.text) room refl refl refl refl refl in
+    let b : Arena = record { text = a.text; entries = c.push.new.self; records = c.push-2.new.self; used = a.used } in
+    (root_of b c.push-3.new.self.items _ _ _ _ _ _ refl g e f refl q).last

@@ -20,9 +20,9 @@ returns-clause-growing c =
     let e : c.push.new.self.items ≡ es ++ x ∷ [] = c.in_ok-push.ensures.items in
     let n : c.len-number.result ≡ length es = grind arith in
     let w : length es + 1 < 2 ^ 32 = omega (arith, n, c.if-number-ge-MOST.false) in
-    let q = root_pushed t rs es ds at x (growing_parts a ds c.requires.growing) c.requires.within (get_or_default ds at (Short 0 0 0) x c.requires.within) w in
-    let b : Arena = record { text = a.text; entries = c.push.new.self; records = a.records } in
-    (grew b ds _ _ _ _ _ refl refl e refl q.grew).growing
+    let q = root_pushed t rs es ds a.used at x (growing_parts a ds c.requires.growing) c.requires.within (get_or_default ds at (Short 0 0 0) x c.requires.within) w in
+    let b : Arena = record { text = a.text; entries = c.push.new.self; records = a.records; used = a.used } in
+    (grew b ds _ _ _ _ _ _ refl refl e refl refl q.grew).growing
 
 pub returns-clause-terms : goal.returns-clause-terms
 returns-clause-terms c =
@@ -36,9 +36,9 @@ returns-clause-terms c =
     let e : c.push.new.self.items ≡ es ++ x ∷ [] = c.in_ok-push.ensures.items in
     let n : c.len-number.result ≡ length es = grind arith in
     let w : length es + 1 < 2 ^ 32 = omega (arith, n, c.if-number-ge-MOST.false) in
-    let q = root_pushed t rs es ds at x (growing_parts a ds c.requires.growing) c.requires.within (get_or_default ds at (Short 0 0 0) x c.requires.within) w in
-    let b : Arena = record { text = a.text; entries = c.push.new.self; records = a.records } in
-    (grew b ds _ _ _ _ _ refl refl e refl q.grew).terms
+    let q = root_pushed t rs es ds a.used at x (growing_parts a ds c.requires.growing) c.requires.within (get_or_default ds at (Short 0 0 0) x c.requires.within) w in
+    let b : Arena = record { text = a.text; entries = c.push.new.self; records = a.records; used = a.used } in
+    (grew b ds _ _ _ _ _ _ refl refl e refl refl q.grew).terms
 
 pub returns-clause-root : goal.returns-clause-root
 returns-clause-root c =
@@ -52,6 +52,6 @@ returns-clause-root c =
     let e : c.push.new.self.items ≡ es ++ x ∷ [] = c.in_ok-push.ensures.items in
     let n : c.len-number.result ≡ length es = grind arith in
     let w : length es + 1 < 2 ^ 32 = omega (arith, n, c.if-number-ge-MOST.false) in
-    let q = root_pushed t rs es ds at x (growing_parts a ds c.requires.growing) c.requires.within (get_or_default ds at (Short 0 0 0) x c.requires.within) w in
+    let q = root_pushed t rs es ds a.used at x (growing_parts a ds c.requires.growing) c.requires.within (get_or_default ds at (Short 0 0 0) x c.requires.within) w in
     ap (λ (xs : List Entry). slice_get (terms_at (all_items t rs xs)) c.len-number.result) e
     ∙ ap (λ (i : ℕ). slice_get (terms_at (all_items t rs (es ++ x ∷ []))) i) n ∙ q.root

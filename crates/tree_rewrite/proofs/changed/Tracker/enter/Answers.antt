@@ -5,8 +5,5 @@ pub returns-clause-around : goal.returns-clause-around
 returns-clause-around c = (
   record { is_node = c.args.is_node; start = c.args.self.now.offset; told = c.args.self.now.told; before = c.replace-before.result },
   c.in_ok-push.ensures.items,
-  refl,
-  refl,
-  refl,
-  ap (λ v. v.items) c.replace-before.ensures.value,
+  (refl, refl, refl, ap (λ v. v.items) c.replace-before.ensures.value),
 )

@@ -1,12 +1,8 @@
 //! Calls succeed while allocations succeed: trees are built, read, and refused where they are not
 //! complete.
-use crate::builder::GreenNodeBuilder;
-use crate::error::GreenError;
-use crate::node::GreenNode;
-use crate::syntax_kind::SyntaxKind;
-use crate::text_size::TextSize;
-use crate::token::GreenToken;
-use crate::utility_types::NodeOrToken;
+use rowan_green::{
+    GreenError, GreenNode, GreenNodeBuilder, GreenToken, NodeOrToken, SyntaxKind, TextSize,
+};
 use std::alloc::Global;
 use std::test::Fail;
 
