@@ -4,6 +4,7 @@ mod above;
 mod copy;
 mod doing;
 mod handles;
+mod indents;
 mod levels;
 mod merge;
 mod refused_memory;

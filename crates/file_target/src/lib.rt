@@ -16,5 +16,3 @@ pub use memory::Memory;
 pub use target::{Contents, Target};
 pub use version::Version;
 
-#[cfg(test)]
-mod tests;

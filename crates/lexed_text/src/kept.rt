@@ -1,15 +1,16 @@
-//! What an edit kept and what it lexed.
+//! Token counts of an edit: kept and lexed.
 
-/// The counts of an edit: together the tokens of the new text.
+/// The token counts of an edit. They sum to the number of tokens of the new text.
 #[derive(Clone, Copy, Debug, PartialEq, Eq)]
 pub struct Kept {
-    /// The first tokens that were kept: those that end at least two characters before the edit.
+    /// The number of tokens kept at the front: those that end at least two characters before the
+    /// edit.
     pub front: usize,
 
-    /// The tokens that were lexed after them.
+    /// The number of tokens lexed after the front.
     pub lexed: usize,
 
-    /// The last tokens that were kept: those from the first boundary on that both texts have after
-    /// the edit.
+    /// The number of tokens kept at the back: those after the first boundary, not before the end of
+    /// the edit, that both texts have.
     pub back: usize,
 }

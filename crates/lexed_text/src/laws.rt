@@ -1,23 +1,23 @@
-//! Laws of the counts, each the contract of a function that makes no call.
+//! Laws of the token counts, each the contract of a function that makes no call.
 
 ghost use Rattle.lexed_text.specs.Laws.{FrontStays, BackStays, CountsSum, CountsAreOne};
 
-/// The front tokens are the new text's first ones.
+/// States that the front tokens are the first tokens of the new text.
 pub fn front_stays()
     ensures { FrontStays }
 {}
 
-/// The back tokens are the new text's last ones.
+/// States that the back tokens are the last tokens of the new text.
 pub fn back_stays()
     ensures { BackStays }
 {}
 
-/// The counts sum to the tokens of the new text.
+/// States that the counts sum to the number of tokens of the new text.
 pub fn counts_sum()
     ensures { CountsSum }
 {}
 
-/// No edit has other counts.
+/// States that the counts of an edit are unique.
 pub fn counts_are_one()
     ensures { CountsAreOne }
 {}

@@ -1,4 +1,4 @@
-//! A text and its tokens, over edits.
+//! A text and its tokens, lexed incrementally over edits.
 
 ghost use Rattle.std.specs.Prelude.{◌≡◌, ◌↔◌, IsTrue, chars, length, IfOk, OnOk, OnErr};
 ghost use Rattle.rustc_lexer.specs.Tokens.{token_list};
@@ -13,8 +13,8 @@ use std::alloc::{AllocError, Global};
 use std::marker::Model;
 use std::ops::Range;
 
-/// A text that keeps its tokens over edits. Contracts see it as the bytes of the text; its tokens
-/// are always those of the text.
+/// A text that keeps its tokens over edits. Its tokens are always those of the text. Model: the
+/// bytes of the text.
 #[derive(Drop)]
 pub struct LexedText {
     alloc: Global,
@@ -50,7 +50,11 @@ fn lexed(alloc: Global, text: &str) -> Result<Vec<Token>, AllocError>
 }
 
 impl LexedText {
-    /// Copies `text` and lexes it. Fails only when out of memory.
+    /// Creates a lexed copy of `text`.
+    ///
+    /// # Errors
+    ///
+    /// [`AllocError`] if an allocation fails.
     pub fn new(alloc: Global, text: &str) -> Result<LexedText, AllocError>
         ensures { IfOk result (λ lexed. lexed ≡ text.now) }
     {
@@ -80,7 +84,8 @@ impl LexedText {
     }
 
     /// Returns `true` if a text of `new_len` bytes can replace the byte range `range`: the range is
-    /// in order, within the text, and cuts no character, and the new length fits a `usize`.
+    /// in order, within the text and on character boundaries, and the length of the edited text
+    /// fits a `usize`.
     pub fn can_edit(&self, range: Range<usize>, new_len: usize) -> bool
         ensures { IsTrue result ↔ CanEdit self.now range.start range.end new_len }
     {
@@ -95,10 +100,12 @@ impl LexedText {
         new_len <= usize::MAX - kept
     }
 
-    /// Replaces the byte range `range` with `replacement` and lexes what has to be lexed again;
-    /// returns how many tokens were kept and lexed.
+    /// Replaces the byte range `range` with `replacement` and lexes the affected tokens again.
+    /// Returns the numbers of kept and of lexed tokens.
     ///
-    /// Fails only when out of memory. On error, the text and its tokens are unchanged.
+    /// # Errors
+    ///
+    /// [`AllocError`] if an allocation fails. On error, `self` is unchanged.
     pub fn edit(&mut self, range: Range<usize>, replacement: &str) -> Result<Kept, AllocError>
         requires { CanEdit self.old range.start range.end (length replacement.now) }
         ensures text { OnOk result
@@ -139,7 +146,11 @@ impl LexedText {
         }
     }
 
-    /// Returns an equal text. Fails only when out of memory.
+    /// Returns an equal lexed text, copied to memory of `alloc`.
+    ///
+    /// # Errors
+    ///
+    /// [`AllocError`] if an allocation fails.
     pub fn try_clone(&self, alloc: Global) -> Result<LexedText, AllocError>
         ensures { IfOk result (λ copy. copy ≡ self.now) }
     {

@@ -1,4 +1,4 @@
-//! Which tokens stay, and the lexing of the others.
+//! Incremental lexing: finds the tokens to keep and lexes the others.
 
 ghost use Rattle.std.specs.Prelude.{◌≡◌, ◌+◌, ◌<◌, ◌≤◌, ◌^◌, [], chars, take, length, IfOk, MatchOption, OnErr};
 ghost use Rattle.rustc_lexer.specs.Tokens.{token_list};
@@ -11,13 +11,13 @@ use crate::runs::{Run, first_past, last_within, renew_runs, room_for};
 use rustc_lexer::{Cursor, Token};
 use std::alloc::{AllocError, Global};
 
-/// A boundary of a list of tokens.
+/// A token boundary.
 #[derive(Clone, Copy)]
 pub(crate) struct Place {
-    /// The tokens before it.
+    /// The number of tokens before it.
     pub(crate) count: usize,
 
-    /// Bytes: those before it, or those after it.
+    /// The number of bytes before it, or after it, as the function says.
     pub(crate) bytes: usize,
 }
 
@@ -32,7 +32,7 @@ fn without_last(text: &str) -> Option<&str>
     }
 }
 
-/// Returns the bytes of `text` without its last two characters, or `None` if it has fewer.
+/// Returns the length of `text` without its last two characters, in bytes; `None` if it has fewer.
 fn without_two(text: &str) -> Option<usize>
     ensures { MatchOption result (length (chars text.now) < 2) (LacksTwo text.now) }
 {
@@ -70,7 +70,8 @@ fn ends_within(runs: &[Run], tokens: &[Token], limit: usize) -> Place
     end
 }
 
-/// Returns the front of an edit that follows the text `before`, with the bytes before its end.
+/// Returns the end of the front of an edit that follows the text `before`: the last boundary at
+/// least two characters before the edit, with the bytes before it.
 pub(crate) fn find_front(runs: &[Run], tokens: &[Token], before: &str) -> Place
     requires { RunsFrom 0 0 runs.now tokens.now }
     ensures { FrontFound tokens.now (chars before.now) result.count result.bytes }
@@ -96,7 +97,7 @@ fn pass(tokens: &[Token], from: Place, most: usize) -> Place
     at
 }
 
-/// Tokens of a new text, up to where it meets the old one.
+/// The tokens of a new text up to the boundary at which it meets the old one.
 #[derive(Drop)]
 struct Lexing {
     tokens: Vec<Token>,
@@ -146,11 +147,13 @@ fn lex(
     })
 }
 
-/// Lexes `text`, the new text after the front, up to where it meets the old tokens, and replaces
-/// the old tokens before that. `front.bytes` and `most` count the old text's bytes after the front
-/// and after the edit.
+/// Lexes `text`, the new text after the front, up to the boundary at which it meets the old tokens,
+/// and replaces the old tokens before that boundary. `front.bytes` and `most` are the numbers of
+/// bytes of the old text after the front and after the edit.
 ///
-/// Fails only when out of memory. On error, `tokens` and `runs` are unchanged.
+/// # Errors
+///
+/// [`AllocError`] if an allocation fails. On error, `tokens` and `runs` are unchanged.
 pub(crate) fn renew(
     alloc: Global,
     tokens: &mut Vec<Token>,

@@ -5,7 +5,7 @@ ghost use Rattle.std.specs.List.{remove_range, splice};
 
 use std::alloc::AllocError;
 
-/// Removes the items from `start` to `end`.
+/// Removes the items from `start` up to `end`.
 fn remove<T: Copy>(items: &mut Vec<T>, start: usize, end: usize)
     requires in_order { start ≤ end }
     requires within { end ≤ length items.old.items }
@@ -16,12 +16,12 @@ fn remove<T: Copy>(items: &mut Vec<T>, start: usize, end: usize)
     items.truncate(left);
 }
 
-/// Replaces the items from `start` to `end` by `new`. It allocates only if more items come than go,
-/// and there is no room for them.
+/// Replaces the items from `start` up to `end` with `new`. Allocates only if the vector grows past
+/// its capacity.
 ///
 /// # Errors
 ///
-/// `AllocError` if an allocation fails. On error, `items` is unchanged.
+/// [`AllocError`] if an allocation fails. On error, `items` is unchanged.
 pub(crate) fn replace<T: Copy>(
     items: &mut Vec<T>,
     start: usize,

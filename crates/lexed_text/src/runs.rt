@@ -1,4 +1,4 @@
-//! Runs of tokens, by which a place is found among many tokens.
+//! Runs of tokens, an index for finding a token boundary by its offset.
 
 ghost use Rattle.std.specs.Prelude.{◌≡◌, ℕ, ◌+◌, ◌<◌, ◌≤◌, ◌^◌, [], take, drop, length, IfOk};
 ghost use Rattle.std.specs.List.{sum_by};
@@ -9,26 +9,27 @@ use crate::replace::replace;
 use rustc_lexer::Token;
 use std::alloc::{AllocError, Global};
 
-/// The tokens of a run; a run that is left over has up to twice as many.
+/// The number of tokens of a run; the last run of [`cut_runs`] has any number below twice as
+/// many.
 const RUN_TOKENS: usize = 1024;
 
-/// Some tokens in a row.
+/// A run of consecutive tokens.
 #[derive(Clone, Copy)]
 pub(crate) struct Run {
-    /// How many they are.
+    /// The number of tokens.
     pub(crate) tokens: usize,
 
-    /// Their bytes.
+    /// The number of bytes of the tokens.
     pub(crate) bytes: usize,
 }
 
 /// A boundary between runs.
 #[derive(Clone, Copy)]
 pub(crate) struct RunPlace {
-    /// The runs before it.
+    /// The number of runs before it.
     pub(crate) run: usize,
 
-    /// The tokens before it.
+    /// The number of tokens before it.
     pub(crate) count: usize,
 }
 
@@ -76,8 +77,12 @@ fn bytes_of(tokens: &[Token]) -> usize
     tokens.iter().map(|token| token.len).sum()
 }
 
-/// Reserves room, in `runs` and in the list that it returns, for the runs of `lexed` tokens and of
-/// the tokens around them.
+/// Reserves capacity for the runs of `lexed` tokens and of the tokens around them, in `runs` and in
+/// the empty vector that it returns.
+///
+/// # Errors
+///
+/// [`AllocError`] if an allocation fails. The items of `runs` are unchanged in any case.
 pub(crate) fn room_for(
     alloc: Global,
     runs: &mut Vec<Run>,
@@ -93,7 +98,11 @@ pub(crate) fn room_for(
     Ok(room)
 }
 
-/// Returns the runs of the tokens from `from` up to `to`, in the empty list `room`.
+/// Returns the runs of the tokens from `from` up to `to`, in the empty vector `room`.
+///
+/// # Errors
+///
+/// [`AllocError`] if an allocation fails.
 pub(crate) fn cut_runs(
     room: Vec<Run>,
     tokens: &[Token],
@@ -123,9 +132,9 @@ pub(crate) fn cut_runs(
     Ok(runs)
 }
 
-/// Replaces the runs from `first` to `next` with new runs of the tokens from `first` up to `to`. If
-/// `room_for` reserved no room for them and an allocation fails, drops the runs from `first` on:
-/// tokens without a run are searched one by one.
+/// Replaces the runs from `first` up to `next` with new runs of the tokens from `first` up to `to`.
+/// If an allocation fails, drops the runs from `first` on: tokens without a run are searched one
+/// by one. No allocation is needed if [`room_for`] reserved the capacity.
 pub(crate) fn renew_runs(
     room: Vec<Run>,
     runs: &mut Vec<Run>,

@@ -12,5 +12,3 @@ pub use encoding::Encoding;
 pub use line_col::LineCol;
 pub use line_index::LineIndex;
 
-#[cfg(test)]
-mod tests;

@@ -8,5 +8,3 @@ mod reader;
 
 pub use reader::{LineRead, LineReader};
 
-#[cfg(test)]
-mod tests;

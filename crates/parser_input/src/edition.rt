@@ -10,12 +10,12 @@ pub enum Edition {
     Edition2018,
     Edition2021,
     Edition2024,
-    /// The edition to come.
+    /// The next edition.
     EditionNext,
 }
 
 impl Edition {
-    /// Returns the edition with this name: a year, or `next`.
+    /// Returns the edition with this name: a year, or `next`; `None` if there is none.
     pub fn from_name(name: &str) -> Option<Edition>
         ensures { result ≡ edition_named name.now }
     {
@@ -29,7 +29,7 @@ impl Edition {
         }
     }
 
-    /// Whether this is the edition `first` or a later one.
+    /// Returns `true` if this is the edition `first` or a later one.
     pub(crate) fn is_from(self, first: Edition) -> bool
         ensures { result ≡ is_from first self }
     {

@@ -1,4 +1,4 @@
-//! What is wrong with a text, leaf by leaf.
+//! The lexing errors of a text.
 
 ghost use Rattle.std.specs.Prelude.{◌≡◌, ◌<◌, ◌+◌, [], ◌∷◌, MatchOption, length};
 ghost use Rattle.parser_input.specs.Faults.{faults_from};
@@ -8,7 +8,7 @@ use crate::lexed_str::StoredLeaf;
 use crate::message::Message;
 use std::marker::Model;
 
-// The next leaf that something is wrong with, from a number on.
+// Returns the index and the error of the first leaf with an error, from index `start` on.
 fn next_fault(leaves: &[StoredLeaf], start: usize) -> Option<(usize, Message)>
     ensures { MatchOption result (faults_from start leaves.now ≡ []) (λ f. (f.0 < length leaves.now)
         × (faults_from start leaves.now ≡ (f.0, wording f.1) ∷ faults_from (f.0 + 1) leaves.now)) }
@@ -21,8 +21,8 @@ fn next_fault(leaves: &[StoredLeaf], start: usize) -> Option<(usize, Message)>
     None
 }
 
-/// The leaves that something is wrong with: their numbers, and what it is. A contract sees the list
-/// of those that are left.
+/// An iterator over the lexing errors of a text, in source order: the index of a leaf and its error
+/// message. Model: the remaining items.
 #[derive(Drop)]
 pub struct Errors<'a> {
     leaves: &'a [StoredLeaf],

@@ -25,16 +25,16 @@ ghost use Rattle.parser_input.specs.Escapes.{
 
 use rustc_lexer::Cursor;
 
-/// What may stand in a kind of literal.
+/// The characters and escapes that a kind of literal allows.
 #[derive(Clone, Copy)]
 pub(crate) struct Rules {
-    /// A `\` before a line feed.
+    /// `true` if a `\` before a line feed is allowed.
     pub(crate) line_feed: bool,
-    /// `\u{..}`.
+    /// `true` if Unicode escapes `\u{..}` are allowed.
     pub(crate) unicode: bool,
-    /// `\x` with more than 7F.
+    /// `true` if `\x` escapes above 7F are allowed.
     pub(crate) wide_hex: bool,
-    /// The character NUL, also by an escape.
+    /// `true` if the character NUL is allowed, also as an escape.
     pub(crate) nul: bool,
 }
 
@@ -45,28 +45,29 @@ impl Rules {
         self.nul || value != 0
     }
 
-    // What `\x` may stand for.
+    // Returns `true` if `\x` may have this value.
     fn fits_byte(self, value: u32) -> bool
         ensures { result ≡ fits_byte self value }
     {
         (self.wide_hex || value <= 127) && self.allows(value)
     }
 
-    // What `\u` may stand for.
+    // Returns `true` if `\u` may have this value.
     fn fits_unicode(self, value: u32) -> bool
         ensures { result ≡ fits_unicode self value }
     {
         is_scalar(value) && self.allows(value)
     }
 
-    // `u{`, where it may stand.
+    // Returns `true` if the two characters after a `\` are `u{` and Unicode escapes are allowed.
     fn opens_unicode(self, first: char, second: char) -> bool
         ensures { result ≡ opens_unicode self first second }
     {
         self.unicode && first == 'u' && second == '{'
     }
 
-    // `n r t \ ' "` or `0`, after a `\`.
+    // Returns `true` if a `\` and `c` are an allowed escape: `c` is one of `n r t \ ' "`; `0` if
+    // NUL is allowed; a line feed if it is allowed.
     #[tactic(auto, unfolding(crate::specs::Escapes::is_simple))]
     fn is_simple(self, c: char) -> bool
         ensures { result ≡ is_simple self c }
@@ -82,7 +83,7 @@ impl Rules {
     }
 }
 
-// Whether a character is a hexadecimal digit.
+// Returns `true` if the character is a hexadecimal digit.
 #[tactic(auto, unfolding(rustc_lexer::specs::Characters::is_hex_digit, rustc_lexer::specs::Characters::is_digit))]
 fn is_hex_digit(c: char) -> bool
     ensures { result ≡ is_hex_digit c }
@@ -97,7 +98,7 @@ fn is_hex_or_underscore(c: char) -> bool
     is_hex_digit(c) || c == '_'
 }
 
-// What a hexadecimal digit stands for.
+// Returns the value of a hexadecimal digit.
 #[tactic(auto, unfolding(crate::specs::Escapes::hex_digit))]
 fn hex_digit(c: char) -> u32
     requires { is_hex_digit c ≡ true }
@@ -113,7 +114,7 @@ fn hex_digit(c: char) -> u32
     }
 }
 
-// A character that an escape may stand for.
+// Returns `true` if `n` is a Unicode scalar value.
 #[tactic(auto, unfolding(crate::specs::Escapes::is_scalar))]
 fn is_scalar(n: u32) -> bool
     ensures { result ≡ is_scalar n }
@@ -121,7 +122,7 @@ fn is_scalar(n: u32) -> bool
     n <= 0xD7FF || (0xE000 <= n && n <= 0x10FFFF)
 }
 
-// Two hexadecimal digits, after `\x`.
+// Returns `true` if two characters after `\x` are hexadecimal digits with an allowed value.
 fn is_byte(rules: Rules, first: char, second: char) -> bool
     ensures { result ≡ is_byte rules first second }
 {
@@ -135,7 +136,7 @@ fn is_byte(rules: Rules, first: char, second: char) -> bool
 }
 
 // Skips hexadecimal digits and `_`, and returns the value of the digits; `None` if there are more
-// than six.
+// than six digits.
 fn eat_digits(rest: &mut Cursor) -> Option<u32>
     ensures { MatchOption result (6 < length (digits_of rest.old)) (λ value.
         (length (digits_of rest.old) ≤ 6) × (value ≡ hex_value 0 (digits_of rest.old)) ×
@@ -221,7 +222,7 @@ fn eat_unit(rules: Rules, rest: &mut Cursor) -> bool
     rules.allows(first as u32)
 }
 
-/// Whether each `\` begins an escape, and no NUL stands where none may.
+/// Returns `true` if the text consists of allowed characters and escapes only.
 pub(crate) fn is_sound(rules: Rules, mut rest: Cursor) -> bool
     ensures { result ≡ is_sound rules 0 rest.entry }
 {
@@ -233,7 +234,7 @@ pub(crate) fn is_sound(rules: Rules, mut rest: Cursor) -> bool
     true
 }
 
-/// Whether a text is one character or one escape.
+/// Returns `true` if the text is one allowed character or one escape.
 pub(crate) fn is_one(rules: Rules, mut text: Cursor) -> bool
     ensures { result ≡ is_one rules text.entry }
 {

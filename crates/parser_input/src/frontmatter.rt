@@ -1,4 +1,4 @@
-//! The first lines of a file: a shebang, and a frontmatter between two lines of dashes.
+//! The preface of a file: a shebang, and a frontmatter between two lines of dashes.
 
 ghost use Rattle.std.specs.Prelude.{◌≡◌, ◌+◌, ◌≤◌, ◌<◌, ◌^◌, ℕ, true, IfSome, Ok, chars, drop, length, option_map};
 ghost use Rattle.rustc_lexer.specs.Characters.{size, is_whitespace};
@@ -26,7 +26,7 @@ use rustc_lexer::{Cursor, is_horizontal_whitespace, strip_shebang};
 use std::marker::Model;
 use std::ops::Range;
 
-/// Returns `true` if the character is whitespace of Rust: U+0009 to U+000D, space, U+0085, U+200E,
+/// Returns `true` if the character is Rust whitespace: U+0009 to U+000D, space, U+0085, U+200E,
 /// U+200F, U+2028, U+2029.
 pub fn is_rust_whitespace(c: char) -> bool
     ensures { result ≡ is_whitespace c }
@@ -34,10 +34,10 @@ pub fn is_rust_whitespace(c: char) -> bool
     rustc_lexer::is_whitespace(c)
 }
 
-// A frontmatter opens with as many dashes or more.
+// The minimum number of dashes that open a frontmatter.
 const FEWEST_DASHES: usize = 3;
 
-/// A piece of a text, and its range in the text, in bytes.
+/// A piece of a text, with its range in the text, in bytes.
 #[derive(Drop)]
 struct Piece<'s> {
     start: usize,
@@ -57,7 +57,7 @@ impl<'s> Model for Piece<'s> {
 }
 
 impl<'s> Piece<'s> {
-    // Returns a piece that begins at offset `start`.
+    // Creates a piece that starts at the offset `start`, in bytes.
     fn new(start: usize, text: &'s str) -> Piece<'s>
         requires { start + length text.now < 2 ^ 64 }
         ensures { result ≡ record { start = start; text = chars text.now } }
@@ -103,7 +103,7 @@ impl<'s> Piece<'s> {
     }
 }
 
-// Returns the position after the shebang, or the start of the text.
+// Returns the position after the shebang; the start of the text if there is none.
 fn after_shebang<'s>(text: &Cursor<'s>) -> Cursor<'s>
     ensures rest { result ≡ after_shebang text.now }
     ensures inside { size result ≤ size text.now }
@@ -174,7 +174,8 @@ fn is_fence(rest: &Cursor, count: usize) -> bool
     line.as_str().chars().all(|c| is_horizontal_whitespace(c))
 }
 
-// Returns the position of the first line with `count` dashes, and after them only tabs and spaces.
+// Returns the position of the first line with `count` dashes, and after them only tabs and spaces;
+// `None` if there is none.
 fn closing_line<'s>(mut rest: Cursor<'s>, count: usize) -> Option<Cursor<'s>>
     ensures line { result ≡ closing_line count true rest.entry }
     ensures after { IfSome result (λ line. (n : ℕ) × (line ≡ drop n rest.entry)) }
@@ -188,11 +189,11 @@ fn closing_line<'s>(mut rest: Cursor<'s>, count: usize) -> Option<Cursor<'s>>
     None
 }
 
-/// The first lines of a text, told apart from what the grammar reads.
+/// A text split into its shebang, its frontmatter and its content, which the grammar reads.
 ///
-/// A shebang is a first line that begins with `#!`, unless that begins an attribute. After it a
-/// line that begins with three dashes or more opens a frontmatter, and a line of as many dashes
-/// closes it.
+/// A shebang is a first line that starts with `#!`, unless it starts an inner attribute. After the
+/// shebang, a line that starts with three or more dashes opens a frontmatter, and a line with the
+/// same number of dashes closes it.
 #[derive(Drop)]
 pub struct ScriptSource<'s> {
     shebang: Option<Piece<'s>>,
@@ -211,7 +212,7 @@ impl<'s> Model for ScriptSource<'s> {
     ghost view = { λ s. record { shebang = s.shebang; opening = s.opening; info = s.info; frontmatter = s.frontmatter; closing = s.closing; content = s.content } };
 }
 
-// The span of a piece that may be missing.
+// Returns the span of an optional piece, in bytes.
 fn span_of(piece: &Option<Piece>) -> Option<Range<usize>>
     ensures { option_map range_of result ≡ option_map span_of piece.now }
 {
@@ -221,7 +222,7 @@ fn span_of(piece: &Option<Piece>) -> Option<Range<usize>>
     }
 }
 
-// The text of a piece that may be missing.
+// Returns the text of an optional piece.
 fn text_of<'s>(piece: &Option<Piece<'s>>) -> Option<&'s str>
     ensures { option_map chars_of result ≡ option_map text_of piece.now }
 {
@@ -232,7 +233,7 @@ fn text_of<'s>(piece: &Option<Piece<'s>>) -> Option<&'s str>
 }
 
 impl<'s> ScriptSource<'s> {
-    // A text without frontmatter.
+    // Creates the source of a text without a frontmatter.
     fn bare(text: &Cursor<'s>) -> ScriptSource<'s>
         ensures { result ≡ bare text.now }
     {
@@ -246,7 +247,8 @@ impl<'s> ScriptSource<'s> {
         }
     }
 
-    // A text with a frontmatter between the lines that start at these places.
+    // Creates the source of a text with a frontmatter between the lines that start at `opening` and
+    // at `closing`.
     fn fenced(text: &Cursor<'s>, opening: &Cursor<'s>, closing: &Cursor<'s>) -> ScriptSource<'s>
         requires inside { size opening.now ≤ size text.now }
         requires order { (n : ℕ) × (closing.now ≡ drop n (after_line opening.now)) }
@@ -270,12 +272,12 @@ impl<'s> ScriptSource<'s> {
         }
     }
 
-    /// Parses the shebang and the frontmatter of a text. The opening line is the first one after
-    /// the shebang that is not blank.
+    /// Parses the shebang and the frontmatter of a text. The opening line is the first line after
+    /// the shebang that is not blank; there is no frontmatter if it does not start with a dash.
     ///
     /// # Errors
     ///
-    /// - [`FrontmatterError::TooFewDashes`] if the opening line begins with one or two dashes.
+    /// - [`FrontmatterError::TooFewDashes`] if the opening line starts with one or two dashes.
     /// - [`FrontmatterError::Unclosed`] if no later line closes the frontmatter.
     pub fn parse(raw: &'s str) -> Result<ScriptSource<'s>, FrontmatterError>
         ensures { result ≡ source (chars raw.now) }
@@ -299,21 +301,21 @@ impl<'s> ScriptSource<'s> {
         }
     }
 
-    /// The shebang, without the end of its line.
+    /// Returns the shebang without the end of its line; `None` if there is none.
     pub fn shebang(&self) -> Option<&'s str>
         ensures { option_map chars_of result ≡ option_map text_of self.now.shebang }
     {
         text_of(&self.shebang)
     }
 
-    /// Returns the range of the shebang, in bytes.
+    /// Returns the range of the shebang, in bytes; `None` if there is none.
     pub fn shebang_span(&self) -> Option<Range<usize>>
         ensures { option_map range_of result ≡ option_map span_of self.now.shebang }
     {
         span_of(&self.shebang)
     }
 
-    /// Returns the range of the opening dashes, in bytes.
+    /// Returns the range of the opening dashes, in bytes; `None` if there is no frontmatter.
     pub fn open_span(&self) -> Option<Range<usize>>
         ensures { option_map range_of result ≡ option_map span_of self.now.opening }
     {
@@ -321,42 +323,45 @@ impl<'s> ScriptSource<'s> {
     }
 
     /// Returns the info string: the rest of the line after the opening dashes, without whitespace
-    /// at its ends; `None` if that is empty.
+    /// at its ends; `None` if it is empty or there is no frontmatter.
     pub fn info(&self) -> Option<&'s str>
         ensures { option_map chars_of result ≡ option_map text_of self.now.info }
     {
         text_of(&self.info)
     }
 
-    /// Returns the range of the info string, in bytes.
+    /// Returns the range of the info string, in bytes; `None` if there is none.
     pub fn info_span(&self) -> Option<Range<usize>>
         ensures { option_map range_of result ≡ option_map span_of self.now.info }
     {
         span_of(&self.info)
     }
 
-    /// Returns the lines between the opening and the closing dashes, with their line ends.
+    /// Returns the lines between the opening and the closing line, with their line ends; `None` if
+    /// there is no frontmatter.
     pub fn frontmatter(&self) -> Option<&'s str>
         ensures { option_map chars_of result ≡ option_map text_of self.now.frontmatter }
     {
         text_of(&self.frontmatter)
     }
 
-    /// Returns the range of these lines, in bytes.
+    /// Returns the range of the lines between the opening and the closing line, in bytes; `None` if
+    /// there is no frontmatter.
     pub fn frontmatter_span(&self) -> Option<Range<usize>>
         ensures { option_map range_of result ≡ option_map span_of self.now.frontmatter }
     {
         span_of(&self.frontmatter)
     }
 
-    /// Returns the range of the closing dashes, in bytes.
+    /// Returns the range of the closing dashes, in bytes; `None` if there is no frontmatter.
     pub fn close_span(&self) -> Option<Range<usize>>
         ensures { option_map range_of result ≡ option_map span_of self.now.closing }
     {
         span_of(&self.closing)
     }
 
-    /// Returns the text for the parser: all after the frontmatter, or after the shebang.
+    /// Returns the content: the text after the frontmatter; without one, the text after the
+    /// shebang.
     pub fn content(&self) -> &'s str
         ensures { chars result.now ≡ self.now.content.text }
     {
@@ -371,7 +376,7 @@ impl<'s> ScriptSource<'s> {
         self.content.span()
     }
 
-    // Where the frontmatter ends, if there is one.
+    // Returns the offset of the end of the frontmatter, in bytes; `None` if there is none.
     pub(crate) fn frontmatter_end(&self) -> Option<usize>
         ensures { result ≡ frontmatter_end (Ok self.now) }
     {

@@ -8,9 +8,9 @@ use std::ops::Range;
 /// The error type of `ScriptSource::parse`, with the range of the opening line's dashes, in bytes.
 #[derive(Clone, Copy, Debug, PartialEq, Eq)]
 pub enum FrontmatterError {
-    /// The line begins with one or two dashes: a frontmatter asks for three or more.
+    /// The opening line starts with one or two dashes: a frontmatter needs three or more.
     TooFewDashes { start: usize, end: usize },
-    /// No later line has as many dashes and nothing else but tabs and spaces.
+    /// No later line has the same number of dashes and, after them, only tabs and spaces.
     Unclosed { start: usize, end: usize },
 }
 

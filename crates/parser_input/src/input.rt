@@ -1,4 +1,4 @@
-//! What the parser sees of a text: its tokens without their texts.
+//! The input of the parser: the tokens of a text without their texts.
 
 ghost use Rattle.std.specs.Prelude.{◌≡◌, ◌≢◌, ◌<◌, ◌≤◌, [], ◌∷◌, ◌++◌, List, length, drop, is_ok, IfOk};
 ghost use Rattle.parser_input.specs.Input.{Token};
@@ -10,21 +10,22 @@ use crate::syntax_kind::SyntaxKind;
 use std::alloc::{AllocError, Global};
 use std::marker::Model;
 
-/// A token of the input, in four bytes.
+/// A token of the input; four bytes.
 #[derive(Clone, Copy)]
 struct InputToken {
     kind: SyntaxKind,
-    /// The kind that the word of an identifier has as a contextual keyword, or `IDENT`. `EOF` at
-    /// any other token.
+    /// The kind of an identifier as a contextual keyword, or `IDENT`; `PIPE_GT` for the `|` of the
+    /// operator `|>`; `EOF` for any other token.
     contextual_kind: SyntaxKind,
     /// `true` if no trivia is between the token and the next one; for a float, `true` if its text
     /// does not end in a dot.
     joint: bool,
-    /// `true` if the token is read by the grammar of the whole language.
+    /// `true` if the grammar of the whole language reads the token.
     whole: bool,
 }
 
-/// The tokens that the parser sees. It knows no texts: only kinds, and which tokens touch.
+/// The input of the parser: the kinds of the tokens and their joint bits, without texts. Model: the
+/// tokens.
 #[derive(Drop)]
 pub struct Input {
     tokens: Vec<InputToken>,
@@ -84,7 +85,11 @@ impl Eq for Input {
 }
 
 impl Input {
-    /// An input without tokens. The capacity is only a hint of how many tokens are to come.
+    /// Creates an empty input. `capacity` is a hint: the expected number of tokens.
+    ///
+    /// # Errors
+    ///
+    /// [`AllocError`] if an allocation fails.
     pub fn with_capacity(alloc: Global, capacity: usize) -> Result<Input, AllocError>
         ensures { IfOk result (λ input. input ≡ []) }
     {
@@ -92,7 +97,11 @@ impl Input {
         Ok(Input { tokens })
     }
 
-    /// Adds a token with all that is known of it.
+    /// Appends a token with these properties.
+    ///
+    /// # Errors
+    ///
+    /// [`AllocError`] if an allocation fails. On error, `self` is unchanged.
     pub(crate) fn push_token(
         &mut self,
         kind: SyntaxKind,
@@ -114,7 +123,11 @@ impl Input {
         Ok(())
     }
 
-    /// Adds a token that is no identifier. It does not touch the next one.
+    /// Appends a token that is not an identifier. It is not joint.
+    ///
+    /// # Errors
+    ///
+    /// [`AllocError`] if an allocation fails. On error, `self` is unchanged.
     pub fn push(&mut self, kind: SyntaxKind) -> Result<(), AllocError>
         requires { raw_of kind ≢ kinds.EOF }
         ensures { self.new ≡ tokens_with (is_ok result) self.old (plain (raw_of kind)) }
@@ -122,8 +135,11 @@ impl Input {
         self.push_token(kind, SyntaxKind::EOF, false, false)
     }
 
-    /// Adds an identifier, with the kind that its word has as a contextual keyword. It does not
-    /// touch the next token.
+    /// Appends an identifier with its kind as a contextual keyword, or `IDENT`. It is not joint.
+    ///
+    /// # Errors
+    ///
+    /// [`AllocError`] if an allocation fails. On error, `self` is unchanged.
     pub fn push_ident(&mut self, contextual_kind: SyntaxKind) -> Result<(), AllocError>
         ensures { self.new ≡ tokens_with (is_ok result) self.old
             (identifier (raw_of contextual_kind)) }
@@ -132,13 +148,18 @@ impl Input {
     }
 
     /// Appends a `|` that is the first token of the operator `|>`. It is not joint.
+    ///
+    /// # Errors
+    ///
+    /// [`AllocError`] if an allocation fails. On error, `self` is unchanged.
     pub fn push_pipe(&mut self) -> Result<(), AllocError>
         ensures { self.new ≡ tokens_with (is_ok result) self.old pipe }
     {
         self.push_token(SyntaxKind::PIPE, SyntaxKind::PIPE_GT, false, false)
     }
 
-    /// Says that the token that was added last touches the next one. There must be one.
+    /// Sets the joint bit of the last token: the next token directly follows it. The input must not
+    /// be empty.
     pub fn was_joint(&mut self)
         requires { 0 < length self.old }
         ensures { (front : List Token) (last : Token) → self.old ≡ front ++ last ∷ [] → self.new
@@ -148,14 +169,14 @@ impl Input {
         self.tokens[last].joint = true;
     }
 
-    /// The number of tokens.
+    /// Returns the number of tokens.
     pub fn len(&self) -> usize
         ensures { result ≡ length self.now }
     {
         self.tokens().len()
     }
 
-    /// The kind of a token; `EOF` past the end, and there alone.
+    /// Returns the kind of the token `n`; `EOF` past the end, and only there.
     pub fn kind(&self, n: usize) -> SyntaxKind
         ensures kind { raw_of result ≡ (token_at self.now n).kind }
         ensures token { n < length self.now → raw_of result ≢ kinds.EOF }
@@ -163,31 +184,33 @@ impl Input {
         self.tokens().kind(n)
     }
 
-    /// The kind that the word of an identifier has as a contextual keyword, or `IDENT`; `EOF` at
-    /// any other token and past the end.
+    /// Returns the contextual kind of the token `n`: for an identifier, its kind as a contextual
+    /// keyword, or `IDENT`; for the `|` of the operator `|>`, `PIPE_GT`. `EOF` for any other token
+    /// and past the end.
     pub fn contextual_kind(&self, n: usize) -> SyntaxKind
         ensures { raw_of result ≡ (token_at self.now n).contextual }
     {
         self.tokens().contextual_kind(n)
     }
 
-    /// Returns `true` if the token is joint: the next token directly follows it, so that both may
-    /// be one operator. A float is joint if its text does not end in a dot. Returns `false` past
-    /// the end.
+    /// Returns `true` if the token `n` is joint: the next token directly follows it, so that both
+    /// may be one operator. A float is joint if its text does not end in a dot. Returns `false`
+    /// past the end.
     pub fn is_joint(&self, n: usize) -> bool
         ensures { result ≡ (token_at self.now n).joint }
     {
         self.tokens().is_joint(n)
     }
 
-    /// Returns `true` if a token is read by the grammar of the whole language; `false` past the end.
+    /// Returns `true` if the grammar of the whole language reads the token `n`; `false` past the
+    /// end.
     pub fn is_whole(&self, n: usize) -> bool
         ensures { result ≡ (token_at self.now n).whole }
     {
         self.tokens().is_whole(n)
     }
 
-    /// Returns the tokens, none of which is taken yet.
+    /// Returns all tokens, as the remaining tokens.
     pub fn tokens(&self) -> InputTokens<'_>
         ensures { result ≡ self.now }
     {
@@ -197,7 +220,7 @@ impl Input {
     }
 }
 
-/// The tokens of an input that are not taken yet.
+/// The remaining tokens of an input. Model: the tokens.
 pub struct InputTokens<'a> {
     tokens: &'a [InputToken],
 }
@@ -225,7 +248,7 @@ impl<'a> Model for InputTokens<'a> {
 }
 
 impl InputTokens<'_> {
-    /// Returns the number of tokens.
+    /// Returns the number of remaining tokens.
     pub fn len(&self) -> usize
         ensures { result ≡ length self.now }
     {
@@ -254,7 +277,8 @@ impl InputTokens<'_> {
         }
     }
 
-    /// Returns `true` if the token `n` tokens ahead is joint, as [`Input::is_joint`] does.
+    /// Returns `true` if the token `n` tokens ahead is joint, as [`Input::is_joint`] does; `false`
+    /// past the end.
     pub fn is_joint(&self, n: usize) -> bool
         ensures { result ≡ (token_at self.now n).joint }
     {
@@ -264,7 +288,8 @@ impl InputTokens<'_> {
         }
     }
 
-    /// Returns `true` if the token `n` tokens ahead is read by the grammar of the whole language.
+    /// Returns `true` if the grammar of the whole language reads the token `n` tokens ahead;
+    /// `false` past the end.
     pub fn is_whole(&self, n: usize) -> bool
         ensures { result ≡ (token_at self.now n).whole }
     {
@@ -274,7 +299,7 @@ impl InputTokens<'_> {
         }
     }
 
-    /// Takes the next `n` tokens.
+    /// Consumes the next `n` tokens.
     pub fn take(&mut self, n: usize)
         requires { n ≤ length self.old }
         ensures { self.new ≡ drop n self.old }

@@ -1,4 +1,4 @@
-//! The kinds of words: keywords and contextual keywords, by their texts.
+//! Keywords and contextual keywords, by their texts.
 
 ghost use Rattle.std.specs.Option.{option_copied, option_map};
 ghost use Rattle.std.specs.Prelude.{◌≡◌, IfSome, IsTrue, chars, slice_get, slice_index};
@@ -29,7 +29,7 @@ impl Word {
     }
 }
 
-/// The kind of a text as a keyword of the edition, if it is one.
+/// Returns the kind of `text` as a keyword of the edition; `None` if it is not one.
 pub fn keyword(edition: Edition, text: &str) -> Option<SyntaxKind>
     ensures kind { option_map raw_of result ≡ keyword_kind edition text.now }
     ensures keyword { IfSome result (λ kind. IsTrue (is_keyword edition (raw_of kind))) }
@@ -42,7 +42,8 @@ pub fn keyword(edition: Edition, text: &str) -> Option<SyntaxKind>
     }
 }
 
-/// The kind of a word: that of `_`, of a keyword of the edition, or else of a name.
+/// Returns the kind of a word: `UNDERSCORE` for `_`, the kind of a keyword of the edition, or
+/// `IDENT`.
 pub fn word_kind(edition: Edition, text: &str) -> SyntaxKind
     ensures { raw_of result ≡ word_kind edition (chars text.now) }
 {
@@ -55,7 +56,7 @@ pub fn word_kind(edition: Edition, text: &str) -> SyntaxKind
     }
 }
 
-/// The kind of a text as a contextual keyword of the edition, if it is one.
+/// Returns the kind of `text` as a contextual keyword of the edition; `None` if it is not one.
 pub fn contextual_keyword(edition: Edition, text: &str) -> Option<SyntaxKind>
     ensures kind { option_map raw_of result ≡ contextual_kind edition text.now }
     ensures keyword { IfSome result (λ kind. IsTrue (is_keyword edition (raw_of kind))) }
@@ -68,7 +69,8 @@ pub fn contextual_keyword(edition: Edition, text: &str) -> Option<SyntaxKind>
     }
 }
 
-/// The word that is spelled so: the only one that its first, middle and last byte allow.
+/// Returns the word with this text, if any: it compares the only word that has the slot of the
+/// text's first, middle and last byte.
 fn word_spelled(text: &str) -> Option<&'static Word>
     ensures { option_map row_of (option_copied result) ≡ word_of text.now }
 {
@@ -84,7 +86,7 @@ fn word_spelled(text: &str) -> Option<&'static Word>
     if word.text == text { Some(word) } else { None }
 }
 
-/// The only word whose text can have this slot.
+/// Returns the only word whose text can have this slot.
 fn word_in(slot: u8) -> &'static Word
     ensures { slice_get words (slice_index PLACES slot) ≡ Some (row_of result.now) }
 {

@@ -1,4 +1,4 @@
-//! What a token is to the parser: its kind, and what is wrong with it.
+//! Conversion of lexer tokens: the syntax kind and the error of each token.
 
 ghost use Rattle.std.specs.Prelude.{◌≡◌, chars};
 ghost use Rattle.parser_input.specs.Kind.{raw_of};
@@ -12,7 +12,7 @@ use crate::message::Message;
 use crate::syntax_kind::SyntaxKind;
 use rustc_lexer::{LiteralKind, TokenKind};
 
-// The kind of a literal; raw strings are strings.
+// Returns the syntax kind of a literal; a raw string has the kind of a string.
 #[tactic(auto, unfolding(crate::specs::Leaf::literal_kind))]
 fn literal_kind(kind: LiteralKind) -> SyntaxKind
     ensures { raw_of result ≡ literal_kind kind }
@@ -31,7 +31,7 @@ fn literal_kind(kind: LiteralKind) -> SyntaxKind
     }
 }
 
-/// The kind of a token of this text.
+/// Returns the syntax kind of a token with the text `text`.
 #[tactic(auto, unfolding(crate::specs::Leaf::kind_of))]
 pub(crate) fn kind_of(edition: Edition, kind: TokenKind, text: &str) -> SyntaxKind
     ensures { raw_of result ≡ kind_of edition kind (chars text.now) }
@@ -80,7 +80,7 @@ pub(crate) fn kind_of(edition: Edition, kind: TokenKind, text: &str) -> SyntaxKi
     }
 }
 
-/// What is wrong with a token of this text, if anything is.
+/// Returns the error of a token with the text `text`, if any.
 #[tactic(auto, unfolding(crate::specs::Messages::message_of))]
 pub(crate) fn message_of(edition: Edition, kind: TokenKind, text: &str) -> Option<Message>
     ensures { result ≡ message_of edition kind (chars text.now) }

@@ -27,17 +27,17 @@ use std::alloc::{AllocError, Global};
 use std::marker::Model;
 use std::ops::Range;
 
-/// A leaf as it is kept: it starts where the one before it ends.
+/// A stored leaf. It starts at the end of the previous leaf.
 #[derive(Clone, Copy)]
 pub(crate) struct StoredLeaf {
     kind: SyntaxKind,
     pub(crate) message: Option<Message>,
-    /// Where it ends, in bytes.
+    /// The offset of its end, in bytes.
     end: usize,
 }
 
-// Returns `true` if the token is a guarded prefix that is split: before 2024, its first `#` is a
-// token by itself.
+// Returns `true` if the token is a guarded prefix that is split: before edition 2024, its first `#`
+// is a leaf by itself.
 #[tactic(auto, unfolding(crate::specs::Lexed::is_split))]
 fn is_split(edition: Edition, kind: TokenKind) -> bool
     ensures { result ≡ is_split edition kind }
@@ -48,7 +48,7 @@ fn is_split(edition: Edition, kind: TokenKind) -> bool
     }
 }
 
-// What is wrong with a leaf, in words.
+// Returns the text of an optional error message.
 fn words(message: Option<Message>) -> Option<&'static str>
     ensures { option_map bytes_of result ≡ option_map wording message }
 {
@@ -58,7 +58,7 @@ fn words(message: Option<Message>) -> Option<&'static str>
     }
 }
 
-// The leaf that a text begins with, by its length.
+// The leaf at the front of a text, with its length in bytes.
 #[derive(Drop)]
 struct NextLeaf {
     kind: SyntaxKind,
@@ -66,7 +66,7 @@ struct NextLeaf {
     len: usize,
 }
 
-// The leaf of the token that a text begins with, where the token is one leaf.
+// Returns the leaf of `token`, the first token of `rest`, which is not split.
 fn leaf_of(edition: Edition, token: Token, rest: &str) -> NextLeaf
     requires token { token ≡ lexer.token (lexer.first_lexeme (chars rest.now)) }
     requires whole { is_split edition token.kind ≡ false }
@@ -99,7 +99,7 @@ fn next_leaf(edition: Edition, rest: &str) -> NextLeaf
     leaf_of(edition, token, rest)
 }
 
-// Adds the leaves of a text from a place on.
+// Appends the leaves of `text` from the offset `start` on.
 fn push_content(
     edition: Edition,
     text: &str,
@@ -123,7 +123,7 @@ fn push_content(
     Ok(())
 }
 
-// Adds the leaves of a text from a place on, whose tokens are known.
+// Appends the leaves of `text` from the offset `start` on, whose tokens are `tokens`.
 fn push_tokens(
     edition: Edition,
     text: &str,
@@ -150,7 +150,7 @@ fn push_tokens(
     Ok(())
 }
 
-// Where the frontmatter of a text ends, if it has one.
+// Returns the offset of the end of the frontmatter, in bytes; `None` if `text` has no valid one.
 fn frontmatter_end(text: &str) -> Option<usize>
     ensures { result ≡ frontmatter_end (source (chars text.now)) }
 {
@@ -160,7 +160,7 @@ fn frontmatter_end(text: &str) -> Option<usize>
     }
 }
 
-// Adds the shebang of a text, if it has one. Gives the place after it.
+// Appends the shebang of `text`, if any. Returns the offset of its end, in bytes.
 fn push_shebang(text: &str, leaves: &mut Vec<StoredLeaf>) -> Result<usize, AllocError>
     requires { leaves.old.items ≡ [] }
     ensures { IfOk result (λ place. Begun text.now place leaves.new.items) }
@@ -179,7 +179,8 @@ fn push_shebang(text: &str, leaves: &mut Vec<StoredLeaf>) -> Result<usize, Alloc
     }
 }
 
-// Adds the frontmatter of a text, if it has one, after the shebang. Gives the place of the content.
+// Appends the frontmatter of `text`, if any; the shebang before it ends at offset `start`. Returns
+// the offset of the content, in bytes.
 fn push_frontmatter(
     text: &str,
     start: usize,
@@ -202,7 +203,7 @@ fn push_frontmatter(
     }
 }
 
-// Whether there is a leaf at a place, and it is one that the parser sees.
+// Returns `true` if there is a leaf at index `i` and it is not trivia.
 fn is_solid(leaves: &[StoredLeaf], i: usize) -> bool
     ensures { (text : List ℕ) (place : ℕ) → result
         ≡ touches (leaves_of (seen_from text place (drop i leaves.now))) }
@@ -213,7 +214,7 @@ fn is_solid(leaves: &[StoredLeaf], i: usize) -> bool
     }
 }
 
-// Whether there is a leaf at a place, and it is a `>`.
+// Returns `true` if there is a leaf at index `i` and it is a `>`.
 fn is_angle(leaves: &[StoredLeaf], i: usize) -> bool
     ensures { (text : List ℕ) (place : ℕ) → result
         ≡ is_before_angle (leaves_of (seen_from text place (drop i leaves.now))) }
@@ -224,7 +225,8 @@ fn is_angle(leaves: &[StoredLeaf], i: usize) -> bool
     }
 }
 
-// Returns the input tokens of stored leaves; all are read by the grammar that `whole` says.
+// Returns the input tokens of the leaves, without trivia. If `whole`, the grammar of the whole
+// language reads them.
 fn tokens(
     alloc: Global,
     whole: bool,
@@ -255,8 +257,8 @@ fn tokens(
     Ok(tokens)
 }
 
-/// A text with its leaves: the shebang, the frontmatter, and then each token, with what is wrong
-/// with it.
+/// A text with its leaves: the shebang, the frontmatter, and then each token, with its error, if
+/// any.
 #[derive(Drop)]
 pub struct LexedStr<'a> {
     edition: Edition,
@@ -282,7 +284,11 @@ impl<'a> Model for LexedStr<'a> {
 }
 
 impl<'a> LexedStr<'a> {
-    /// Reads a text: tells its first lines apart, and cuts the rest into tokens.
+    /// Creates the leaves of `text`: parses its shebang and frontmatter, and lexes the content.
+    ///
+    /// # Errors
+    ///
+    /// [`AllocError`] if an allocation fails.
     pub fn new(alloc: Global, edition: Edition, text: &'a str) -> Result<LexedStr<'a>, AllocError>
         ensures { IfOk result (λ whole. whole ≡ whole_of edition (chars text.now)) }
     {
@@ -297,8 +303,13 @@ impl<'a> LexedStr<'a> {
         })
     }
 
-    /// Reads a text like [`LexedStr::new`], where the tokens of what is left after its first lines
-    /// are known. Before 2024 none of them may be a guarded prefix, which is no token there.
+    /// Creates the leaves of `text`, as [`LexedStr::new`] does, from the tokens of its content: the
+    /// text after the shebang and the frontmatter. Before edition 2024, none of the tokens may be a
+    /// guarded prefix, which is not one leaf there.
+    ///
+    /// # Errors
+    ///
+    /// [`AllocError`] if an allocation fails.
     pub fn from_tokens(
         alloc: Global,
         edition: Edition,
@@ -320,8 +331,8 @@ impl<'a> LexedStr<'a> {
         })
     }
 
-    /// The kind of a text that is one token, with what is wrong with it. `None` where it is not one
-    /// token, or is cut into several leaves. No preface is read: a shebang is no token.
+    /// Returns the kind and the error, if any, of a text that is one token. Returns `None` if it is
+    /// empty, or has several tokens or leaves. A shebang or a frontmatter is not parsed.
     pub fn single_token(edition: Edition, text: &str) -> Option<(SyntaxKind, Option<&'static str>)>
         ensures { option_map read result
             ≡ option_map kind_and_message (single edition (chars text.now)) }
@@ -336,28 +347,28 @@ impl<'a> LexedStr<'a> {
         Some((next.kind, words(next.message)))
     }
 
-    /// The text.
+    /// Returns the text.
     pub fn as_str(&self) -> &'a str
         ensures { chars result.now ≡ self.now.text }
     {
         self.text
     }
 
-    /// The number of leaves.
+    /// Returns the number of leaves.
     pub fn len(&self) -> usize
         ensures { result ≡ length self.now.leaves }
     {
         self.leaves.len()
     }
 
-    /// Whether there is none, as in an empty text.
+    /// Returns `true` if there is no leaf, as in an empty text.
     pub fn is_empty(&self) -> bool
         ensures { result ≡ (length self.now.leaves == 0) }
     {
         self.leaves.is_empty()
     }
 
-    /// The kind of a leaf.
+    /// Returns the kind of the leaf `i`.
     pub fn kind(&self, i: usize) -> SyntaxKind
         requires { i < length self.now.leaves }
         ensures { raw_of result ≡ (leaf_at self.now.leaves i).leaf.kind }
@@ -365,7 +376,7 @@ impl<'a> LexedStr<'a> {
         self.leaves[i].kind
     }
 
-    /// What is wrong with a leaf, if anything is.
+    /// Returns the error of the leaf `i`, if any.
     pub fn error(&self, i: usize) -> Option<&'static str>
         requires { i < length self.now.leaves }
         ensures { option_map bytes_of result
@@ -374,14 +385,15 @@ impl<'a> LexedStr<'a> {
         words(self.leaves[i].message)
     }
 
-    /// The numbers of the leaves that something is wrong with, in order, and what it is.
+    /// Returns the errors of the leaves, in source order, each with the index of its leaf.
     pub fn errors(&self) -> Errors<'_>
         ensures { result ≡ faults 0 (map (λ l. l.message) self.now.leaves) }
     {
         Errors::of(&self.leaves)
     }
 
-    /// Where a leaf starts, in bytes; for the number of leaves, where the text ends.
+    /// Returns the offset of the start of the leaf `i`, in bytes; the length of the text if `i` is
+    /// the number of leaves.
     pub fn text_start(&self, i: usize) -> usize
         requires { i ≤ length self.now.leaves }
         ensures { result ≡ offset self.now.leaves i }
@@ -392,7 +404,7 @@ impl<'a> LexedStr<'a> {
         self.leaves[i - 1].end
     }
 
-    /// How many bytes a leaf has.
+    /// Returns the length of the leaf `i`, in bytes.
     pub fn text_len(&self, i: usize) -> usize
         requires { i < length self.now.leaves }
         ensures { result ≡ size (leaf_at self.now.leaves i).leaf.text }
@@ -401,7 +413,7 @@ impl<'a> LexedStr<'a> {
         range.end - range.start
     }
 
-    /// Returns the range of a leaf, in bytes.
+    /// Returns the range of the leaf `i`, in bytes.
     pub fn text_range(&self, i: usize) -> Range<usize>
         requires { i < length self.now.leaves }
         ensures start { result.start ≡ offset self.now.leaves i }
@@ -411,7 +423,7 @@ impl<'a> LexedStr<'a> {
         self.text_start(i)..self.leaves[i].end
     }
 
-    /// The text of a leaf.
+    /// Returns the text of the leaf `i`.
     pub fn text(&self, i: usize) -> &'a str
         requires { i < length self.now.leaves }
         ensures { chars result.now ≡ (leaf_at self.now.leaves i).leaf.text }
@@ -419,7 +431,7 @@ impl<'a> LexedStr<'a> {
         &self.text[self.text_range(i)]
     }
 
-    /// The text of a row of leaves, given by their numbers.
+    /// Returns the text of a range of leaves, given by their indices.
     pub fn range_text(&self, leaves: Range<usize>) -> &'a str
         requires order { leaves.start ≤ leaves.end }
         requires within { leaves.end ≤ length self.now.leaves }
@@ -429,8 +441,8 @@ impl<'a> LexedStr<'a> {
         &self.text[self.text_start(leaves.start)..self.text_start(leaves.end)]
     }
 
-    /// Returns the parser's input: the leaves without whitespace and comments. It is read by the
-    /// grammar of the profile.
+    /// Returns the input of the parser: the leaves without trivia. The grammar of the profile reads
+    /// it.
     ///
     /// # Errors
     ///
@@ -442,7 +454,8 @@ impl<'a> LexedStr<'a> {
         tokens(alloc, false, self.edition, self.text, &self.leaves)
     }
 
-    /// Returns the parser's input, marked to be read by the grammar of the whole language.
+    /// Returns the input of the parser: the leaves without trivia. The grammar of the whole
+    /// language reads it.
     ///
     /// # Errors
     ///

@@ -1,4 +1,4 @@
-//! What the parser reads: editions, the kinds of tokens and nodes, and the words of the language.
+//! The input of the parser: editions, syntax kinds, keywords, the leaves of a text and its preface.
 #![tactic(auto)]
 
 pub mod edition;

@@ -1,4 +1,4 @@
-//! What can be wrong with a literal.
+//! The errors of literals.
 
 ghost use Rattle.std.specs.Prelude.{◌≡◌, ◌&&◌, not, chars};
 ghost use Rattle.parser_input.specs.Escapes.{is_one};
@@ -18,15 +18,15 @@ use crate::escapes::{Rules, is_one, is_sound};
 use crate::message::Message;
 use rustc_lexer::{Cursor, LiteralKind};
 
-/// A kind of literals with quotes.
+/// The properties of a kind of quoted literal.
 #[derive(Clone, Copy)]
 pub(crate) struct Quoted {
-    /// A letter stands before the quote.
+    /// `true` if a letter is before the quote.
     has_letter: bool,
     rules: Rules,
-    /// Characters past ASCII may not stand in it.
+    /// `true` if only ASCII characters are allowed.
     is_ascii: bool,
-    /// It is one character, or one escape.
+    /// `true` if it must be one character or one escape.
     is_single: bool,
 }
 
@@ -90,7 +90,7 @@ const C_STR: Quoted = Quoted {
     is_single: false,
 };
 
-// The characters of the first `end` bytes: a literal without its suffix.
+// Returns the characters of the first `end` bytes: a literal without its suffix.
 fn front<'a>(text: &Cursor<'a>, end: usize) -> Cursor<'a>
     ensures { result ≡ front end text.now }
 {
@@ -107,7 +107,7 @@ fn front<'a>(text: &Cursor<'a>, end: usize) -> Cursor<'a>
     text.until(&rest)
 }
 
-// All but the last character.
+// Returns the text without its last character.
 fn but_last<'a>(text: &Cursor<'a>) -> Cursor<'a>
     ensures { result ≡ but_last text.now }
 {
@@ -135,7 +135,7 @@ fn between_quotes<'a>(quoted: &Quoted, literal: &Cursor<'a>) -> Cursor<'a>
     but_last(&inside)
 }
 
-// Whether a character is past ASCII.
+// Returns `true` if a character of the text is not ASCII.
 fn is_wide(text: &Cursor) -> bool
     ensures { result ≡ is_wide text.now }
 {
@@ -148,14 +148,14 @@ fn has_nul(text: &Cursor) -> bool
     text.as_str().chars().any(|c| c == '\0')
 }
 
-// Whether a character stands in a literal that may not hold it.
+// Returns `true` if only ASCII characters are allowed and a character of the text is not ASCII.
 fn is_past_ascii(quoted: &Quoted, text: &Cursor) -> bool
     ensures { result ≡ (quoted.now.is_ascii && is_wide text.now) }
 {
     quoted.is_ascii && is_wide(text)
 }
 
-// Whether a literal is not of one character.
+// Returns `true` if the literal must be one character or one escape and is not.
 fn is_bad_length(quoted: &Quoted, text: &Cursor) -> bool
     ensures { result ≡ (quoted.now.is_single
         && not (is_one quoted.now.rules (between_quotes quoted.now text.now))) }
@@ -163,14 +163,14 @@ fn is_bad_length(quoted: &Quoted, text: &Cursor) -> bool
     quoted.is_single && !is_one(quoted.rules, between_quotes(quoted, text))
 }
 
-/// A message, where it fits.
+/// Returns `message` if `fits`; otherwise `None`.
 pub(crate) fn when(fits: bool, message: Message) -> Option<Message>
     ensures { result ≡ when fits message }
 {
     if fits { Some(message) } else { None }
 }
 
-// The message of a literal with quotes, without its suffix.
+// Returns the error of a quoted literal without its suffix, if any.
 fn quoted_message(quoted: &Quoted, terminated: bool, text: &Cursor) -> Option<Message>
     ensures { result ≡ quoted_message quoted.now terminated text.now }
 {
@@ -186,7 +186,7 @@ fn quoted_message(quoted: &Quoted, terminated: bool, text: &Cursor) -> Option<Me
     when(is_bad_length(quoted, text), Message::BadLength)
 }
 
-// The message of a raw string.
+// Returns the error of a raw string, if any: `message` if it is terminated and `fails`.
 fn raw_message(n_hashes: Option<u8>, fails: bool, message: Message) -> Option<Message>
     ensures { result ≡ raw_message n_hashes fails message }
 {
@@ -196,7 +196,7 @@ fn raw_message(n_hashes: Option<u8>, fails: bool, message: Message) -> Option<Me
     when(fails, message)
 }
 
-// The message of a literal without its suffix.
+// Returns the error of a literal without its suffix, if any.
 #[tactic(auto, unfolding(crate::specs::Messages::literal_message))]
 fn unsuffixed_message(kind: LiteralKind, text: &Cursor) -> Option<Message>
     ensures { result ≡ literal_message kind text.now }
@@ -222,7 +222,8 @@ fn unsuffixed_message(kind: LiteralKind, text: &Cursor) -> Option<Message>
     }
 }
 
-/// What is wrong with a literal whose suffix starts there, if anything is.
+/// Returns the error of a literal whose suffix starts at the offset `suffix_start`, in bytes, if
+/// any.
 pub(crate) fn literal_message(kind: LiteralKind, suffix_start: usize, text: &str) -> Option<Message>
     ensures { result ≡ literal_message kind (front suffix_start (chars text.now)) }
 {

@@ -1,9 +1,9 @@
-//! What can be wrong with a token.
+//! The errors of tokens.
 
 ghost use Rattle.std.specs.Prelude.{◌≡◌};
 ghost use Rattle.parser_input.specs.Messages.{wording};
 
-/// What is wrong with a token.
+/// The error of a token.
 #[derive(Clone, Copy, Debug, PartialEq, Eq)]
 pub(crate) enum Message {
     UnterminatedBlockComment,
@@ -21,7 +21,7 @@ pub(crate) enum Message {
 }
 
 impl Message {
-    /// The message in words.
+    /// Returns the text of the error message.
     pub(crate) fn text(self) -> &'static str
         ensures { result.now ≡ wording self }
     {

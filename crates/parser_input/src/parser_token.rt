@@ -1,4 +1,4 @@
-//! What the parser sees of a leaf beside its kind.
+//! The contextual kind and the joint bit of a leaf.
 
 ghost use Rattle.std.specs.Prelude.{◌≡◌, ◌&&◌, List, chars, if◌then◌else◌};
 ghost use Rattle.parser_input.specs.Input.{contextual_of, ends_in_dot, is_joint, touches};
@@ -12,8 +12,9 @@ use crate::edition::Edition;
 use crate::keywords::contextual_keyword;
 use crate::syntax_kind::SyntaxKind;
 
-/// The kind that the word of an identifier has as a contextual keyword, or `IDENT`. That of the
-/// operator `|>` for a `|` right before a `>`, where the edition has it. `EOF` for any other leaf.
+/// Returns the contextual kind of a leaf: for an identifier, its kind as a contextual keyword, or
+/// `IDENT`. For a `|` directly before a `>`, `PIPE_GT` if the edition has the operator `|>`. `EOF`
+/// for any other leaf.
 pub(crate) fn contextual_kind(
     edition: Edition,
     kind: SyntaxKind,
@@ -32,7 +33,7 @@ pub(crate) fn contextual_kind(
     }
 }
 
-/// The contextual kind of a `|`.
+/// Returns the contextual kind of a `|`.
 fn pipe_kind(edition: Edition, before_angle: bool) -> SyntaxKind
     ensures { raw_of result
         ≡ (if before_angle && is_from EditionNext edition then kinds.PIPE_GT else kinds.EOF) }
@@ -50,8 +51,8 @@ fn ends_in_dot(text: &str) -> bool
     text.ends_with('.')
 }
 
-/// Whether a leaf touches the token after it; `is_followed` says that the next leaf is one that the
-/// parser sees.
+/// Returns `true` if the leaf is joint. `is_followed` is `true` if there is a next leaf and it is
+/// not trivia. A float is joint if its text does not end in a dot.
 pub(crate) fn is_joint(kind: SyntaxKind, text: &str, is_followed: bool) -> bool
     ensures { (next : List Leaf) → is_followed ≡ touches next → result ≡ is_joint
         record { kind = raw_of kind; text = chars text.now } next }

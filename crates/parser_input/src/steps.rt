@@ -1,11 +1,11 @@
-//! Steps over dashes and lines, from a place in a text.
+//! Scans of dashes and lines, from a position in a text.
 
 ghost use Rattle.std.specs.Prelude.{◌≡◌, drop, if◌then◌else◌};
 ghost use Rattle.parser_input.specs.Lines.{after_line, blank_len, solid_len, dashes};
 
 use rustc_lexer::{Cursor, is_whitespace};
 
-// Moves to another place, or stays.
+// Moves `rest` to `place` if `moves`.
 fn move_if<'a>(rest: &mut Cursor<'a>, moves: bool, place: &Cursor<'a>)
     ensures { rest.new ≡ (if moves then place.now else rest.old) }
 {
@@ -14,7 +14,7 @@ fn move_if<'a>(rest: &mut Cursor<'a>, moves: bool, place: &Cursor<'a>)
     }
 }
 
-/// Skips the dashes that are next, and returns their number.
+/// Skips the dashes at this position and returns their number.
 pub(crate) fn eat_dashes(rest: &mut Cursor) -> usize
     ensures count { result ≡ dashes rest.old }
     ensures rest { rest.new ≡ drop (dashes rest.old) rest.old }
@@ -26,7 +26,7 @@ pub(crate) fn eat_dashes(rest: &mut Cursor) -> usize
     start - rest.remaining()
 }
 
-/// Skips the whitespace that is next, up to and including its last line feed.
+/// Skips the whitespace at this position, up to and including its last line feed.
 pub(crate) fn eat_blank_lines<'a>(rest: &mut Cursor<'a>)
     ensures { rest.new ≡ drop (blank_len rest.old) rest.old }
 {
@@ -51,7 +51,7 @@ pub(crate) fn eat_whole_line(rest: &mut Cursor)
     }
 }
 
-/// Skips all but the whitespace at the end.
+/// Skips the text up to the whitespace at its end.
 pub(crate) fn eat_solid<'a>(rest: &mut Cursor<'a>)
     ensures { rest.new ≡ drop (solid_len rest.old) rest.old }
 {

@@ -1,4 +1,4 @@
-//! The kinds of tokens and nodes.
+//! The kinds of tokens and nodes of the syntax tree.
 
 ghost use Rattle.std.specs.Prelude.{◌≡◌, ◌<◌, ◌↔◌, IsSome, IfSome, find};
 ghost use Rattle.std.specs.Str.{bytes_eq};
@@ -23,7 +23,7 @@ use crate::kind_table::KINDS;
 #[allow(non_camel_case_types)]
 #[derive(Clone, Copy, PartialEq, Eq, PartialOrd, Ord, Hash, Debug)]
 pub enum SyntaxKind {
-    // No token: the place of a node that was given up, the end of the input, what cannot be read.
+    // Not tokens of the grammar: an abandoned node, the end of the input, an error.
     TOMBSTONE,
     EOF,
     ERROR,
@@ -318,11 +318,11 @@ pub enum SyntaxKind {
 
 const FIRST_KEYWORD: u16 = SyntaxKind::AS_KW as u16;
 
-/// Contextual keywords stand right after the keywords.
+/// The last keyword: contextual keywords directly follow the keywords.
 const LAST_KEYWORD: u16 = SyntaxKind::UNION_KW as u16;
 
 impl SyntaxKind {
-    /// The kind with this raw number, if there is one.
+    /// Returns the kind with this raw number; `None` if there is none.
     pub fn from_raw(raw: u16) -> Option<SyntaxKind>
         ensures known { IsSome result ↔ (raw < kind_count) }
         ensures number { IfSome result (λ kind. raw_of kind ≡ raw) }
@@ -331,7 +331,7 @@ impl SyntaxKind {
         KINDS.get(raw as usize).copied()
     }
 
-    /// The raw number of this kind: its position in the enum.
+    /// Returns the raw number of this kind: its position in the enum.
     pub fn to_raw(self) -> u16
         ensures number { result ≡ raw_of self }
         ensures known { result < kind_count }
@@ -339,14 +339,14 @@ impl SyntaxKind {
         self as u16
     }
 
-    /// The name of this kind, as `STRUCT_KW`.
+    /// Returns the name of this kind, such as `STRUCT_KW`.
     pub fn name(self) -> &'static str
         ensures { result.now ≡ name_of self }
     {
         NAMES[self.to_raw() as usize]
     }
 
-    /// The kind with this name, if there is one.
+    /// Returns the kind with this name; `None` if there is none.
     pub fn from_name(name: &str) -> Option<SyntaxKind>
         ensures named { IfSome result (λ kind. name_of kind ≡ name.now) }
         ensures inverse { (kind : SyntaxKind) → name_of kind ≡ name.now → result ≡ Some kind }
@@ -354,14 +354,15 @@ impl SyntaxKind {
         kind_named(&KINDS, name)
     }
 
-    /// Returns `true` if the kind is trivia, which the parser never sees: whitespace or a comment.
+    /// Returns `true` if the kind is trivia, which is not in the parser's input: whitespace or a
+    /// comment.
     pub fn is_trivia(self) -> bool
         ensures { result ≡ is_trivia (raw_of self) }
     {
         matches!(self, SyntaxKind::WHITESPACE | SyntaxKind::COMMENT)
     }
 
-    /// Whether this is an opening bracket: a parenthesis, a brace or a square bracket.
+    /// Returns `true` if this is an opening delimiter: a parenthesis, a brace or a square bracket.
     pub fn is_l_delimiter(self) -> bool
         ensures { result ≡ is_l_delimiter (raw_of self) }
     {
@@ -371,7 +372,7 @@ impl SyntaxKind {
         )
     }
 
-    /// Whether this is a closing bracket: a parenthesis, a brace or a square bracket.
+    /// Returns `true` if this is a closing delimiter: a parenthesis, a brace or a square bracket.
     pub fn is_r_delimiter(self) -> bool
         ensures { result ≡ is_r_delimiter (raw_of self) }
     {
@@ -381,14 +382,14 @@ impl SyntaxKind {
         )
     }
 
-    /// Whether this is an opening or a closing bracket.
+    /// Returns `true` if this is an opening or a closing delimiter.
     pub fn is_delimiter(self) -> bool
         ensures { result ≡ is_delimiter (raw_of self) }
     {
         self.is_l_delimiter() || self.is_r_delimiter()
     }
 
-    /// Whether this is the kind of a keyword or a contextual keyword of the edition.
+    /// Returns `true` if this is the kind of a keyword or a contextual keyword of the edition.
     pub fn is_keyword(self, edition: Edition) -> bool
         ensures { result ≡ is_keyword edition (raw_of self) }
     {
@@ -405,8 +406,8 @@ impl SyntaxKind {
         }
     }
 
-    /// Whether this is `IDENT` or the kind of a keyword or a contextual keyword of the latest
-    /// edition.
+    /// Returns `true` if this is `IDENT` or the kind of a keyword or a contextual keyword of the
+    /// latest edition.
     pub fn is_any_identifier(self) -> bool
         ensures { result ≡ is_any_identifier (raw_of self) }
     {
@@ -414,7 +415,7 @@ impl SyntaxKind {
     }
 }
 
-/// The first of these kinds that has this name.
+/// Returns the first of `kinds` that has this name; `None` if there is none.
 fn kind_named(kinds: &[SyntaxKind], name: &str) -> Option<SyntaxKind>
     ensures first { result ≡ find (λ kind. bytes_eq (name_of kind) name.now) kinds.now }
     ensures named { IfSome result (λ kind. name_of kind ≡ name.now) }

@@ -1,4 +1,4 @@
-//! The words of the language, and the index of each.
+//! The table of keywords and contextual keywords, and its index.
 
 use crate::edition::Edition;
 use crate::syntax_kind::SyntaxKind;
@@ -8,9 +8,9 @@ use crate::syntax_kind::SyntaxKind;
 pub(crate) struct Word {
     pub(crate) text: &'static str,
     pub(crate) kind: SyntaxKind,
-    /// The first edition in which it is a keyword, if there is one.
+    /// The first edition in which it is a keyword, if any.
     pub(crate) since: Option<Edition>,
-    /// Whether it is a contextual keyword in the editions in which it is no keyword.
+    /// `true` if it is a contextual keyword in the editions in which it is no keyword.
     pub(crate) is_contextual: bool,
 }
 

@@ -1,4 +1,4 @@
-//! Cursors that know their language's kinds.
+//! Cursors with the kinds of their language.
 ghost use Rattle.std.specs.Prelude.{◌≡◌, ◌≤◌, [], reverse, IfOk, IsSome, Some};
 ghost use Rattle.std.specs.Coded.{codes};
 ghost use Rattle.rowan_green.specs.Forest.{Tree, tree_code};
@@ -63,14 +63,18 @@ impl<L: Language> SyntaxNode<L> {
         &self.cursor
     }
 
-    /// The root of a tree.
+    /// Returns the root of a tree with the green node `green`.
+    ///
+    /// # Errors
+    ///
+    /// [`AllocError`] if an allocation fails.
     pub fn new_root(alloc: Global, green: GreenNode) -> Result<SyntaxNode<L>, AllocError>
         ensures { IfOk result (λ n. n ≡ record { root = green; up = [] }) }
     {
         Ok(SyntaxNode::of(cursor::SyntaxNode::new_root(alloc, green)?))
     }
 
-    /// Its kind, by its language.
+    /// Returns the kind.
     pub fn kind(&self) -> L::Kind
         ensures { result ≡ L.from_raw (kind_at self.now) }
     {
@@ -78,7 +82,7 @@ impl<L: Language> SyntaxNode<L> {
         L::kind_from_raw(raw)
     }
 
-    /// Returns its range in the text of the tree.
+    /// Returns the range in the text of the tree, in bytes.
     pub fn text_range(&self) -> TextRange
         ensures start { result.start.0 ≡ start_of self.now }
         ensures end { result.end.0 ≡ end_of self.now }
@@ -86,7 +90,7 @@ impl<L: Language> SyntaxNode<L> {
         TextRange::new(TextSize(self.cursor.start()), TextSize(self.cursor.end()))
     }
 
-    /// Its number among its parent's children, nodes and tokens alike; 0 for a root.
+    /// Returns the index among the parent's children, 0 for a root.
     pub fn index(&self) -> usize
         ensures { result ≡ index_of self.now }
     {
@@ -100,7 +104,11 @@ impl<L: Language> SyntaxNode<L> {
         self.cursor.green()
     }
 
-    /// Its parent; none for a root.
+    /// Returns the parent, or `None` for a root.
+    ///
+    /// # Errors
+    ///
+    /// [`AllocError`] if a reference count overflows.
     pub fn parent(&self) -> Result<Option<SyntaxNode<L>>, AllocError>
         ensures { IfOk result (λ r. r ≡ above self.now) }
     {
@@ -110,7 +118,11 @@ impl<L: Language> SyntaxNode<L> {
         }
     }
 
-    /// The root of the tree.
+    /// Returns the root of the tree.
+    ///
+    /// # Errors
+    ///
+    /// [`AllocError`] if a reference count overflows.
     pub fn tree_top(&self) -> Result<SyntaxNode<L>, AllocError>
         ensures { IfOk result (λ r. r ≡ top_of self.now) }
     {
@@ -118,21 +130,33 @@ impl<L: Language> SyntaxNode<L> {
         Ok(SyntaxNode::of(top.clone()?))
     }
 
-    /// The first child that is a node.
+    /// Returns the first child that is a node.
+    ///
+    /// # Errors
+    ///
+    /// [`AllocError`] if an allocation fails or a reference count overflows.
     pub fn first_child(&self, alloc: Global) -> Result<Option<SyntaxNode<L>>, AllocError>
         ensures { IfOk result (λ r. r ≡ first (nodes (children self.now))) }
     {
         Ok(node_of(self.cursor.first_child(alloc)?))
     }
 
-    /// The last child that is a node.
+    /// Returns the last child that is a node.
+    ///
+    /// # Errors
+    ///
+    /// [`AllocError`] if an allocation fails or a reference count overflows.
     pub fn last_child(&self, alloc: Global) -> Result<Option<SyntaxNode<L>>, AllocError>
         ensures { IfOk result (λ r. r ≡ first (nodes (children_back self.now))) }
     {
         Ok(node_of(self.cursor.last_child(alloc)?))
     }
 
-    /// The first child, node or token.
+    /// Returns the first child, node or token.
+    ///
+    /// # Errors
+    ///
+    /// [`AllocError`] if an allocation fails or a reference count overflows.
     pub fn first_child_or_token(
         &self,
         alloc: Global,
@@ -142,8 +166,12 @@ impl<L: Language> SyntaxNode<L> {
         Ok(element_of(self.cursor.first_child_or_token(alloc)?))
     }
 
-    /// The child of this number, counted from 0, nodes and tokens alike. No cursor is made for
-    /// those before it.
+    /// Returns child `number`, counted from 0, nodes and tokens alike. Creates no cursors for the
+    /// children before it.
+    ///
+    /// # Errors
+    ///
+    /// [`AllocError`] if an allocation fails or a reference count overflows.
     pub fn nth_child_or_token(
         &self,
         alloc: Global,
@@ -154,28 +182,44 @@ impl<L: Language> SyntaxNode<L> {
         Ok(element_of(self.cursor.nth_child_or_token(alloc, number)?))
     }
 
-    /// The last child, node or token.
+    /// Returns the last child, node or token.
+    ///
+    /// # Errors
+    ///
+    /// [`AllocError`] if an allocation fails or a reference count overflows.
     pub fn last_child_or_token(&self, alloc: Global) -> Result<Option<SyntaxElement<L>>, AllocError>
         ensures { IfOk result (λ r. r ≡ first (children_back self.now)) }
     {
         Ok(element_of(self.cursor.last_child_or_token(alloc)?))
     }
 
-    /// The next sibling that is a node.
+    /// Returns the next sibling that is a node.
+    ///
+    /// # Errors
+    ///
+    /// [`AllocError`] if an allocation fails or a reference count overflows.
     pub fn next_sibling(&self, alloc: Global) -> Result<Option<SyntaxNode<L>>, AllocError>
         ensures { IfOk result (λ r. r ≡ first (nodes (siblings_after self.now))) }
     {
         Ok(node_of(self.cursor.next_sibling(alloc)?))
     }
 
-    /// The nearest sibling before it that is a node.
+    /// Returns the nearest previous sibling that is a node.
+    ///
+    /// # Errors
+    ///
+    /// [`AllocError`] if an allocation fails or a reference count overflows.
     pub fn prev_sibling(&self, alloc: Global) -> Result<Option<SyntaxNode<L>>, AllocError>
         ensures { IfOk result (λ r. r ≡ first (nodes (siblings_before self.now))) }
     {
         Ok(node_of(self.cursor.prev_sibling(alloc)?))
     }
 
-    /// The next child of its parent, a node or a token, if there is one.
+    /// Returns the next sibling, node or token.
+    ///
+    /// # Errors
+    ///
+    /// [`AllocError`] if an allocation fails or a reference count overflows.
     pub fn next_sibling_or_token(
         &self,
         alloc: Global,
@@ -185,7 +229,11 @@ impl<L: Language> SyntaxNode<L> {
         Ok(element_of(self.cursor.next_sibling_or_token(alloc)?))
     }
 
-    /// The child of its parent before it, a node or a token, if there is one.
+    /// Returns the previous sibling, node or token.
+    ///
+    /// # Errors
+    ///
+    /// [`AllocError`] if an allocation fails or a reference count overflows.
     pub fn prev_sibling_or_token(
         &self,
         alloc: Global,
@@ -195,21 +243,33 @@ impl<L: Language> SyntaxNode<L> {
         Ok(element_of(self.cursor.prev_sibling_or_token(alloc)?))
     }
 
-    /// The first token below the node, however many empty nodes stand before it.
+    /// Returns the first token below the node. Empty nodes before it are skipped.
+    ///
+    /// # Errors
+    ///
+    /// [`AllocError`] if an allocation fails or a reference count overflows.
     pub fn first_token(&self, alloc: Global) -> Result<Option<SyntaxToken<L>>, AllocError>
         ensures { IfOk result (λ r. r ≡ first (tokens_in self.now)) }
     {
         Ok(token_of(self.cursor.first_token(alloc)?))
     }
 
-    /// The last token below the node, however many empty nodes stand after it.
+    /// Returns the last token below the node. Empty nodes after it are skipped.
+    ///
+    /// # Errors
+    ///
+    /// [`AllocError`] if an allocation fails or a reference count overflows.
     pub fn last_token(&self, alloc: Global) -> Result<Option<SyntaxToken<L>>, AllocError>
         ensures { IfOk result (λ r. r ≡ first (reverse (tokens_in self.now))) }
     {
         Ok(token_of(self.cursor.last_token(alloc)?))
     }
 
-    /// The first child whose range contains this one.
+    /// Returns the first child, node or token, whose range contains `range`.
+    ///
+    /// # Errors
+    ///
+    /// [`AllocError`] if an allocation fails or a reference count overflows.
     pub fn child_or_token_at_range(
         &self,
         alloc: Global,
@@ -223,8 +283,13 @@ impl<L: Language> SyntaxNode<L> {
         Ok(element_of(child))
     }
 
-    /// The innermost element on the way down by `child_or_token_at_range`. The range lies in the
-    /// node's.
+    /// Returns the innermost element that is reached by descending with
+    /// [`child_or_token_at_range`](Self::child_or_token_at_range); the node itself if no child's
+    /// range contains `range`. `range` is within the node's range.
+    ///
+    /// # Errors
+    ///
+    /// [`AllocError`] if an allocation fails or a reference count overflows.
     pub fn covering_element(
         &self,
         alloc: Global,
@@ -241,6 +306,10 @@ impl<L: Language> SyntaxNode<L> {
     }
 
     /// Returns the root of a new tree with this green node.
+    ///
+    /// # Errors
+    ///
+    /// [`AllocError`] if an allocation fails or a reference count overflows.
     pub fn clone_subtree(&self, alloc: Global) -> Result<SyntaxNode<L>, AllocError>
         ensures { IfOk result
             (λ n. (g : Tree) × (term_at self.now ≡ Some (Node g))
@@ -250,21 +319,21 @@ impl<L: Language> SyntaxNode<L> {
     }
 }
 
-/// The node of a cursor, if there is one.
+/// Returns the node of a cursor, if there is one.
 pub(crate) fn node_of<L: Language>(cursor: Option<cursor::SyntaxNode>) -> Option<SyntaxNode<L>>
     ensures { result ≡ cursor }
 {
     cursor.map(|cursor| SyntaxNode::of(cursor))
 }
 
-/// The token of a cursor, if there is one.
+/// Returns the token of a cursor, if there is one.
 pub(crate) fn token_of<L: Language>(cursor: Option<cursor::SyntaxToken>) -> Option<SyntaxToken<L>>
     ensures { result ≡ cursor }
 {
     cursor.map(|cursor| SyntaxToken::of(cursor))
 }
 
-/// The element of a cursor.
+/// Returns the element of a cursor.
 pub(crate) fn element<L: Language>(cursor: cursor::SyntaxElement) -> SyntaxElement<L>
     ensures { result ≡ cursor }
 {
@@ -274,7 +343,7 @@ pub(crate) fn element<L: Language>(cursor: cursor::SyntaxElement) -> SyntaxEleme
     }
 }
 
-/// The element of a cursor, if there is one.
+/// Returns the element of a cursor, if there is one.
 pub(crate) fn element_of<L: Language>(
     cursor: Option<cursor::SyntaxElement>,
 ) -> Option<SyntaxElement<L>>
@@ -299,14 +368,14 @@ impl<L: Language> SyntaxToken<L> {
         &self.cursor
     }
 
-    /// Its kind, by its language.
+    /// Returns the kind.
     pub fn kind(&self) -> L::Kind
         ensures { result ≡ L.from_raw (kind_at self.now) }
     {
         L::kind_from_raw(self.cursor.kind())
     }
 
-    /// Returns its range in the text of the tree.
+    /// Returns the range in the text of the tree, in bytes.
     pub fn text_range(&self) -> TextRange
         ensures start { result.start.0 ≡ start_of self.now }
         ensures end { result.end.0 ≡ end_of self.now }
@@ -315,7 +384,7 @@ impl<L: Language> SyntaxToken<L> {
         TextRange::new(TextSize(self.cursor.start()), end)
     }
 
-    /// Its number among its parent's children, nodes and tokens alike.
+    /// Returns the index among the parent's children, nodes and tokens alike.
     pub fn index(&self) -> usize
         ensures { result ≡ index_of self.now }
     {
@@ -323,7 +392,7 @@ impl<L: Language> SyntaxToken<L> {
         index as usize
     }
 
-    /// Its text.
+    /// Returns the text.
     pub fn text(&self) -> &str
         ensures { result.now ≡ text_at self.now }
     {
@@ -337,7 +406,11 @@ impl<L: Language> SyntaxToken<L> {
         self.cursor.green()
     }
 
-    /// The parent. A token always has one.
+    /// Returns the parent. The result is never `None`.
+    ///
+    /// # Errors
+    ///
+    /// [`AllocError`] if a reference count overflows.
     pub fn parent(&self) -> Result<Option<SyntaxNode<L>>, AllocError>
         ensures ok { IfOk result (λ r. r ≡ above self.now) }
         ensures some { IfOk result IsSome }
@@ -345,14 +418,22 @@ impl<L: Language> SyntaxToken<L> {
         Ok(Some(SyntaxNode::of(self.cursor.parent().clone()?)))
     }
 
-    /// The root of the tree.
+    /// Returns the root of the tree.
+    ///
+    /// # Errors
+    ///
+    /// [`AllocError`] if a reference count overflows.
     pub fn tree_top(&self) -> Result<SyntaxNode<L>, AllocError>
         ensures { IfOk result (λ r. r ≡ top_of self.now) }
     {
         Ok(SyntaxNode::of(self.cursor.tree_top().clone()?))
     }
 
-    /// The next child of its parent, a node or a token, if there is one.
+    /// Returns the next sibling, node or token.
+    ///
+    /// # Errors
+    ///
+    /// [`AllocError`] if an allocation fails or a reference count overflows.
     pub fn next_sibling_or_token(
         &self,
         alloc: Global,
@@ -362,7 +443,11 @@ impl<L: Language> SyntaxToken<L> {
         Ok(element_of(self.cursor.next_sibling_or_token(alloc)?))
     }
 
-    /// The child of its parent before it, a node or a token, if there is one.
+    /// Returns the previous sibling, node or token.
+    ///
+    /// # Errors
+    ///
+    /// [`AllocError`] if an allocation fails or a reference count overflows.
     pub fn prev_sibling_or_token(
         &self,
         alloc: Global,
@@ -373,6 +458,10 @@ impl<L: Language> SyntaxToken<L> {
     }
 
     /// Returns the next token of the tree, in this parent or another.
+    ///
+    /// # Errors
+    ///
+    /// [`AllocError`] if an allocation fails or a reference count overflows.
     pub fn next_token(&self, alloc: Global) -> Result<Option<SyntaxToken<L>>, AllocError>
         ensures { IfOk result (λ r. r ≡ first (tokens_after self.now)) }
     {
@@ -380,6 +469,10 @@ impl<L: Language> SyntaxToken<L> {
     }
 
     /// Returns the previous token of the tree, in this parent or another.
+    ///
+    /// # Errors
+    ///
+    /// [`AllocError`] if an allocation fails or a reference count overflows.
     pub fn prev_token(&self, alloc: Global) -> Result<Option<SyntaxToken<L>>, AllocError>
         ensures { IfOk result (λ r. r ≡ first (tokens_before self.now)) }
     {
@@ -394,7 +487,7 @@ impl<L: Language> Clone for SyntaxNode<L> {
     ///
     /// # Errors
     ///
-    /// `AllocError` if a reference count overflows.
+    /// [`AllocError`] if a reference count overflows.
     fn clone(&self) -> Result<SyntaxNode<L>, AllocError> {
         Ok(SyntaxNode::of(self.cursor.clone()?))
     }
@@ -407,7 +500,7 @@ impl<L: Language> Clone for SyntaxToken<L> {
     ///
     /// # Errors
     ///
-    /// `AllocError` if a reference count overflows.
+    /// [`AllocError`] if a reference count overflows.
     fn clone(&self) -> Result<SyntaxToken<L>, AllocError> {
         Ok(SyntaxToken::of(self.cursor.clone()?))
     }

@@ -18,7 +18,7 @@ use rowan_green::NodeOrToken;
 use std::alloc::{AllocError, Global};
 use std::marker::{Model, PhantomData};
 
-/// A node and those above it, up to the root. A contract sees those that are left.
+/// An iterator over a node and its ancestors, up to the root. Model: the remaining nodes.
 pub struct Ancestors<L> {
     next: Option<cursor::SyntaxNode>,
     language: PhantomData<L>,
@@ -72,7 +72,8 @@ impl<L: Language> Iterator for Ancestors<L> {
     }
 }
 
-/// An element and its siblings on one side, the nearest first. A contract sees those that are left.
+/// An iterator over an element and its siblings in one direction, the nearest first. Model: the
+/// remaining elements.
 pub struct SiblingsWithTokens<L> {
     alloc: Global,
     direction: Direction,
@@ -136,7 +137,7 @@ impl<L: Language> Iterator for SiblingsWithTokens<L> {
     }
 }
 
-/// The sibling next to an element on one side.
+/// Returns the sibling next to `current` in `direction`, node or token.
 fn beside(
     alloc: Global,
     direction: Direction,
@@ -151,8 +152,8 @@ fn beside(
     }
 }
 
-/// A node and its siblings on one side that are nodes, the nearest first. A contract sees those
-/// that are left.
+/// An iterator over a node and its siblings in one direction that are nodes, the nearest first.
+/// Model: the remaining nodes.
 pub struct Siblings<L> {
     alloc: Global,
     direction: Direction,
@@ -212,7 +213,7 @@ impl<L: Language> Iterator for Siblings<L> {
     }
 }
 
-/// The nearest sibling of a node on one side that is a node.
+/// Returns the nearest sibling of `current` in `direction` that is a node.
 fn node_beside(
     alloc: Global,
     direction: Direction,
@@ -228,21 +229,33 @@ fn node_beside(
 }
 
 impl<L: Language> SyntaxNode<L> {
-    /// The node, its parent, and so on up to the root.
+    /// Returns an iterator over the node and its ancestors, up to the root.
+    ///
+    /// # Errors
+    ///
+    /// [`AllocError`] if a reference count overflows.
     pub fn ancestors(&self) -> Result<Ancestors<L>, AllocError>
         ensures { IfOk result (λ a. a ≡ ancestors self.now) }
     {
         Ok(Ancestors::new(self.cursor().clone()?))
     }
 
-    /// The node, and then its siblings on one side that are nodes.
+    /// Returns an iterator over the node, and then its siblings in `direction` that are nodes.
+    ///
+    /// # Errors
+    ///
+    /// [`AllocError`] if a reference count overflows.
     pub fn siblings(&self, alloc: Global, direction: Direction) -> Result<Siblings<L>, AllocError>
         ensures { IfOk result (λ s. s ≡ sibling_nodes direction self.now) }
     {
         Ok(Siblings::new(alloc, direction, self.cursor().clone()?))
     }
 
-    /// The node, and then its siblings on one side, nodes and tokens.
+    /// Returns an iterator over the node, and then its siblings in `direction`, nodes and tokens.
+    ///
+    /// # Errors
+    ///
+    /// [`AllocError`] if a reference count overflows.
     pub fn siblings_with_tokens(
         &self,
         alloc: Global,
@@ -256,14 +269,22 @@ impl<L: Language> SyntaxNode<L> {
 }
 
 impl<L: Language> SyntaxToken<L> {
-    /// The token's parent, that one's parent, and so on up to the root.
+    /// Returns an iterator over the token's ancestors: its parent, and so on up to the root.
+    ///
+    /// # Errors
+    ///
+    /// [`AllocError`] if a reference count overflows.
     pub fn parent_ancestors(&self) -> Result<Ancestors<L>, AllocError>
         ensures { IfOk result (λ a. a ≡ ancestors_of (above self.now)) }
     {
         Ok(Ancestors::new(self.cursor().parent().clone()?))
     }
 
-    /// The token, and then its siblings on one side, nodes and tokens.
+    /// Returns an iterator over the token, and then its siblings in `direction`, nodes and tokens.
+    ///
+    /// # Errors
+    ///
+    /// [`AllocError`] if a reference count overflows.
     pub fn siblings_with_tokens(
         &self,
         alloc: Global,

@@ -1,4 +1,4 @@
-//! Typed nodes: a wrapper for each kind of node that has a meaning of its own.
+//! Typed nodes: wrappers of nodes, by the kinds of nodes.
 ghost use Rattle.std.specs.Prelude.{◌≡◌, ◌↔◌, ◌<◌, ℕ, [], Bool, true, length, Some, IfOk, IfSome, IsSome, List};
 ghost use Rattle.std.specs.Coded.{codes};
 ghost use Rattle.std.specs.Iterator.{at_most};
@@ -17,11 +17,11 @@ pub use ptr::AstPtr;
 use std::alloc::{AllocError, Global};
 use std::marker::{Model, PhantomData};
 
-/// A node of a kind that can be cast to the type.
+/// A typed node: a wrapper of a node whose kind can be cast to the type.
 pub trait AstNode: Sized {
     type Language: Language;
 
-    /// Whether nodes of a kind can be cast.
+    /// The kinds that can be cast.
     ghost casts: { Self.Language.Kind → Bool };
 
     /// The place of the node.
@@ -30,17 +30,21 @@ pub trait AstNode: Sized {
     fn can_cast(kind: <Self::Language as Language>::Kind) -> bool
         ensures { result ≡ casts kind };
 
-    /// The node as this type, exactly where its kind can be cast.
+    /// Returns the node as this type, or `None` if its kind cannot be cast.
     fn cast(node: SyntaxNode<Self::Language>) -> Option<Self>
         ensures cast_when { IsSome result ↔ (casts (Self.Language.from_raw (kind_at node)) ≡ true) }
         ensures gives { IfSome result (λ x. place x ≡ node) };
 
-    /// The node back.
+    /// Returns the node.
     fn syntax(&self) -> &SyntaxNode<Self::Language>
         ensures back { result.now ≡ place self.now }
         ensures own_kind { casts (Self.Language.from_raw (kind_at (place self.now))) ≡ true };
 
     /// Returns the root of a new tree with the node's green node, as this type.
+    ///
+    /// # Errors
+    ///
+    /// [`AllocError`] if an allocation fails or a reference count overflows.
     fn clone_subtree(&self, alloc: Global) -> Result<Self, AllocError>
         ensures { IfOk result (λ x. (g : Tree) × (term_at (place self.now) ≡ Some (Node g)) ×
             (place x ≡ record { root = g; up = [] })) }
@@ -50,8 +54,8 @@ pub trait AstNode: Sized {
     }
 }
 
-/// The children of a node that can be cast, in order. A contract sees the child nodes that are
-/// left.
+/// An iterator over the children of a node that can be cast, in order. Model: the remaining child
+/// nodes.
 #[derive(Drop)]
 pub struct AstChildren<N: AstNode> {
     inner: SyntaxNodeChildren<N::Language>,
@@ -78,7 +82,7 @@ impl<N: AstNode> Iterator for AstChildren<N> {
     }
 }
 
-/// The next node that can be cast.
+/// Returns the next node that can be cast.
 fn next_cast<N: AstNode>(
     nodes: &mut SyntaxNodeChildren<N::Language>,
 ) -> Option<Result<N, AllocError>>

@@ -15,16 +15,16 @@ pub(crate) struct ChildPart<'a> {
     pub(crate) len: usize,
 }
 
-/// The children of a node that have some of the bytes of a range of its text, in order, each with
-/// the part of its text that is in the range.
+/// An iterator over the children of a node that have some of the bytes of a range of its text, in
+/// order, each with the part of its text that is in the range.
 #[derive(Drop)]
 pub(crate) struct ChildParts<'n, 'a> {
     node: &'n GreenNodeRef<'a>,
-    /// The index of the first child that is left.
+    /// The index of the first remaining child.
     index: usize,
-    /// How many bytes of the texts of the children that are left precede the range.
+    /// The number of bytes of the texts of the remaining children that precede the range.
     skip: usize,
-    /// How many bytes of the range are left.
+    /// The number of remaining bytes of the range.
     len: usize,
 }
 
@@ -44,8 +44,8 @@ impl<'n, 'a> Model for ChildParts<'n, 'a> {
 }
 
 impl<'n, 'a> ChildParts<'n, 'a> {
-    /// Returns the children that have some of the `len` bytes from offset `skip` of the node's text
-    /// on. Descends one path of the balanced list of children.
+    /// Returns an iterator over the children that have some of the `len` bytes from offset `skip`
+    /// of the node's text on. Descends one path of the balanced list of children.
     pub(crate) fn of(node: &'n GreenNodeRef<'a>, skip: usize, len: usize) -> ChildParts<'n, 'a>
         ensures range { range_of result ≡ take len (drop skip (tree_text node.now)) }
         ensures len { result.len ≡ len }
@@ -76,9 +76,9 @@ fn child_with(node: &GreenNodeRef<'_>, skip: usize) -> (usize, usize)
     (found.index, skip - found.start.0 as usize)
 }
 
-/// Skips the children from index `first` on whose texts end within the next `skip` bytes.
-/// Returns the index of the first other child, and how many bytes of its text are left to skip; the
-/// number of children if there is none.
+/// Skips the children from index `first` on whose texts end within the next `skip` bytes. Returns
+/// the index of the first other child, and the number of bytes of its text left to skip; the number
+/// of children if there is no other child.
 fn pass(node: &GreenNodeRef<'_>, first: usize, skip: usize) -> (usize, usize)
     ensures passed { IsPassed (drop first (children_of node.now)) skip
         (drop result.0 (children_of node.now)) result.1 }

@@ -8,14 +8,14 @@ use rowan_green::{GreenNodeRef, NodeOrToken};
 
 /// A reader of a text in pieces, in order. A piece is not empty and comes with its offset.
 pub(crate) trait ChunkReader: Sized {
-    /// What a reader has when it stops before the end.
+    /// The value with which a reader stops before the end.
     type Found;
 
-    /// Whether a reader may be given this text, in whatever pieces, and nothing else.
+    /// Holds if a reader may read this text, in any pieces, and nothing else.
     ghost can_read: { Self → List ℕ → Type 0 };
 
-    /// What may come of a text that begins at this byte, in whatever pieces it is given: the reader
-    /// after it, or what it stopped with.
+    /// Holds for each possible result of reading a text that starts at this offset, in any pieces:
+    /// the reader after it, or the value with which it stopped.
     ghost reads: { Self → ℕ → List ℕ → Result Self Self.Found → Type 0 };
 
     fn read(self, at: u32, chunk: &str) -> Result<Self, Self::Found>
@@ -24,21 +24,21 @@ pub(crate) trait ChunkReader: Sized {
         requires fits { at + length chunk.now < 2 ^ 32 }
         ensures { reads self at chunk.now result };
 
-    /// What may be given two texts may be given the first.
+    /// A reader that may read two texts may read the first.
     ghost begins: { (r : Self) (a b : List ℕ) → can_read r (a ++ b) → can_read r a };
 
-    /// And, once the first is read, the second.
+    /// A reader that may read two texts may read the second after the first.
     ghost goes_on: { (r s : Self) (at : ℕ) (a b : List ℕ) → can_read r (a ++ b)
         → reads r at a (Ok s) → can_read s b };
 
-    /// No text changes nothing.
+    /// Reading the empty text changes nothing.
     ghost nothing: { (r : Self) (at : ℕ) → reads r at [] (Ok r) };
 
-    /// What is read in two texts is read in both together.
+    /// Reading two texts, one after another, is reading both as one text.
     ghost further: { (r s : Self) (at : ℕ) (a b : List ℕ) (x : Result Self Self.Found)
         → reads r at a (Ok s) → reads s (at + length a) b x → reads r at (a ++ b) x };
 
-    /// Where a reader stops, what follows does not matter.
+    /// If a reader stops, the text that follows does not matter.
     ghost stopped: { (r : Self) (e : Self.Found) (at : ℕ) (a b : List ℕ) → reads r at a (Err e)
         → reads r at (a ++ b) (Err e) };
 }

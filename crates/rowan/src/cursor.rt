@@ -24,7 +24,8 @@ struct NodeData {
     spot: Spot,
 }
 
-// (with the two counts of an `Rc` 64 bytes; the depth lies beside the offset, in what was padding)
+// With the two counts of an `Rc` these are 64 bytes. The depth is beside the offset, in former
+// padding.
 const _: () = prove!(size_of::<NodeData>() == 48);
 
 /// The parent of a node and the node's index among its children; `Root` if it has none.
@@ -41,7 +42,7 @@ pub struct SyntaxNode {
     shared: Rc<NodeData>,
 }
 
-// A loop, since a derived drop would take a call for each node on the way up.
+// A loop, since a derived drop would nest one call for each ancestor.
 impl Drop for SyntaxNode {
     fn drop(mut self) {
         'up: loop {
@@ -127,7 +128,11 @@ impl Model for SyntaxToken {
 pub type SyntaxElement = NodeOrToken<SyntaxNode, SyntaxToken>;
 
 impl SyntaxNode {
-    /// The root of a tree.
+    /// Returns the root of a tree with the green node `green`.
+    ///
+    /// # Errors
+    ///
+    /// [`AllocError`] if an allocation fails.
     pub fn new_root(alloc: Global, green: GreenNode) -> Result<SyntaxNode, AllocError>
         ensures { IfOk result (λ p. p ≡ record { root = green; up = [] }) }
     {
@@ -151,14 +156,14 @@ impl SyntaxNode {
         &self.shared.green
     }
 
-    /// Its kind, as a raw number.
+    /// Returns the raw kind.
     pub fn kind(&self) -> SyntaxKind
         ensures { result.0 ≡ kind_at self.now }
     {
         self.green().kind()
     }
 
-    /// Where its text begins.
+    /// Returns the offset at which the text starts, in bytes.
     pub fn start(&self) -> u32
         ensures start { result ≡ start_of self.now }
         ensures fits { end_of self.now < 2 ^ 32 }
@@ -166,7 +171,7 @@ impl SyntaxNode {
         self.shared.offset
     }
 
-    /// Where its text ends.
+    /// Returns the offset at which the text ends, in bytes.
     pub fn end(&self) -> u32
         ensures end { result ≡ end_of self.now }
         ensures ordered { start_of self.now ≤ end_of self.now }
@@ -174,7 +179,7 @@ impl SyntaxNode {
         self.shared.offset + self.shared.green.text_len().0
     }
 
-    /// Its number among its parent's children, 0 for a root.
+    /// Returns the index among the parent's children, 0 for a root.
     pub fn index(&self) -> u32
         ensures { result ≡ index_of self.now }
     {
@@ -191,7 +196,7 @@ impl SyntaxNode {
         self.shared.depth
     }
 
-    /// The parent, `None` at the top.
+    /// Returns the parent, or `None` for a root.
     pub fn parent(&self) -> Option<&SyntaxNode>
         ensures { option_copied result ≡ above self.now }
     {
@@ -201,7 +206,12 @@ impl SyntaxNode {
         }
     }
 
-    /// The child of this number, which begins at this offset.
+    /// Returns child `index`, whose text starts at `offset`; `None` if there is no such child.
+    ///
+    /// # Errors
+    ///
+    /// [`AllocError`] if an allocation fails or a reference count overflows. Only a child that
+    /// exists can cause an error.
     pub fn child(
         &self,
         alloc: Global,
@@ -280,21 +290,21 @@ impl SyntaxToken {
         &self.green
     }
 
-    /// Its kind, as a raw number.
+    /// Returns the raw kind.
     pub fn kind(&self) -> SyntaxKind
         ensures { result.0 ≡ kind_at self.now }
     {
         self.green().kind()
     }
 
-    /// Its text.
+    /// Returns the text.
     pub fn text(&self) -> &str
         ensures { result.now ≡ text_at self.now }
     {
         self.green.text()
     }
 
-    /// Where its text begins.
+    /// Returns the offset at which the text starts, in bytes.
     pub fn start(&self) -> u32
         ensures start { result ≡ start_of self.now }
         ensures fits { end_of self.now < 2 ^ 32 }
@@ -302,7 +312,7 @@ impl SyntaxToken {
         self.offset
     }
 
-    /// Where its text ends.
+    /// Returns the offset at which the text ends, in bytes.
     pub fn end(&self) -> u32
         ensures end { result ≡ end_of self.now }
         ensures ordered { start_of self.now ≤ end_of self.now }
@@ -310,14 +320,14 @@ impl SyntaxToken {
         self.offset + self.green.text_len().0
     }
 
-    /// Its number among its parent's children.
+    /// Returns the index among the parent's children.
     pub fn index(&self) -> u32
         ensures { result ≡ index_of self.now }
     {
         self.index
     }
 
-    /// The node that it is a child of.
+    /// Returns the parent.
     pub fn parent(&self) -> &SyntaxNode
         ensures { Some result.now ≡ above self.now }
     {
@@ -332,7 +342,7 @@ impl Clone for SyntaxNode {
     ///
     /// # Errors
     ///
-    /// `AllocError` if the reference count overflows.
+    /// [`AllocError`] if the reference count overflows.
     fn clone(&self) -> Result<SyntaxNode, AllocError> {
         let shared = self.shared.clone()?;
         Ok(SyntaxNode { shared })
@@ -346,7 +356,7 @@ impl Clone for SyntaxToken {
     ///
     /// # Errors
     ///
-    /// `AllocError` if a reference count overflows.
+    /// [`AllocError`] if a reference count overflows.
     fn clone(&self) -> Result<SyntaxToken, AllocError> {
         Ok(SyntaxToken {
             parent: self.parent.clone()?,
@@ -357,7 +367,7 @@ impl Clone for SyntaxToken {
     }
 }
 
-/// Whether two nodes have the same way up to their roots.
+/// Returns `true` if two nodes have equal up-paths.
 pub(crate) fn same_way(a: &SyntaxNode, b: &SyntaxNode) -> bool
     ensures { result ≡ pointwise nat_eq a.now.up b.now.up }
 {
@@ -375,7 +385,7 @@ pub(crate) fn same_way(a: &SyntaxNode, b: &SyntaxNode) -> bool
     }
 }
 
-/// Whether a node and a token have the same way up to their roots, as elements of two trees may.
+/// Returns `true` if a node and a token have equal up-paths, as elements of two trees may.
 pub(crate) fn same_way_as_token(node: &SyntaxNode, token: &SyntaxToken) -> bool
     ensures { result ≡ pointwise nat_eq node.now.up token.now.up }
 {
@@ -385,7 +395,7 @@ pub(crate) fn same_way_as_token(node: &SyntaxNode, token: &SyntaxToken) -> bool
     }
 }
 
-/// Feeds a hash with the way up to the root: the numbers among siblings, the node's own first.
+/// Feeds the up-path to a hasher: the indices among siblings, the innermost first.
 pub(crate) fn hash_way<H: Hasher>(node: &SyntaxNode, state: &mut H)
     ensures { state.new ≡ fold H.write state.old (numbers_fed node.now.up) }
 {
@@ -415,8 +425,8 @@ impl Eq for SyntaxNode {
     ghost laws = { same_place-equiv };
 }
 
-/// Hashes the range, the index and the depth, which the node keeps. A node and its first child, even
-/// with one range, have different depths.
+/// Hashes the range, the index and the depth, which the node stores. A node and its first child
+/// have different depths, even if they have one range.
 impl Hash for SyntaxNode {
     ghost use Rattle.rowan.specs.Same.{hashed_node, same_place-Decides};
     ghost use Rattle.std.proofs.Common.{ap};
@@ -454,7 +464,7 @@ impl Eq for SyntaxToken {
     ghost laws = { same_place-equiv };
 }
 
-/// A hash of the offset and the number alone: equal tokens hash alike.
+/// Hashes only the offset and the index: equal tokens have equal hashes.
 impl Hash for SyntaxToken {
     ghost use Rattle.rowan.specs.Place.{Place, start_of, index_of};
     ghost use Rattle.rowan.specs.Same.{same_place-Decides};

@@ -1,4 +1,4 @@
-//! The search for a node by its range: only below nodes whose ranges contain it.
+//! The search for a node by its range, only below nodes whose ranges contain it.
 ghost use Rattle.std.specs.Prelude.{◌≡◌, ◌&&◌, ◌≤◌, ◌<◌, nat_le, None, cond, IfOk, IfSome, Some};
 ghost use Rattle.std.specs.List.{filter};
 ghost use Rattle.rowan_green.specs.Either.{node_part};
@@ -12,8 +12,8 @@ use rowan_green::{GreenElementRef, GreenNodeRef, TextRange, TextSize};
 use std::alloc::{AllocError, Global};
 
 impl SyntaxNode {
-    /// A child from a number on, which begins at this offset, before which all from that number on
-    /// end before `end`: its number and where it begins.
+    /// Returns the index and the start offset of a child from index `from` on. All children from
+    /// `from` to before it end before `end`. Child `from` starts at `offset`.
     fn reaching(&self, from: usize, offset: u32, end: u32) -> (usize, u32)
         requires { offset ≡ start_of (below self.now from) }
         ensures start { result.1 ≡ start_of (below self.now result.0) }
@@ -31,8 +31,12 @@ impl SyntaxNode {
         }
     }
 
-    /// The first node among the children from a number on, which begin at this offset, whose range
-    /// contains this one.
+    /// Returns the first node among the children from index `from` on whose range contains `range`.
+    /// Child `from` starts at `offset`.
+    ///
+    /// # Errors
+    ///
+    /// [`AllocError`] if an allocation fails or a reference count overflows.
     pub fn node_spanning(
         &self,
         alloc: Global,
@@ -72,8 +76,8 @@ impl SyntaxNode {
     }
 }
 
-/// The node of an element, if it is one and the bytes from `start` to just before `end` contain the
-/// range.
+/// Returns the node of `element` if it is a node and the bytes from `start` to before `end` contain
+/// `range`.
 fn spanning<'a>(
     element: GreenElementRef<'a>,
     start: u32,

@@ -1,4 +1,4 @@
-//! Elements by ranges of the text: one path down.
+//! Elements by ranges of the text: the search descends one path.
 ghost use Rattle.std.specs.Prelude.{◌≡◌, IfOk};
 ghost use Rattle.rowan.specs.Ranges.{child_at_range, LeadsTo};
 
@@ -7,7 +7,11 @@ use rowan_green::{NodeOrToken, TextSize};
 use std::alloc::{AllocError, Global};
 
 impl SyntaxNode {
-    /// The first child whose range contains the bytes from `start` to just before `end`.
+    /// Returns the first child whose range contains the bytes from `start` to before `end`.
+    ///
+    /// # Errors
+    ///
+    /// [`AllocError`] if an allocation fails or a reference count overflows.
     pub fn child_at_range(
         &self,
         alloc: Global,
@@ -16,8 +20,8 @@ impl SyntaxNode {
     ) -> Result<Option<SyntaxElement>, AllocError>
         ensures { IfOk result (λ r. r ≡ child_at_range start end self.now) }
     {
-        // No child before the first that reaches `end` holds the range, and none after it begins
-        // early enough.
+        // No child before the first one that reaches `end` contains the range, and no child after
+        // it starts early enough.
         prove!(self.start() <= u32::MAX);
         let from = self.start();
         let (index, offset) = if end <= from {
@@ -34,8 +38,12 @@ impl SyntaxNode {
         self.child(alloc, index, offset)
     }
 
-    /// The element that one comes to by going down to the first child whose range contains the
-    /// bytes from `start` to just before `end`, as long as there is one.
+    /// Returns the innermost element that is reached by descending to the first child whose range
+    /// contains the bytes from `start` to before `end`, as long as there is one.
+    ///
+    /// # Errors
+    ///
+    /// [`AllocError`] if an allocation fails or a reference count overflows.
     pub fn covering_element(
         &self,
         alloc: Global,

@@ -1,5 +1,5 @@
-//! Steps from a cursor to the cursors next to it. Each reads one or two children of one node, but
-//! for the search for the next child that is a node.
+//! Steps from a cursor to adjacent cursors. Each step reads one or two children of one node; only
+//! the search for the next child that is a node may read more.
 ghost use Rattle.std.specs.Prelude.{◌≡◌, ◌+◌, ◌<◌, ◌≤◌, ◌^◌, length, IfOk, OnErr, IsSome};
 ghost use Rattle.std.specs.Option.{option_copied};
 ghost use Rattle.rowan.specs.Place.{above, below, terms_below, start_of, end_of, index_of, top_of};
@@ -10,14 +10,22 @@ use rowan_green::NodeOrToken;
 use std::alloc::{AllocError, Global};
 
 impl SyntaxNode {
-    /// Its first child, a node or a token, if it has one.
+    /// Returns the first child, node or token.
+    ///
+    /// # Errors
+    ///
+    /// [`AllocError`] if an allocation fails or a reference count overflows.
     pub fn first_child_or_token(&self, alloc: Global) -> Result<Option<SyntaxElement>, AllocError>
         ensures { IfOk result (λ r. r ≡ first (children self.now)) }
     {
         self.child(alloc, 0, self.start())
     }
 
-    /// Returns the child at index `number`, if any.
+    /// Returns child `number`, if any.
+    ///
+    /// # Errors
+    ///
+    /// [`AllocError`] if an allocation fails or a reference count overflows.
     pub fn nth_child_or_token(
         &self,
         alloc: Global,
@@ -32,14 +40,22 @@ impl SyntaxNode {
         self.child(alloc, number, self.start() + start.0)
     }
 
-    /// Its last child, a node or a token, if it has one.
+    /// Returns the last child, node or token.
+    ///
+    /// # Errors
+    ///
+    /// [`AllocError`] if an allocation fails or a reference count overflows.
     pub fn last_child_or_token(&self, alloc: Global) -> Result<Option<SyntaxElement>, AllocError>
         ensures { IfOk result (λ r. r ≡ first (children_back self.now)) }
     {
         self.child_before(alloc, self.green().children().len(), self.end())
     }
 
-    /// The next child of its parent, a node or a token, if there is one.
+    /// Returns the next sibling, node or token.
+    ///
+    /// # Errors
+    ///
+    /// [`AllocError`] if an allocation fails or a reference count overflows.
     pub fn next_sibling_or_token(&self, alloc: Global) -> Result<Option<SyntaxElement>, AllocError>
         ensures { IfOk result (λ r. r ≡ first (siblings_after self.now)) }
     {
@@ -49,7 +65,11 @@ impl SyntaxNode {
         }
     }
 
-    /// The child of its parent before it, a node or a token, if there is one.
+    /// Returns the previous sibling, node or token.
+    ///
+    /// # Errors
+    ///
+    /// [`AllocError`] if an allocation fails or a reference count overflows.
     pub fn prev_sibling_or_token(&self, alloc: Global) -> Result<Option<SyntaxElement>, AllocError>
         ensures { IfOk result (λ r. r ≡ first (siblings_before self.now)) }
     {
@@ -60,7 +80,11 @@ impl SyntaxNode {
         }
     }
 
-    /// The nearest child before a number, where the children before it end at this offset.
+    /// Returns the child before index `count`, if any. The children before that index end at `end`.
+    ///
+    /// # Errors
+    ///
+    /// [`AllocError`] if an allocation fails or a reference count overflows.
     pub fn child_before(
         &self,
         alloc: Global,
@@ -80,7 +104,13 @@ impl SyntaxNode {
         self.child(alloc, index, end - child.text_len().0)
     }
 
-    /// The first node among the children from a number on, which begin at this offset.
+    /// Returns the first node among the children from index `from` on. Child `from` starts at
+    /// `offset`.
+    ///
+    /// # Errors
+    ///
+    /// [`AllocError`] if an allocation fails or a reference count overflows. Only a node that
+    /// exists can cause an error.
     pub fn node_from(
         &self,
         alloc: Global,
@@ -112,7 +142,11 @@ impl SyntaxNode {
         Ok(None)
     }
 
-    /// The nearest node among the children before a number, which end at this offset.
+    /// Returns the last node among the children before index `count`, which end at `end`.
+    ///
+    /// # Errors
+    ///
+    /// [`AllocError`] if an allocation fails or a reference count overflows.
     pub fn node_before(
         &self,
         alloc: Global,
@@ -142,21 +176,33 @@ impl SyntaxNode {
 }
 
 impl SyntaxNode {
-    /// Its first child that is a node, if it has one.
+    /// Returns the first child that is a node.
+    ///
+    /// # Errors
+    ///
+    /// [`AllocError`] if an allocation fails or a reference count overflows.
     pub fn first_child(&self, alloc: Global) -> Result<Option<SyntaxNode>, AllocError>
         ensures { IfOk result (λ r. r ≡ first (nodes (children self.now))) }
     {
         self.node_from(alloc, 0, self.start())
     }
 
-    /// Its last child that is a node, if it has one.
+    /// Returns the last child that is a node.
+    ///
+    /// # Errors
+    ///
+    /// [`AllocError`] if an allocation fails or a reference count overflows.
     pub fn last_child(&self, alloc: Global) -> Result<Option<SyntaxNode>, AllocError>
         ensures { IfOk result (λ r. r ≡ first (nodes (children_back self.now))) }
     {
         self.node_before(alloc, self.green().children().len(), self.end())
     }
 
-    /// The next child of its parent that is a node, if there is one.
+    /// Returns the next sibling that is a node.
+    ///
+    /// # Errors
+    ///
+    /// [`AllocError`] if an allocation fails or a reference count overflows.
     pub fn next_sibling(&self, alloc: Global) -> Result<Option<SyntaxNode>, AllocError>
         ensures { IfOk result (λ r. r ≡ first (nodes (siblings_after self.now))) }
     {
@@ -166,7 +212,11 @@ impl SyntaxNode {
         }
     }
 
-    /// The last child of its parent before it that is a node, if there is one.
+    /// Returns the nearest previous sibling that is a node.
+    ///
+    /// # Errors
+    ///
+    /// [`AllocError`] if an allocation fails or a reference count overflows.
     pub fn prev_sibling(&self, alloc: Global) -> Result<Option<SyntaxNode>, AllocError>
         ensures { IfOk result (λ r. r ≡ first (nodes (siblings_before self.now))) }
     {
@@ -176,7 +226,7 @@ impl SyntaxNode {
         }
     }
 
-    /// The root of the tree.
+    /// Returns the root of the tree.
     pub fn tree_top(&self) -> &SyntaxNode
         ensures { result.now ≡ top_of self.now }
     {
@@ -189,7 +239,11 @@ impl SyntaxNode {
 }
 
 impl SyntaxToken {
-    /// The next child of its parent, a node or a token, if there is one.
+    /// Returns the next sibling, node or token.
+    ///
+    /// # Errors
+    ///
+    /// [`AllocError`] if an allocation fails or a reference count overflows.
     pub fn next_sibling_or_token(&self, alloc: Global) -> Result<Option<SyntaxElement>, AllocError>
         ensures { IfOk result (λ r. r ≡ first (siblings_after self.now)) }
     {
@@ -197,7 +251,11 @@ impl SyntaxToken {
         parent.child(alloc, self.index() as usize + 1, self.end())
     }
 
-    /// The child of its parent before it, a node or a token, if there is one.
+    /// Returns the previous sibling, node or token.
+    ///
+    /// # Errors
+    ///
+    /// [`AllocError`] if an allocation fails or a reference count overflows.
     pub fn prev_sibling_or_token(&self, alloc: Global) -> Result<Option<SyntaxElement>, AllocError>
         ensures { IfOk result (λ r. r ≡ first (siblings_before self.now)) }
     {
@@ -206,7 +264,7 @@ impl SyntaxToken {
         parent.child_before(alloc, self.index() as usize, self.start())
     }
 
-    /// The root of the tree.
+    /// Returns the root of the tree.
     pub fn tree_top(&self) -> &SyntaxNode
         ensures { result.now ≡ top_of self.now }
     {
@@ -214,7 +272,11 @@ impl SyntaxToken {
     }
 }
 
-/// The next child of an element's parent, if there is one.
+/// Returns the next sibling of an element, node or token.
+///
+/// # Errors
+///
+/// [`AllocError`] if an allocation fails or a reference count overflows.
 pub fn next_sibling_of(
     element: &SyntaxElement,
     alloc: Global,
@@ -227,7 +289,11 @@ pub fn next_sibling_of(
     }
 }
 
-/// The child of an element's parent before it, if there is one.
+/// Returns the previous sibling of an element, node or token.
+///
+/// # Errors
+///
+/// [`AllocError`] if an allocation fails or a reference count overflows.
 pub fn prev_sibling_of(
     element: &SyntaxElement,
     alloc: Global,
@@ -240,7 +306,7 @@ pub fn prev_sibling_of(
     }
 }
 
-/// The parent of an element; none for a root.
+/// Returns the parent of an element, or `None` for a root.
 pub fn parent_of(element: &SyntaxElement) -> Option<&SyntaxNode>
     ensures { option_copied result ≡ above (place_in element.now) }
 {
@@ -250,7 +316,7 @@ pub fn parent_of(element: &SyntaxElement) -> Option<&SyntaxNode>
     }
 }
 
-/// Its number among its parent's children.
+/// Returns the index of an element among its parent's children, 0 for a root.
 pub fn index_of(element: &SyntaxElement) -> u32
     ensures { result ≡ index_of (place_in element.now) }
 {
@@ -260,7 +326,7 @@ pub fn index_of(element: &SyntaxElement) -> u32
     }
 }
 
-/// Where its text begins.
+/// Returns the offset at which an element's text starts, in bytes.
 pub fn start_of(element: &SyntaxElement) -> u32
     ensures start { result ≡ start_of (place_in element.now) }
     ensures fits { end_of (place_in element.now) < 2 ^ 32 }
@@ -271,7 +337,7 @@ pub fn start_of(element: &SyntaxElement) -> u32
     }
 }
 
-/// Where its text ends.
+/// Returns the offset at which an element's text ends, in bytes.
 pub fn end_of(element: &SyntaxElement) -> u32
     ensures end { result ≡ end_of (place_in element.now) }
     ensures ordered { start_of (place_in element.now) ≤ end_of (place_in element.now) }

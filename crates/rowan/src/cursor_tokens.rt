@@ -1,4 +1,4 @@
-//! The tokens nearest to a cursor.
+//! The first, last, next and previous token of a cursor.
 ghost use Rattle.std.specs.Prelude.{◌≡◌, ◌≤◌, length, reverse, IfOk};
 ghost use Rattle.rowan.specs.Place.{below, start_of, terms_below};
 ghost use Rattle.rowan.specs.Around.{first};
@@ -10,14 +10,23 @@ use rowan_green::NodeOrToken;
 use std::alloc::{AllocError, Global};
 
 impl SyntaxNode {
-    /// The first token below the node.
+    /// Returns the first token below the node.
+    ///
+    /// # Errors
+    ///
+    /// [`AllocError`] if an allocation fails or a reference count overflows.
     pub fn first_token(&self, alloc: Global) -> Result<Option<SyntaxToken>, AllocError>
         ensures { IfOk result (λ r. r ≡ first (tokens_in self.now)) }
     {
         self.token_from(alloc, 0, self.start())
     }
 
-    /// The first token at or below the children from a number on, which begin at this offset.
+    /// Returns the first token at or below the children from index `index` on. Child `index` starts
+    /// at `offset`.
+    ///
+    /// # Errors
+    ///
+    /// [`AllocError`] if an allocation fails or a reference count overflows.
     pub fn token_from(
         &self,
         alloc: Global,
@@ -42,14 +51,22 @@ impl SyntaxNode {
         Ok(None)
     }
 
-    /// The last token below the node.
+    /// Returns the last token below the node.
+    ///
+    /// # Errors
+    ///
+    /// [`AllocError`] if an allocation fails or a reference count overflows.
     pub fn last_token(&self, alloc: Global) -> Result<Option<SyntaxToken>, AllocError>
         ensures { IfOk result (λ r. r ≡ first (reverse (tokens_in self.now))) }
     {
         self.token_before(alloc, self.green().children().len(), self.end())
     }
 
-    /// The last token at or below the children before a number, which end at this offset.
+    /// Returns the last token at or below the children before index `count`, which end at `end`.
+    ///
+    /// # Errors
+    ///
+    /// [`AllocError`] if an allocation fails or a reference count overflows.
     pub fn token_before(
         &self,
         alloc: Global,
@@ -78,7 +95,11 @@ impl SyntaxNode {
 }
 
 impl SyntaxToken {
-    /// The token after this one.
+    /// Returns the next token of the tree.
+    ///
+    /// # Errors
+    ///
+    /// [`AllocError`] if an allocation fails or a reference count overflows.
     pub fn next_token(&self, alloc: Global) -> Result<Option<SyntaxToken>, AllocError>
         ensures { IfOk result (λ r. r ≡ first (tokens_after self.now)) }
     {
@@ -98,7 +119,11 @@ impl SyntaxToken {
         }
     }
 
-    /// The token before this one.
+    /// Returns the previous token of the tree.
+    ///
+    /// # Errors
+    ///
+    /// [`AllocError`] if an allocation fails or a reference count overflows.
     pub fn prev_token(&self, alloc: Global) -> Result<Option<SyntaxToken>, AllocError>
         ensures { IfOk result (λ r. r ≡ first (tokens_before self.now)) }
     {

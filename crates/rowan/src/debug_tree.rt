@@ -1,4 +1,4 @@
-//! The tree below a node, printed for those who look at it.
+//! Debug output of the tree below a node.
 ghost use Rattle.std.specs.Prelude.{◌≡◌, ◌≤◌, ◌<◌, ◌+◌, ◌^◌, ◌++◌, length, string_bytes, OnOk, IfOk, IfSome};
 ghost use Rattle.std.specs.Fmt.{AppendsText, debug_str};
 ghost use Rattle.rowan_green.specs.declared.utility_types.NodeOrToken.TheVariants.{Node};
@@ -14,7 +14,7 @@ use rowan_green::NodeOrToken;
 use std::alloc::{AllocError, Global};
 use std::fmt::Write;
 
-/// Where a long text is cut: its first character boundary from byte 21 on.
+/// Returns the offset at which a long text is cut: its first character boundary from byte 21 on.
 fn excerpt_end(text: &str) -> usize
     requires { 21 ≤ length text.now }
     ensures end { result ≡ excerpt_end text.now }
@@ -28,7 +28,7 @@ fn excerpt_end(text: &str) -> usize
     end
 }
 
-/// Puts a token's text, quoted, after what is printed.
+/// Appends a token's text, quoted; a long text is cut.
 fn push_quoted(alloc: Global, text: &str, to: &mut String) -> Result<(), AllocError>
     ensures { OnOk result (AppendsText (string_bytes to.old) (string_bytes to.new)
         (debug_str (excerpt text.now))) }
@@ -41,7 +41,7 @@ fn push_quoted(alloc: Global, text: &str, to: &mut String) -> Result<(), AllocEr
     write!(to, "{cut:?}")
 }
 
-/// Puts what a line begins with after what is printed: two spaces a level, a name and a range.
+/// Appends the start of a line: two spaces for each level, a name and a range.
 fn push_front(
     depth: u64,
     name: &str,
@@ -60,7 +60,7 @@ fn push_front(
     write!(to, "{name}@{start}..{end}")
 }
 
-/// Puts what a token's line ends with after what is printed: its text, quoted.
+/// Appends the end of a token's line: its text, quoted.
 fn push_text(alloc: Global, text: &str, to: &mut String) -> Result<(), AllocError>
     ensures { OnOk result
         (AppendsText (string_bytes to.old) (string_bytes to.new) (line_text text.now)) }
@@ -71,8 +71,8 @@ fn push_text(alloc: Global, text: &str, to: &mut String) -> Result<(), AllocErro
     Ok(())
 }
 
-/// Puts an element's line after what is printed. Where its indentation has room, the level below
-/// has a number.
+/// Appends an element's line. If the indentation fits into a string, the depth of the next level
+/// fits into a `u64`.
 fn push_line<L: Language>(
     alloc: Global,
     element: &SyntaxElement<L>,
@@ -94,9 +94,13 @@ fn push_line<L: Language>(
 }
 
 impl<L: Language> SyntaxNode<L> {
-    /// The node and all below it, in preorder, a line each: two spaces a level, the name of the
-    /// kind, the range, and after a token's its text, quoted. A text of 25 bytes or more is cut at
-    /// its first character boundary from byte 21 on, and ` ...` stands after it.
+    /// Returns a line for the node and for each descendant, in preorder: two spaces for each level,
+    /// the name of the kind, the range, and for a token its text, quoted. A text of 25 bytes or
+    /// more is cut at its first character boundary from byte 21 on, and ` ...` follows.
+    ///
+    /// # Errors
+    ///
+    /// [`AllocError`] if an allocation fails or a reference count overflows.
     pub fn debug_tree(&self, alloc: Global) -> Result<String, AllocError>
         ensures { IfOk result (λ s. IfSome
             (lines_of (λ raw. L.name_of (L.from_raw raw)) 0 (walk (Node self.now)))

@@ -1,4 +1,4 @@
-//! What cursors print as: their texts.
+//! Display of cursors: their texts.
 ghost use Rattle.std.specs.Prelude.{◌+◌, take, drop, Some};
 ghost use Rattle.std.specs.Fmt.{WritesOnOk};
 ghost use Rattle.rowan_green.specs.Forest.{tree_text};
@@ -28,8 +28,8 @@ impl<L: Language> fmt::Display for SyntaxToken<L> {
     }
 }
 
-/// Writes `len` bytes of a node's text, those after the first `skip`. Goes down only where these
-/// bytes are.
+/// Writes `len` bytes of a node's text, after the first `skip` bytes. Descends only into nodes that
+/// have some of these bytes.
 fn write_part<W: fmt::Write>(
     node: &GreenNodeRef<'_>,
     skip: usize,

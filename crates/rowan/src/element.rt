@@ -1,4 +1,4 @@
-//! What is asked of an element, be it a node or a token.
+//! Functions that nodes and tokens have in common.
 ghost use Rattle.std.specs.Prelude.{◌≡◌, IfOk};
 ghost use Rattle.rowan_green.specs.declared.utility_types.NodeOrToken.TheVariants.{Node, Token};
 ghost use Rattle.rowan.specs.Place.{above, kind_at, start_of, end_of, index_of, top_of};
@@ -10,42 +10,63 @@ use crate::language::Language;
 use rowan_green::{NodeOrToken, TextRange};
 use std::alloc::{AllocError, Global};
 
-/// The calls of a `SyntaxElement`. `NodeOrToken` is a type of another crate, so they come as a
-/// trait.
+/// The functions of a `SyntaxElement`. They are in a trait since `NodeOrToken` is a type of another
+/// crate.
 pub trait ElementExt<L: Language> {
     /// The cursor of the element.
     ghost cursor: { Self → Cursor };
 
-    /// Its kind, as the language reads it.
+    /// Returns the kind.
     fn kind(&self) -> L::Kind
         ensures { result ≡ L.from_raw (kind_at (place_in (cursor self.now))) };
 
-    /// Returns its range in the text of the tree.
+    /// Returns the range in the text of the tree, in bytes.
     fn text_range(&self) -> TextRange
         ensures start { result.start.0 ≡ start_of (place_in (cursor self.now)) }
         ensures end { result.end.0 ≡ end_of (place_in (cursor self.now)) };
 
-    /// Its number among its parent's children, nodes and tokens alike; 0 for a root.
+    /// Returns the index among the parent's children, 0 for a root.
     fn index(&self) -> usize
         ensures { result ≡ index_of (place_in (cursor self.now)) };
 
-    /// The parent: none of a root.
+    /// Returns the parent, or `None` for a root.
+    ///
+    /// # Errors
+    ///
+    /// [`AllocError`] if a reference count overflows.
     fn parent(&self) -> Result<Option<SyntaxNode<L>>, AllocError>
         ensures { IfOk result (λ r. r ≡ above (place_in (cursor self.now))) };
 
-    /// The parent, that one's parent, and so on up to the root; a node begins with itself.
+    /// Returns an iterator over the ancestors, up to the root. For a node, it starts with the node
+    /// itself; for a token, with its parent.
+    ///
+    /// # Errors
+    ///
+    /// [`AllocError`] if a reference count overflows.
     fn ancestors(&self) -> Result<Ancestors<L>, AllocError>
         ensures { IfOk result (λ a. a ≡ element_ancestors (cursor self.now)) };
 
-    /// The root of the tree.
+    /// Returns the root of the tree.
+    ///
+    /// # Errors
+    ///
+    /// [`AllocError`] if a reference count overflows.
     fn tree_top(&self) -> Result<SyntaxNode<L>, AllocError>
         ensures { IfOk result (λ r. r ≡ top_of (place_in (cursor self.now))) };
 
-    /// The sibling right after it, node or token: none of a root and of the last child.
+    /// Returns the next sibling, node or token; `None` for a root and for the last child.
+    ///
+    /// # Errors
+    ///
+    /// [`AllocError`] if an allocation fails or a reference count overflows.
     fn next_sibling_or_token(&self, alloc: Global) -> Result<Option<SyntaxElement<L>>, AllocError>
         ensures { IfOk result (λ r. r ≡ first (siblings_after (place_in (cursor self.now)))) };
 
-    /// The sibling right before it, node or token: none of a root and of the first child.
+    /// Returns the previous sibling, node or token; `None` for a root and for the first child.
+    ///
+    /// # Errors
+    ///
+    /// [`AllocError`] if an allocation fails or a reference count overflows.
     fn prev_sibling_or_token(&self, alloc: Global) -> Result<Option<SyntaxElement<L>>, AllocError>
         ensures { IfOk result (λ r. r ≡ first (siblings_before (place_in (cursor self.now)))) };
 }

@@ -1,4 +1,4 @@
-//! Equality and hashing of cursors that know their language's kinds.
+//! Equality and hashing of cursors with the kinds of their language.
 ghost use Rattle.std.specs.Prelude.{◌≡◌, ◌++◌};
 ghost use Rattle.std.specs.Cmp.{partial_equiv_from_equiv};
 ghost use Rattle.std.specs.Hash as fed;
@@ -15,7 +15,7 @@ impl<L: Language> PartialEq for SyntaxNode<L> {
 
     ghost laws = { partial_equiv_from_equiv same_place-equiv };
 
-    /// Equal root terms and equal paths.
+    /// Returns `true` if the root terms and the paths are equal.
     fn eq(&self, other: &SyntaxNode<L>) -> bool {
         self.cursor() == other.cursor()
     }
@@ -40,7 +40,7 @@ impl<L: Language> PartialEq for SyntaxToken<L> {
 
     ghost laws = { partial_equiv_from_equiv same_place-equiv };
 
-    /// Equal root terms and equal paths.
+    /// Returns `true` if the root terms and the paths are equal.
     fn eq(&self, other: &SyntaxToken<L>) -> bool {
         self.cursor() == other.cursor()
     }

@@ -1,4 +1,4 @@
-//! Why a call on cursors was refused.
+//! The error type of this crate.
 use std::alloc::AllocError;
 use std::error::Error;
 use std::fmt;
@@ -8,7 +8,7 @@ use std::fmt;
 pub enum CursorError {
     /// No node has the kind and the range.
     NotFound = 1,
-    /// A length in bytes or a count of children is past `u32`.
+    /// A length in bytes or a number of children exceeds `u32::MAX`.
     TooLong = 2,
     /// Out of memory.
     NoMemory = 3,

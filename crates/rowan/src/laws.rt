@@ -1,18 +1,19 @@
-//! Laws of the definitions. Each is the contract of a function that makes no call.
+//! Laws of the definitions. Each is the contract of a function with an empty body.
 ghost use Rattle.rowan.specs.Laws.{TextsAreSlices, WalksAreWords, TokensStandInOrder};
 
-/// The text at a place is the slice of the root's text, in bytes, from where it starts to where it
-/// ends.
+/// States that the text at a place is a slice of the root's text: the bytes from the start of the
+/// place to its end.
 pub fn texts_are_slices()
     ensures { TextsAreSlices }
 {}
 
-/// The walk through an element, without its places, is the word of calls that builds the element.
+/// States that the walk through an element, without its places, is the word of the calls that build
+/// the element.
 pub fn walks_are_words()
     ensures { WalksAreWords }
 {}
 
-/// The tokens of a tree are those before one of them, that one, and those after it.
+/// States that the tokens of a tree are those before one of them, that token, and those after it.
 pub fn tokens_stand_in_order()
     ensures { TokensStandInOrder }
 {}

@@ -10,7 +10,6 @@
 //! Each allocates at most one small block; a token allocates nothing, and cloning does not
 //! allocate. Steps to a sibling that is a node skip the tokens between, one by one. Comparing two
 //! cursors with equal up-paths reads both roots.
-//! roots.
 //!
 //! Cursors are dropped, and their up-paths compared and hashed, by loops. Finding the character at
 //! an offset descends by a loop, too. Comparing a text with a string nests calls to the binary

@@ -61,6 +61,12 @@ impl<L: Language> PreorderWithTokens<L> {
 
     /// Skips the remaining descendants of the innermost element that was entered and not yet left;
     /// the next event leaves that element. At the start of a walk, skips the whole walk.
+    ///
+    /// # Errors
+    ///
+    /// [`AllocError`] if a reference count overflows.
+    ///
+    /// On error, `self` is unchanged.
     pub fn skip_subtree(&mut self) -> Result<(), AllocError>
         ensures ok { IfOk result (λ _. self.new ≡ skipped 0 self.old) }
         ensures err { OnErr result (self.new ≡ self.old) }
@@ -99,7 +105,7 @@ impl<L: Language> Iterator for PreorderWithTokens<L> {
     }
 }
 
-/// The next event of a node in a walk.
+/// Returns the next event of a node in a walk.
 fn next_node_event<L: Language>(
     walk: &mut PreorderWithTokens<L>,
 ) -> Option<Result<WalkEvent<SyntaxNode<L>>, AllocError>>
@@ -121,7 +127,7 @@ fn next_node_event<L: Language>(
     None
 }
 
-/// The next element that a walk enters.
+/// Returns the next element that a walk enters.
 fn next_entered<L: Language>(
     walk: &mut PreorderWithTokens<L>,
 ) -> Option<Result<SyntaxElement<L>, AllocError>>
@@ -138,7 +144,7 @@ fn next_entered<L: Language>(
     None
 }
 
-/// The next node that a walk enters.
+/// Returns the next node that a walk enters.
 fn next_entered_node<L: Language>(
     walk: &mut PreorderWithTokens<L>,
 ) -> Option<Result<SyntaxNode<L>, AllocError>>
@@ -155,7 +161,8 @@ fn next_entered_node<L: Language>(
     None
 }
 
-/// The events of a node and of the nodes below it. A contract sees all events that are left.
+/// An iterator over the events of a node and of its descendants that are nodes. Model: all
+/// remaining events, also those of tokens.
 #[derive(Drop)]
 pub struct Preorder<L> {
     walk: PreorderWithTokens<L>,
@@ -170,7 +177,13 @@ impl<L> Model for Preorder<L> {
 }
 
 impl<L: Language> Preorder<L> {
-    /// As in a walk with tokens.
+    /// Skips the remaining descendants, as [`PreorderWithTokens::skip_subtree`] does.
+    ///
+    /// # Errors
+    ///
+    /// [`AllocError`] if a reference count overflows.
+    ///
+    /// On error, `self` is unchanged.
     pub fn skip_subtree(&mut self) -> Result<(), AllocError>
         ensures ok { IfOk result (λ _. self.new ≡ skipped 0 self.old) }
         ensures err { OnErr result (self.new ≡ self.old) }
@@ -191,8 +204,8 @@ impl<L: Language> Iterator for Preorder<L> {
     }
 }
 
-/// A node and all nodes below it, each before those below it. A contract sees all events that are
-/// left.
+/// An iterator over a node and its descendants that are nodes, in preorder. Model: all remaining
+/// events, also those of tokens.
 #[derive(Drop)]
 pub struct Descendants<L> {
     walk: PreorderWithTokens<L>,
@@ -218,8 +231,8 @@ impl<L: Language> Iterator for Descendants<L> {
     }
 }
 
-/// A node and all elements below it, each before those below it. A contract sees all events that
-/// are left.
+/// An iterator over a node and its descendants, nodes and tokens, in preorder. Model: all remaining
+/// events.
 #[derive(Drop)]
 pub struct DescendantsWithTokens<L> {
     walk: PreorderWithTokens<L>,
@@ -247,6 +260,10 @@ impl<L: Language> Iterator for DescendantsWithTokens<L> {
 
 impl<L: Language> SyntaxNode<L> {
     /// Returns a walk through the node and its descendants, nodes and tokens.
+    ///
+    /// # Errors
+    ///
+    /// [`AllocError`] if a reference count overflows.
     pub fn preorder_with_tokens(&self, alloc: Global) -> Result<PreorderWithTokens<L>, AllocError>
         ensures { IfOk result (λ w. w ≡ walk (Node self.now)) }
     {
@@ -254,6 +271,10 @@ impl<L: Language> SyntaxNode<L> {
     }
 
     /// Returns a walk through the node and its descendants that are nodes.
+    ///
+    /// # Errors
+    ///
+    /// [`AllocError`] if a reference count overflows.
     pub fn preorder(&self, alloc: Global) -> Result<Preorder<L>, AllocError>
         ensures { IfOk result (λ w. w ≡ walk (Node self.now)) }
     {
@@ -261,7 +282,11 @@ impl<L: Language> SyntaxNode<L> {
         Ok(Preorder { walk })
     }
 
-    /// The node and all nodes below it.
+    /// Returns an iterator over the node and its descendants that are nodes.
+    ///
+    /// # Errors
+    ///
+    /// [`AllocError`] if a reference count overflows.
     pub fn descendants(&self, alloc: Global) -> Result<Descendants<L>, AllocError>
         ensures { IfOk result (λ w. w ≡ walk (Node self.now)) }
     {
@@ -269,7 +294,11 @@ impl<L: Language> SyntaxNode<L> {
         Ok(Descendants { walk })
     }
 
-    /// The node and all elements below it.
+    /// Returns an iterator over the node and its descendants, nodes and tokens.
+    ///
+    /// # Errors
+    ///
+    /// [`AllocError`] if a reference count overflows.
     pub fn descendants_with_tokens(
         &self,
         alloc: Global,

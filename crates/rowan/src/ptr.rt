@@ -11,7 +11,8 @@ use crate::language::Language;
 use rowan_green::TextRange;
 use std::alloc::{AllocError, Global};
 
-/// A kind and a range, by which a node is found again in its tree, or in another of the same shape.
+/// A pointer to a node: a kind and a range, by which the node is found again in its tree, or in
+/// another tree of the same shape.
 #[derive(Clone, PartialEq, Eq, Hash, Debug, Drop)]
 pub struct SyntaxNodePtr<L: Language> {
     pub kind: L::Kind,
@@ -19,7 +20,7 @@ pub struct SyntaxNodePtr<L: Language> {
 }
 
 impl<L: Language> SyntaxNodePtr<L> {
-    /// A pointer to a node: its kind and range.
+    /// Returns a pointer to a node: its kind and range.
     pub fn new(node: &SyntaxNode<L>) -> SyntaxNodePtr<L>
         ensures kind { result.kind ≡ L.from_raw (kind_at node.now) }
         ensures start { result.range.start.0 ≡ start_of node.now }
@@ -31,22 +32,26 @@ impl<L: Language> SyntaxNodePtr<L> {
         }
     }
 
-    /// The kind of the node that it was made from.
+    /// Returns the kind of the node from which the pointer was created.
     pub fn kind(&self) -> L::Kind
         ensures { result ≡ self.now.kind }
     {
         self.kind
     }
 
-    /// The bytes of the node that it was made from, in the text of its tree.
+    /// Returns the range of the node from which the pointer was created, in the text of its tree.
     pub fn text_range(&self) -> TextRange
         ensures { result ≡ self.now.range }
     {
         self.range
     }
 
-    /// The first node in preorder of this kind and range, in the tree of this root. `NotFound`
-    /// where there is none, and where the node given is not a root.
+    /// Returns the first node in preorder with this kind and range in the tree of `root`.
+    ///
+    /// # Errors
+    ///
+    /// - [`CursorError::NotFound`] if there is no such node, or if `root` is not a root.
+    /// - [`CursorError::NoMemory`] if an allocation fails or a reference count overflows.
     pub fn to_node(&self, alloc: Global, root: &SyntaxNode<L>) -> Result<SyntaxNode<L>, CursorError>
         ensures { FindsOrRefuses (λ p. p)
             (pointed_at L.Kind.eq L.from_raw self.now.kind self.now.range.start.0 self.now.range.end.0 root.now)
@@ -55,8 +60,12 @@ impl<L: Language> SyntaxNodePtr<L> {
         self.try_to_node(alloc, root)?.ok_or(CursorError::NotFound)
     }
 
-    /// The first node in preorder of this kind and range, in the tree of this root; `None` where
-    /// there is none, and where the node given is not a root.
+    /// Returns the first node in preorder with this kind and range in the tree of `root`; `None` if
+    /// there is no such node, or if `root` is not a root.
+    ///
+    /// # Errors
+    ///
+    /// [`AllocError`] if an allocation fails or a reference count overflows.
     pub fn try_to_node(
         &self,
         alloc: Global,
@@ -73,7 +82,7 @@ impl<L: Language> SyntaxNodePtr<L> {
     }
 }
 
-/// Whether a node has this kind and range.
+/// Returns `true` if a node has this kind and range.
 fn is_at<L: Language>(node: &cursor::SyntaxNode, kind: L::Kind, range: TextRange) -> bool
     ensures { result ≡ is_at L.Kind.eq L.from_raw kind range.start.0 range.end.0 node.now }
 {
@@ -82,7 +91,7 @@ fn is_at<L: Language>(node: &cursor::SyntaxNode, kind: L::Kind, range: TextRange
         && node.end() == range.end().0
 }
 
-/// The first node in preorder of this kind and range, from this node on.
+/// Returns the first node in preorder with this kind and range, at or below `node`.
 fn node_at<L: Language>(
     alloc: Global,
     node: &cursor::SyntaxNode,

@@ -1,4 +1,4 @@
-//! Trees with one element replaced.
+//! Replacing one element of a tree.
 ghost use Rattle.std.specs.Prelude.{◌≡◌, IfOk, IfErr, OnOk};
 ghost use Rattle.rowan_green.specs.Refusal.{RefusesUnless};
 ghost use Rattle.rowan.specs.Place.{kind_at};
@@ -10,7 +10,7 @@ use crate::language::Language;
 use rowan_green::{GreenError, GreenNode, GreenToken, NodeOrToken};
 use std::alloc::Global;
 
-/// The root of the tree with the node there replaced.
+/// Returns the root of the tree with the node at `place` replaced.
 fn replaced(
     alloc: Global,
     place: &cursor::SyntaxNode,
@@ -34,8 +34,13 @@ fn replaced(
 }
 
 impl<L: Language> SyntaxNode<L> {
-    /// The root of the tree with this node replaced by another of its kind. The cursor stays as it
-    /// is.
+    /// Returns the root of the tree with this node replaced by another of its kind. The cursor is
+    /// unchanged.
+    ///
+    /// # Errors
+    ///
+    /// - [`GreenError::TooLong`] if a node of the new tree would have a text of 2^32 bytes or more.
+    /// - [`GreenError::NoMemory`] if an allocation fails or a reference count overflows.
     pub fn replace_with(
         &self,
         alloc: Global,
@@ -51,7 +56,7 @@ impl<L: Language> SyntaxNode<L> {
     }
 }
 
-/// The root of the tree with the token there replaced.
+/// Returns the root of the tree with the token at `place` replaced.
 fn token_replaced(
     alloc: Global,
     place: &cursor::SyntaxToken,
@@ -72,8 +77,13 @@ fn token_replaced(
 }
 
 impl<L: Language> SyntaxToken<L> {
-    /// The root of the tree with this token replaced by another of its kind. The cursor stays as it
-    /// is.
+    /// Returns the root of the tree with this token replaced by another of its kind. The cursor is
+    /// unchanged.
+    ///
+    /// # Errors
+    ///
+    /// - [`GreenError::TooLong`] if a node of the new tree would have a text of 2^32 bytes or more.
+    /// - [`GreenError::NoMemory`] if an allocation fails or a reference count overflows.
     pub fn replace_with(
         &self,
         alloc: Global,

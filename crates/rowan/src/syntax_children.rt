@@ -1,4 +1,4 @@
-//! The children of a node, as iterators.
+//! Iterators over the children of a node.
 ghost use Rattle.std.specs.Prelude.{◌≡◌, IfOk, List, length};
 ghost use Rattle.std.specs.Coded.{codes};
 ghost use Rattle.std.specs.Iterator.{at_most};
@@ -15,7 +15,7 @@ use crate::language::Language;
 use std::alloc::{AllocError, Global};
 use std::marker::{Model, PhantomData};
 
-/// The children of a node, nodes and tokens. A contract sees those that are left.
+/// An iterator over the children of a node, nodes and tokens. Model: the remaining children.
 #[derive(Drop)]
 pub struct SyntaxElementChildren<L> {
     alloc: Global,
@@ -81,7 +81,7 @@ impl<L: Language> Iterator for SyntaxElementChildren<L> {
     }
 }
 
-/// The children of a node that are nodes. A contract sees those that are left.
+/// An iterator over the children of a node that are nodes. Model: the remaining children.
 #[derive(Drop)]
 pub struct SyntaxNodeChildren<L> {
     alloc: Global,
@@ -148,14 +148,22 @@ impl<L: Language> Iterator for SyntaxNodeChildren<L> {
 }
 
 impl<L: Language> SyntaxNode<L> {
-    /// The children that are nodes, in order.
+    /// Returns an iterator over the children that are nodes, in order.
+    ///
+    /// # Errors
+    ///
+    /// [`AllocError`] if a reference count overflows.
     pub fn children(&self, alloc: Global) -> Result<SyntaxNodeChildren<L>, AllocError>
         ensures { IfOk result (λ c. c ≡ nodes (children self.now)) }
     {
         Ok(SyntaxNodeChildren::new(alloc, self.cursor().clone()?))
     }
 
-    /// The children in order, nodes and tokens.
+    /// Returns an iterator over the children in order, nodes and tokens.
+    ///
+    /// # Errors
+    ///
+    /// [`AllocError`] if a reference count overflows.
     pub fn children_with_tokens(
         &self,
         alloc: Global,

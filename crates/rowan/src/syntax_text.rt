@@ -11,7 +11,7 @@ use rowan_green::{GreenNode, TextRange, TextSize};
 use std::alloc::AllocError;
 use std::marker::Model;
 
-/// A part of the text of a tree, from one character boundary to another. A contract sees its bytes.
+/// A part of the text of a tree, from one character boundary to another. Model: its bytes.
 #[derive(Drop)]
 pub struct SyntaxText {
     green: GreenNode,
@@ -32,7 +32,7 @@ impl Model for SyntaxText {
 }
 
 impl SyntaxText {
-    /// The whole text of a node.
+    /// Returns the whole text of a node.
     fn of(green: GreenNode) -> SyntaxText
         ensures { result ≡ tree_text green }
     {
@@ -58,21 +58,26 @@ impl SyntaxText {
         }
     }
 
-    /// Its length in bytes.
+    /// Returns the length, in bytes.
     pub fn len(&self) -> TextSize
         ensures { result.0 ≡ length self.now }
     {
         TextSize(self.end - self.start)
     }
 
-    /// Whether it has no bytes.
+    /// Returns `true` if the text has no bytes.
     pub fn is_empty(&self) -> bool
         ensures { result ≡ (length self.now == 0) }
     {
         self.start == self.end
     }
 
-    /// The part of the text from one character boundary to another. Clones no text.
+    /// Returns the part of the text in `range`, whose ends are character boundaries. Copies no
+    /// text.
+    ///
+    /// # Errors
+    ///
+    /// [`AllocError`] if a reference count overflows.
     pub fn slice(&self, range: TextRange) -> Result<SyntaxText, AllocError>
         requires begins { IsCut self.now range.start.0 }
         requires ends { IsCut self.now range.end.0 }
@@ -87,7 +92,11 @@ impl SyntaxText {
 }
 
 impl<L: Language> SyntaxNode<L> {
-    /// The text of the node.
+    /// Returns the text of the node. Copies no text.
+    ///
+    /// # Errors
+    ///
+    /// [`AllocError`] if a reference count overflows.
     pub fn text(&self) -> Result<SyntaxText, AllocError>
         ensures { IfOk result (λ t. t ≡ text_at self.now) }
     {

@@ -1,4 +1,4 @@
-//! Bytes are compared with texts of trees without a copy.
+//! Comparing bytes with texts of trees, without a copy.
 ghost use Rattle.std.specs.Prelude.{◌≡◌, ◌+◌, ◌≤◌, ◌&&◌, max, take, drop, length};
 ghost use Rattle.std.specs.Str.{bytes_eq};
 ghost use Rattle.rowan_green.specs.Forest.{tree_text, tree_count};
@@ -8,8 +8,8 @@ ghost use Rattle.rowan.specs.Matching.{outcome, pending_count};
 use crate::child_parts::{ChildPart, ChildParts};
 use rowan_green::{GreenElementRef, GreenNodeRef, NodeOrToken};
 
-/// A comparison of bytes with a text: the answer, or the node on whose text after an offset it
-/// depends, with the bytes that are to be there.
+/// The result of comparing bytes with a text, or the node on whose text after an offset it depends,
+/// with the expected bytes.
 #[derive(Drop)]
 enum Matching<'a> {
     Different,
@@ -20,8 +20,8 @@ enum Matching<'a> {
 /// Returns `true` if the node's text has these bytes after the first `skip`. Reads only the nodes
 /// that would have them.
 ///
-/// A loop goes on with one child, and only the others are compared by calls. Those have at most
-/// half of the bytes each, so the calls nest to the logarithm of their number.
+/// A loop continues with one child; calls compare the others. Those have at most half of the bytes
+/// each, so the calls nest to the logarithm of the number of bytes.
 #[cycle(has_bytes)]
 pub(crate) fn has_bytes<'a>(node: GreenNodeRef<'a>, skip: usize, bytes: &'a [u8]) -> bool
     ensures { result
@@ -51,7 +51,8 @@ fn text_has_bytes(text: &[u8], skip: usize, bytes: &[u8]) -> bool
     &rest[..bytes.len().min(rest.len())] == bytes
 }
 
-/// Compares the bytes with the texts of the children that would have them, except one node's.
+/// Compares the bytes with the texts of the children that would have them, except the text of one
+/// node.
 #[cycle(has_bytes)]
 fn children_have<'a>(node: &GreenNodeRef<'a>, skip: usize, bytes: &'a [u8]) -> Matching<'a>
     ensures outcome { outcome result
@@ -83,7 +84,7 @@ fn children_have<'a>(node: &GreenNodeRef<'a>, skip: usize, bytes: &'a [u8]) -> M
     }
 }
 
-/// Compares bytes with a child's text, too.
+/// Compares bytes with one more child's text.
 #[cycle(has_bytes)]
 fn with_child<'a>(
     matching: Matching<'a>,
@@ -109,7 +110,8 @@ fn with_child<'a>(
     }
 }
 
-/// Compares bytes with a node's text, too. If a node is pending, it compares the fewer bytes.
+/// Compares bytes with one more node's text. If a node is pending already, makes the comparison
+/// with fewer bytes.
 #[cycle(has_bytes)]
 fn with_node<'a>(
     matching: Matching<'a>,

@@ -7,7 +7,7 @@ use crate::chunks::ChunkReader;
 use crate::syntax_text::SyntaxText;
 use std::marker::PhantomData;
 
-/// A fold on its way: what it has so far, and what it calls.
+/// A fold in progress: the result of the previous call, and the function to call.
 #[derive(Drop)]
 struct Folding<T, E, F> {
     total: T,
@@ -50,7 +50,7 @@ impl<T: Drop, E, F: FnMut(T, &str) -> Result<T, E> + Drop> ChunkReader for Foldi
     }
 }
 
-/// What is called at each piece, and may refuse.
+/// A function that is called with each piece, and may return an error.
 #[derive(Drop)]
 struct Visiting<E, F> {
     call: F,
@@ -83,7 +83,7 @@ impl<E, F: FnMut(&str) -> Result<(), E> + Drop> ChunkReader for Visiting<E, F> {
     }
 }
 
-/// What is called at each piece.
+/// A function that is called with each piece.
 #[derive(Drop)]
 struct Calling<F> {
     call: F,
@@ -115,7 +115,7 @@ impl<F: FnMut(&str) + Drop> ChunkReader for Calling<F> {
     }
 }
 
-/// Calls `call` at a piece.
+/// Calls `call` with a piece.
 fn call_at<R, F: FnMut(&str) -> R>(call: &mut F, chunk: &str) -> R
     requires { TakesAt F.FnMut call.old chunk.now }
     ensures { CalledAt F.FnMut call.old chunk.now result call.new }
@@ -123,7 +123,7 @@ fn call_at<R, F: FnMut(&str) -> R>(call: &mut F, chunk: &str) -> R
     call(chunk)
 }
 
-/// Calls `call` at what was made so far and at a piece.
+/// Calls `call` with the result of the previous call and a piece.
 fn call_with<T, E, F: FnMut(T, &str) -> Result<T, E>>(
     call: &mut F,
     total: T,
@@ -138,7 +138,11 @@ fn call_with<T, E, F: FnMut(T, &str) -> Result<T, E>>(
 impl SyntaxText {
     /// Calls `f` on the pieces of the text in order, each time with the result of the previous
     /// call, the first time with `init`. No piece is empty, and together they are the text. Stops
-    /// at the first error and returns it. Copies no text.
+    /// at the first error. Copies no text.
+    ///
+    /// # Errors
+    ///
+    /// The first error that a call of `f` returns.
     pub fn try_fold_chunks<T: Drop, E, F: FnMut(T, &str) -> Result<T, E> + Drop>(
         &self,
         init: T,
@@ -158,8 +162,12 @@ impl SyntaxText {
         }
     }
 
-    /// Calls `f` on the pieces of the text in order, as [`SyntaxText::try_fold_chunks`] does, until
-    /// one call refuses.
+    /// Calls `f` on the pieces of the text in order, as [`SyntaxText::try_fold_chunks`] does. Stops
+    /// at the first error.
+    ///
+    /// # Errors
+    ///
+    /// The first error that a call of `f` returns.
     pub fn try_for_each_chunk<E, F: FnMut(&str) -> Result<(), E> + Drop>(
         &self,
         f: F,

@@ -1,4 +1,4 @@
-//! Texts of trees are compared without a copy.
+//! Comparing texts of trees, without a copy.
 ghost use Rattle.std.specs.Prelude.{◌≡◌, ◌+◌, ◌^◌, ◌≤◌, ◌<◌, ◌⊎◌, true, false, take, drop, length, MatchOption};
 ghost use Rattle.std.specs.Bool.{OnTrue};
 ghost use Rattle.std.specs.Str.{bytes_eq};
@@ -12,8 +12,8 @@ use crate::syntax_text::SyntaxText;
 use crate::text_bytes::has_bytes;
 use rowan_green::{GreenElementRef, GreenNodeRef, GreenTokenRef, NodeOrToken};
 
-/// A stretch of a node's text, read from its front: `left` bytes that begin `offset` bytes after
-/// the start of the child of number `index`.
+/// A part of a node's text, read from its start: `left` bytes, which start `offset` bytes after the
+/// start of child `index`.
 #[derive(Drop)]
 struct Stretch<'a> {
     node: GreenNodeRef<'a>,
@@ -71,8 +71,8 @@ impl<'a> Stretch<'a> {
     }
 }
 
-/// Compares two tokens in which stretches begin, as far as both have bytes there, and passes what
-/// is the same.
+/// Compares two tokens in which the parts start, as far as both parts have bytes there, and skips
+/// equal bytes. Returns `false` if the bytes differ.
 fn same_tokens(
     a: &mut Stretch<'_>,
     here: &GreenTokenRef<'_>,
@@ -98,8 +98,8 @@ fn same_tokens(
     true
 }
 
-/// Compares what the first stretch has in the node that it begins in with what the second has, as
-/// far as both have bytes, and passes what is the same.
+/// Compares the bytes that `a` has in `node`, in which it starts, with those of `b`, as far as both
+/// have bytes, and skips equal bytes. Returns `false` if the bytes differ.
 #[cycle(same)]
 fn same_within(a: &mut Stretch<'_>, node: GreenNodeRef<'_>, b: &mut Stretch<'_>) -> bool
     requires sound { IsStretch a.old × IsStretch b.old }
@@ -122,7 +122,8 @@ fn same_within(a: &mut Stretch<'_>, node: GreenNodeRef<'_>, b: &mut Stretch<'_>)
     true
 }
 
-/// Compares two stretches as far as both have bytes, and passes what is the same.
+/// Compares two parts as far as both have bytes, and skips equal bytes. Returns `false` if the
+/// bytes differ.
 #[cycle(same)]
 fn same_front(a: &mut Stretch<'_>, b: &mut Stretch<'_>) -> bool
     requires sound { IsStretch a.old × IsStretch b.old }
@@ -139,9 +140,9 @@ fn same_front(a: &mut Stretch<'_>, b: &mut Stretch<'_>) -> bool
     }
 }
 
-/// Compares two elements in which stretches begin, as far as both have bytes there, and passes what
-/// is the same. Goes down in the longer node: the other stretch goes on from where it is, so that
-/// what lies within that node is not looked up again.
+/// Compares two elements in which the parts start, as far as both parts have bytes there, and skips
+/// equal bytes. Returns `false` if the bytes differ. Descends into the longer node. The other part
+/// continues from its position, so that its elements are not searched again.
 #[cycle(same)]
 fn same_heads(
     a: &mut Stretch<'_>,
@@ -170,7 +171,7 @@ fn same_heads(
 }
 
 impl SyntaxText {
-    /// Whether the text is this one.
+    /// Returns `true` if the text is equal to `text`.
     pub fn eq_str(&self, text: &str) -> bool
         ensures { result ≡ bytes_eq self.now text.now }
     {
@@ -199,8 +200,8 @@ impl PartialEq for SyntaxText {
 
     /// Returns `true` if the texts are equal, however their trees divide them. Unless they start at
     /// equal offsets of equal nodes, they are compared side by side, from the first byte on. A node
-    /// that reaches past the end of one in the other tree is entered again there, and its children
-    /// before that are skipped by their lengths.
+    /// that ends after a node of the other tree is entered again there, and its earlier children
+    /// are skipped by their lengths.
     fn eq(&self, other: &SyntaxText) -> bool {
         let part = self.part();
         let there = other.part();

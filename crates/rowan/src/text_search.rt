@@ -8,7 +8,7 @@ use crate::chunks::ChunkReader;
 use crate::syntax_text::SyntaxText;
 use rowan_green::{GreenNodeRef, NodeOrToken, TextSize};
 
-/// A search for a character, which stops at its offset.
+/// A search for a character, which stops with the offset of the character.
 #[derive(Drop)]
 struct CharSearch {
     wanted: char,
@@ -43,7 +43,8 @@ impl ChunkReader for CharSearch {
 }
 
 impl SyntaxText {
-    /// The byte at which the character first stands. Goes down only where the text is.
+    /// Returns the offset of the first occurrence of `wanted`, in bytes. Descends only into nodes
+    /// that have some of the text.
     pub fn find_char(&self, wanted: char) -> Option<TextSize>
         ensures { MatchOption result (Lacks wanted self.now) (λ n. FirstAt wanted self.now n.0) }
     {
@@ -53,15 +54,15 @@ impl SyntaxText {
         }
     }
 
-    /// Whether the character stands anywhere in the text.
+    /// Returns `true` if the text contains `wanted`.
     pub fn contains_char(&self, wanted: char) -> bool
         ensures { MatchBool result ((n : ℕ) × FirstAt wanted self.now n) (Lacks wanted self.now) }
     {
         self.find_char(wanted).is_some()
     }
 
-    /// The character that begins at this byte of the text, if one does: none begins at the text's
-    /// end, after it, or inside another. Goes down one path.
+    /// Returns the character that starts at byte `offset` of the text, if any: no character starts
+    /// at the text's end, after it, or inside another. Descends one path.
     pub fn char_at(&self, offset: TextSize) -> Option<char>
         ensures { IsCharAt self.now offset.0 result }
     {
@@ -102,7 +103,7 @@ fn char_in(node: GreenNodeRef<'_>, byte: u32, end: u32) -> Option<char>
     }
 }
 
-/// The character that begins at this byte.
+/// Returns the character that starts at offset `byte`, if any.
 fn char_of(text: &str, byte: u32) -> Option<char>
     ensures { IsCharAt text.now byte result }
 {

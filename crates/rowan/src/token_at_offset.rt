@@ -1,4 +1,4 @@
-//! The tokens at an offset of the text: two paths down at most.
+//! The tokens at an offset of the text: the search descends at most two paths.
 ghost use Rattle.std.specs.Prelude.{◌≡◌, ◌≤◌, IfOk};
 ghost use Rattle.rowan.specs.Place.{start_of, end_of};
 ghost use Rattle.rowan.specs.Around.{first};
@@ -11,7 +11,7 @@ use crate::utility_types::TokenAtOffset;
 use rowan_green::{NodeOrToken, TextSize};
 use std::alloc::{AllocError, Global};
 
-/// The token below a node that has this byte of the tree's text.
+/// Returns the token below a node that has the byte at offset `byte` of the tree's text.
 fn token_with_byte(
     alloc: Global,
     node: &cursor::SyntaxNode,
@@ -30,7 +30,7 @@ fn token_with_byte(
     }
 }
 
-/// The token below a node that has the byte before an offset.
+/// Returns the token below a node that has the byte before `offset` of the tree's text.
 fn token_before(
     alloc: Global,
     node: &cursor::SyntaxNode,
@@ -44,7 +44,7 @@ fn token_before(
     }
 }
 
-/// The tokens below a node that touch an offset.
+/// Returns the tokens below a node that touch `offset` of the tree's text.
 fn tokens_at(
     alloc: Global,
     node: &cursor::SyntaxNode,
@@ -71,8 +71,12 @@ fn tokens_at(
 }
 
 impl<L: Language> SyntaxNode<L> {
-    /// The tokens below the node that have text and touch an offset of the tree's text. The offset
-    /// lies in the node's range.
+    /// Returns the tokens below the node that have text and touch `offset`, an offset in the tree's
+    /// text. `offset` is within the node's range or at its end.
+    ///
+    /// # Errors
+    ///
+    /// [`AllocError`] if an allocation fails or a reference count overflows.
     pub fn token_at_offset(
         &self,
         alloc: Global,

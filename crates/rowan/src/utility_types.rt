@@ -6,7 +6,7 @@ ghost use Rattle.rowan.specs.Touching.{MatchTokens, MapsTokens, leftmost, rightm
 use std::iter::{ExactSizeIterator, FusedIterator};
 use std::mem;
 
-/// What a walk does next: it enters an element, or leaves it.
+/// An event of a walk: the walk enters an element, or leaves it.
 #[derive(Clone, Copy, PartialEq, Eq, Hash, Debug, Drop)]
 pub enum WalkEvent<T> {
     Enter(T),
@@ -27,15 +27,15 @@ impl<T> WalkEvent<T> {
     }
 }
 
-/// Which way siblings are walked.
+/// The direction in which siblings are visited.
 #[derive(Clone, Copy, PartialEq, Eq, Hash, Debug)]
 pub enum Direction {
     Next,
     Prev,
 }
 
-/// The tokens at an offset: none, one, or two between which the offset lies. As an iterator it
-/// gives them in order.
+/// The tokens at an offset: none, one, or two with the offset between them. As an iterator it
+/// yields them in order.
 #[derive(Clone, Debug, Drop)]
 pub enum TokenAtOffset<T> {
     None,
@@ -44,7 +44,7 @@ pub enum TokenAtOffset<T> {
 }
 
 impl<T> TokenAtOffset<T> {
-    /// What `f` makes of each.
+    /// Returns the tokens with `f` applied to each of them.
     pub fn map<U, F: Fn(T) -> U>(self, f: F) -> TokenAtOffset<U>
         requires { MatchTokens self ⊤ (F.pre f) (λ x y. F.pre f x × F.pre f y) }
         ensures { MapsTokens (F.post f) self result }
@@ -56,7 +56,7 @@ impl<T> TokenAtOffset<T> {
         }
     }
 
-    /// The only one, or of two the one further right.
+    /// Returns the only token, or the right one of two.
     pub fn right_biased(self) -> Option<T>
     where
         T: Drop,
@@ -69,7 +69,7 @@ impl<T> TokenAtOffset<T> {
         }
     }
 
-    /// The only one, or of two the one further left.
+    /// Returns the only token, or the left one of two.
     pub fn left_biased(self) -> Option<T>
     where
         T: Drop,

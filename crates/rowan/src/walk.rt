@@ -9,7 +9,7 @@ use crate::cursor_step::{next_sibling_of, parent_of};
 use rowan_green::NodeOrToken;
 use std::alloc::{AllocError, Global};
 
-/// An element that is entered or left next, and its depth below the start of the walk.
+/// The next element to enter or leave, and its depth below the start of the walk.
 #[derive(Drop)]
 pub struct Step {
     pub element: SyntaxElement,
@@ -17,7 +17,12 @@ pub struct Step {
     pub depth: u64,
 }
 
-/// The step after the one at this element.
+/// Returns the step after the one that enters `element`, or leaves it if `leaving`.
+///
+/// # Errors
+///
+/// [`AllocError`] if an allocation fails, a reference count overflows, or the depth would exceed
+/// `u64::MAX`.
 pub fn step_after(
     alloc: Global,
     element: &SyntaxElement,
@@ -98,8 +103,12 @@ fn step_after_leaving(
     }
 }
 
-/// In place of the step that would enter this element: the step that leaves its parent, or none at
-/// the start of the walk.
+/// Returns the step that replaces the one that would enter `element`: the step that leaves its
+/// parent, or `None` at the start of the walk.
+///
+/// # Errors
+///
+/// [`AllocError`] if a reference count overflows.
 pub fn step_past(element: &SyntaxElement, depth: u64) -> Result<Option<Step>, AllocError>
     ensures { IfOk result (λ s. left_by s ≡ skipped 0 (left_at false element.now depth)) }
 {

@@ -1,4 +1,4 @@
-//! Ways up to the root, compared and hashed without memory.
+//! Up-paths, compared and hashed without allocation.
 ghost use Rattle.std.specs.Prelude.{◌≡◌, fold, nat_eq};
 ghost use Rattle.std.specs.Cmp.Lexicographic.{pointwise};
 ghost use Rattle.rowan.specs.Same.{numbers_fed};
@@ -9,23 +9,23 @@ use crate::language::Language;
 use std::hash::{Hash, Hasher};
 
 impl<L: Language> SyntaxNode<L> {
-    /// Whether the numbers among siblings, from the node up to its root, are those of another node,
-    /// in whatever trees both stand.
+    /// Returns `true` if the up-path of the node, its indices among siblings up to the root, is
+    /// that of `other`. The nodes may be in different trees.
     pub fn has_way_of(&self, other: &SyntaxNode<L>) -> bool
         ensures { result ≡ pointwise nat_eq self.now.up other.now.up }
     {
         cursor::same_way(self.cursor(), other.cursor())
     }
 
-    /// Whether the numbers among siblings, from the node up to its root, are those of a token, in
-    /// whatever trees both stand.
+    /// Returns `true` if the up-path of the node is that of the token `other`. They may be in
+    /// different trees.
     pub fn has_way_of_token(&self, other: &SyntaxToken<L>) -> bool
         ensures { result ≡ pointwise nat_eq self.now.up other.now.up }
     {
         cursor::same_way_as_token(self.cursor(), other.cursor())
     }
 
-    /// Feeds a hash with the numbers among siblings, from the node up to its root.
+    /// Feeds the up-path of the node to a hasher: the indices among siblings, the innermost first.
     pub fn hash_way<H: Hasher>(&self, state: &mut H)
         ensures { state.new ≡ fold H.write state.old (numbers_fed self.now.up) }
     {
@@ -34,8 +34,8 @@ impl<L: Language> SyntaxNode<L> {
 }
 
 impl<L: Language> SyntaxToken<L> {
-    /// Whether the numbers among siblings, from the token up to its root, are those of another
-    /// token, in whatever trees both stand.
+    /// Returns `true` if the up-path of the token is that of `other`. The tokens may be in
+    /// different trees.
     pub fn has_way_of(&self, other: &SyntaxToken<L>) -> bool
         ensures { result ≡ pointwise nat_eq self.now.up other.now.up }
     {
@@ -43,7 +43,7 @@ impl<L: Language> SyntaxToken<L> {
         one.index() == two.index() && cursor::same_way(one.parent(), two.parent())
     }
 
-    /// Feeds a hash with the numbers among siblings, from the token up to its root.
+    /// Feeds the up-path of the token to a hasher: the indices among siblings, the innermost first.
     pub fn hash_way<H: Hasher>(&self, state: &mut H)
         ensures { state.new ≡ fold H.write state.old (numbers_fed self.now.up) }
     {

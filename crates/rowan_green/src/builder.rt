@@ -1,5 +1,5 @@
-//! A builder of green trees, in one arena for a tree: a node is opened, gets its tokens and nodes in
-//! order, and is closed.
+//! A builder of green trees, with one arena for each tree. A node is opened, gets its tokens and
+//! child nodes in order, and is closed.
 ghost use Rattle.std.specs.Prelude.{◌≡◌, ◌+◌, ◌-◌, ◌<◌, ◌≤◌, ◌^◌, ◌↔◌, length, IsTrue, IsOk, IfOk, IfErr, OnOk, OnErr, MatchOption, true, string_bytes, List, [], ◌∷◌, ◌++◌, take, drop};
 ghost use Rattle.std.specs.Bool.{OnTrue};
 ghost use Rattle.rowan_green.specs.Forest.{Tree};
@@ -23,11 +23,11 @@ use std::fmt;
 use std::marker::Model;
 use std::rc::Rc;
 
-/// The greatest length of a token in bytes, and the greatest count of children.
+/// The maximum length of a token, in bytes, and the maximum number of children.
 const MOST: usize = u32::MAX as usize;
 
-/// An open node: its children are the complete entries from `first` on, up to where the next open
-/// node begins.
+/// An open node. Its children are the complete entries from index `first` on, up to the first child
+/// of the next open node.
 #[derive(Clone, Copy)]
 pub(crate) struct OpenNode {
     pub(crate) kind: u16,
@@ -35,7 +35,7 @@ pub(crate) struct OpenNode {
     pub(crate) number: u64,
 }
 
-/// A builder of one tree. A contract sees the word of the calls that it accepted.
+/// A builder of one tree. Model: the word of the accepted calls.
 pub struct GreenNodeBuilder<'c> {
     alloc: Global,
     cache: Option<&'c mut NodeCache>,
@@ -73,15 +73,16 @@ impl<'c> Model for GreenNodeBuilder<'c> {
     ghost invariant = { λ b. IsBuilder b.open_nodes.items b.arena b.done.items };
 }
 
-/// A place in the innermost open node of a builder: before it stand `count` of the node's children.
+/// A position in the innermost open node of a builder, after `count` of the node's children.
 #[derive(Clone, Copy)]
 pub struct Checkpoint {
-    /// The number of the node, counted as the nodes were started, from 1 on; 0 where none is open.
+    /// The number of the node, in the order in which the nodes were started, from 1 on; 0 if no
+    /// node is open.
     pub number: u64,
     pub count: usize,
 }
 
-/// A refused `finish`: the builder is as it was.
+/// The error of a failed `finish`, with the unchanged builder.
 #[derive(Drop)]
 pub struct Unfinished<'c> {
     pub error: GreenError,
@@ -105,15 +106,16 @@ impl<'c> From<Unfinished<'c>> for GreenError {
 }
 
 impl<'c> GreenNodeBuilder<'c> {
-    /// Returns a builder on which nothing was called, without a cache. It does not allocate.
+    /// Creates an empty builder without a cache. Does not allocate.
     pub fn new(alloc: Global) -> GreenNodeBuilder<'c>
         ensures { result ≡ nothing_built }
     {
         GreenNodeBuilder::over(alloc, None)
     }
 
-    /// Returns a builder that gives an equal tree of `cache` in place of its own, and leaves its own
-    /// there for later builders. It does not allocate.
+    /// Creates an empty builder with a cache. If `cache` has a tree that is equal to the built one,
+    /// the builder returns that tree; otherwise the cache keeps the built tree for later builders.
+    /// Does not allocate.
     pub fn with_cache(alloc: Global, cache: &'c mut NodeCache) -> GreenNodeBuilder<'c>
         ensures { result ≡ nothing_built }
     {
@@ -133,7 +135,7 @@ impl<'c> GreenNodeBuilder<'c> {
         }
     }
 
-    /// Adds a token.
+    /// Appends a token.
     ///
     /// # Errors
     ///
@@ -200,7 +202,7 @@ impl<'c> GreenNodeBuilder<'c> {
         Ok(())
     }
 
-    /// Returns the place after all children that the innermost open node has now.
+    /// Returns the position after the current children of the innermost open node.
     pub fn checkpoint(&self) -> Checkpoint
         ensures number { result.number ≡ first_or_zero self.now.open_numbers }
         ensures count { result.count ≡ length (current_children self.now) }
@@ -218,7 +220,7 @@ impl<'c> GreenNodeBuilder<'c> {
         }
     }
 
-    /// Returns `true` if the node of the checkpoint is the innermost open one, and has at least as
+    /// Returns `true` if the node of `checkpoint` is the innermost open node, and has at least as
     /// many children as at the checkpoint.
     pub fn is_checkpoint(&self, checkpoint: Checkpoint) -> bool
         ensures { IsTrue result ↔ IsCurrent self.now checkpoint.number checkpoint.count }
@@ -227,7 +229,7 @@ impl<'c> GreenNodeBuilder<'c> {
         checkpoint.number == now.number && checkpoint.count <= now.count
     }
 
-    /// Opens a node around the children that came after the checkpoint.
+    /// Opens a node around the children after `checkpoint`.
     ///
     /// # Errors
     ///
@@ -256,12 +258,13 @@ impl<'c> GreenNodeBuilder<'c> {
         push_open(&mut self.open_nodes, &mut self.started, kind, first)
     }
 
-    /// Returns the tree, if it is one complete node. Only a cache allocates, to keep the tree; if
+    /// Returns the tree if it is one complete node. Only a cache allocates, to keep the tree; if
     /// that fails, the cache does not keep it.
     ///
     /// # Errors
     ///
-    /// [`GreenError::Unbalanced`] with the unchanged builder if the tree is not one complete node.
+    /// [`GreenError::Unbalanced`], with the unchanged builder, if the tree is not one complete
+    /// node.
     pub fn finish(self) -> Result<GreenNode, Unfinished<'c>>
         ensures ok { IfOk result (λ t. self.entry.word ≡ words (NodeOrToken.Node t ∷ [])) }
         ensures succeeds { (t : Tree) → self.entry.word ≡ words (NodeOrToken.Node t ∷ [])
@@ -290,7 +293,8 @@ impl<'c> GreenNodeBuilder<'c> {
     }
 }
 
-/// Returns the equal tree of the cache, if there is one, else `tree`, which the cache keeps.
+/// Returns the equal tree of the cache if there is one; otherwise returns `tree`, which the cache
+/// keeps.
 fn share(cache: Option<&mut NodeCache>, tree: GreenNode) -> GreenNode
     ensures { result ≡ tree }
 {
@@ -300,7 +304,7 @@ fn share(cache: Option<&mut NodeCache>, tree: GreenNode) -> GreenNode
     }
 }
 
-/// Returns the innermost open node.
+/// Returns the innermost open node, or `None` if no node is open.
 pub(crate) fn innermost(open_nodes: &[OpenNode]) -> Option<OpenNode>
     ensures { let os = open_nodes.now in
         MatchOption result (os ≡ []) (λ o. os ≡ take (length os - 1) os ++ o ∷ []) }
@@ -308,7 +312,7 @@ pub(crate) fn innermost(open_nodes: &[OpenNode]) -> Option<OpenNode>
     open_nodes.last().copied()
 }
 
-/// Returns `true` if `open` is the only open node, and all that is done are its children.
+/// Returns `true` if `open` is the only open node, and all complete entries are its children.
 pub(crate) fn is_root(open_nodes: &[OpenNode], open: OpenNode) -> bool
     ensures whole { OnTrue result (open.first ≡ 0) }
     ensures alone { length open_nodes.now ≡ 1 → open.first ≡ 0 → result ≡ true }
@@ -316,7 +320,7 @@ pub(crate) fn is_root(open_nodes: &[OpenNode], open: OpenNode) -> bool
     open_nodes.len() == 1 && open.first == 0
 }
 
-/// Returns `true` if nothing is open, and one node is all that is done.
+/// Returns `true` if no node is open, and one node is the only complete entry.
 pub(crate) fn is_complete(open_nodes: &[OpenNode], done: &[Entry]) -> bool
     ensures nothing_open { OnTrue result (open_nodes.now ≡ []) }
     ensures one_node { OnTrue result ((e : Entry) × (done.now ≡ e ∷ []) × (is_node e ≡ true)) }
@@ -326,7 +330,7 @@ pub(crate) fn is_complete(open_nodes: &[OpenNode], done: &[Entry]) -> bool
     open_nodes.is_empty() && matches!(done, [Entry::Few(_, _, _)] | [Entry::Many(_, _)])
 }
 
-/// Opens one more node, whose children begin at `first`.
+/// Opens a node whose children start at index `first`.
 #[inline(always)]
 pub(crate) fn push_open(
     open_nodes: &mut Vec<OpenNode>,
@@ -354,7 +358,7 @@ pub(crate) fn push_open(
     Ok(())
 }
 
-/// Makes the arena, if there is none.
+/// Creates the arena if there is none.
 fn make_arena(alloc: Global, arena: &mut Option<Rc<Arena>>) -> Result<(), AllocError>
     ensures { (done : List Entry) → IsFilled arena.old done → IsSame arena.old arena.new done }
 {
@@ -364,7 +368,7 @@ fn make_arena(alloc: Global, arena: &mut Option<Rc<Arena>>) -> Result<(), AllocE
     Ok(())
 }
 
-/// Appends a token to the arena, which is made if there is none.
+/// Appends a token to the arena, which is created if there is none.
 fn push_token(
     alloc: Global,
     arena: &mut Option<Rc<Arena>>,
@@ -392,7 +396,7 @@ fn push_token(
     arena.push_token(done, kind, text)
 }
 
-/// Closes an open node of the arena, which is made if there is none. Its children are
+/// Closes an open node of the arena, which is created if there is none. The children are
 /// `done[open.first..]`. A root becomes the last entry of the arena.
 fn close(
     alloc: Global,
@@ -430,7 +434,7 @@ fn close(
     Ok(())
 }
 
-/// Closes an open node of an arena.
+/// Closes an open node of an arena. A root becomes the last entry of the arena.
 #[inline(always)]
 pub(crate) fn close_in(
     arena: &mut Arena,

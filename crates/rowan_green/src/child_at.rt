@@ -1,7 +1,7 @@
-//! Where a child lies in its node.
+//! The position of a child in its node.
 use crate::text_size::TextSize;
 
-/// The child at an offset: its index, the start of its text in that of the node, and the number of
+/// A child at an offset: its index, the offset of its text in the node's text, and the number of
 /// lengths read to find it.
 #[derive(Clone, Copy, PartialEq, Eq, Debug, Drop)]
 pub struct ChildAt {

@@ -1,4 +1,4 @@
-//! The close of a root, which becomes an entry of its arena at once.
+//! Closing a root, which becomes an entry of its arena at once.
 ghost use Rattle.std.specs.Prelude.{◌≡◌, [], ◌∷◌, OnOk, OnErr, string_bytes};
 ghost use Rattle.rowan_green.specs.Term.{tree_of};
 ghost use Rattle.rowan_green.specs.Arena.{IsGrowing, items_in, terms_at, terms_over};
@@ -8,17 +8,18 @@ ghost use Rattle.rowan_green.specs.declared.utility_types.NodeOrToken.TheVariant
 use crate::arena::{Arena, Entry, Record};
 use std::alloc::AllocError;
 
-/// The greatest count of entries and of records.
+/// The maximum number of entries and of records.
 const MOST: usize = u32::MAX as usize;
 
 impl Arena {
-    /// Replaces `done` by a node that has all of it as its children, with a record. They become
+    /// Replaces `done` by a node with all of it as children, and with a record. The children become
     /// entries of the arena, and the node becomes its last entry.
     ///
     /// # Errors
     ///
-    /// `AllocError` if an allocation fails, or if the arena would hold 2^32 entries or records. On
-    /// error, the terms are unchanged.
+    /// [`AllocError`] if an allocation fails, or if the arena would hold 2^32 entries or records.
+    ///
+    /// On error, the terms are unchanged.
     #[cold]
     #[inline(never)]
     pub(crate) fn close_root(&mut self, done: &mut Vec<Entry>, kind: u16) -> Result<(), AllocError>

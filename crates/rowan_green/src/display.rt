@@ -1,4 +1,4 @@
-//! What green values print as: their texts.
+//! Display of green values: their texts.
 use crate::element_ref::{GreenNodeRef, GreenTokenRef, NodeReader};
 use crate::node::GreenNode;
 use crate::token::GreenToken;

@@ -1,4 +1,4 @@
-//! Elements: what a node may have as a child.
+//! Elements: the children of nodes.
 ghost use Rattle.std.specs.Prelude.{◌≡◌};
 ghost use Rattle.rowan_green.specs.Term.{kind_of, term_len};
 
@@ -12,7 +12,7 @@ use crate::utility_types::NodeOrToken;
 pub type GreenElement = NodeOrToken<GreenNode, GreenToken>;
 
 impl NodeOrToken<GreenNode, GreenToken> {
-    /// Its kind.
+    /// Returns the kind.
     pub fn kind(&self) -> SyntaxKind
         ensures { result.0 ≡ kind_of self.now }
     {
@@ -22,7 +22,7 @@ impl NodeOrToken<GreenNode, GreenToken> {
         }
     }
 
-    /// The length of its text, in bytes.
+    /// Returns the length of the text, in bytes.
     pub fn text_len(&self) -> TextSize
         ensures { result.0 ≡ term_len self.now }
     {

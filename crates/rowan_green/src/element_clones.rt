@@ -5,7 +5,7 @@ use crate::element::GreenElement;
 use crate::element_list::ElementList;
 use std::alloc::{AllocError, Global};
 
-/// Clones of these elements.
+/// Returns clones of `elements`.
 pub(crate) fn clones(
     alloc: Global,
     elements: &[GreenElement],
@@ -19,7 +19,7 @@ pub(crate) fn clones(
     Ok(all)
 }
 
-/// Adds clones of the elements from `start` to before `end`.
+/// Appends clones of the elements of `from` from index `start` to before `end`.
 pub(crate) fn push_clones(
     to: &mut Vec<GreenElement>,
     from: &ElementList,

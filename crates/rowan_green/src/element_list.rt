@@ -1,5 +1,5 @@
-//! The children of a node: a balanced tree over blocks of them and runs of an arena's entries, whose
-//! parts lists share.
+//! The children of a node: a balanced tree over blocks of elements and runs of entries of an arena.
+//! Lists share its parts.
 ghost use Rattle.std.specs.Prelude.{◌≡◌, ◌≢◌, ◌+◌, ◌*◌, ◌<◌, ◌≤◌, ◌^◌, ◌++◌, max, length, slice_get, slice_index_or, take, IfOk, IfSome, OnOk, MatchOption, drop, [], ◌∷◌};
 ghost use Rattle.rowan_green.specs.Forest.{tree_count, forest_count};
 ghost use Rattle.rowan_green.specs.Term.{forest_of, texts_of, FitsNode};
@@ -17,32 +17,40 @@ use std::alloc::{AllocError, Global};
 use std::marker::Model;
 use std::rc::Rc;
 
-/// The most elements of a block.
+/// The maximum number of elements of a block.
 pub(crate) const MOST: usize = 16;
 
-/// The fewest elements of a block below a fork.
+/// The minimum number of elements of a block below a fork.
 pub(crate) const FEWEST: usize = 8;
 
-/// A list of elements. A search looks at the length of the text before the middle, which is kept.
+/// A list of elements. It stores the length of the text before its middle, which a search reads.
 #[cycle(green)]
 #[derive(Drop)]
 pub(crate) struct ElementList {
     link: Link,
 }
 
-/// One element, a block, a run, or two lists with the count of their elements and their height; of the
-/// latter two first the length of the text before the middle, which takes no room of its own beside
-/// the mark of the variant.
+/// The content of a list.
+///
+/// `half`, the first field of `Block` and `Fork`, fits beside the discriminant, so it takes no
+/// extra space.
 #[cycle(green)]
 #[derive(Drop)]
 enum Link {
+    /// One element.
     One(GreenElement),
+    /// `Block(half, elements)`: at most 16 elements. `half` is the length, in bytes, of the text of
+    /// the first `elements.len() / 2` of them.
     Block(u32, Vec<GreenElement>),
+    /// Adjacent entries of an arena.
     Run(Run),
+    /// `Fork(half, left, right, count, height)`: the elements of `left`, then those of `right`.
+    /// `half` is the length of `left`'s text, in bytes; `count` the number of all elements;
+    /// `height` the height of the list.
     Fork(u32, Rc<Part>, Rc<Part>, u32, u8),
 }
 
-/// A list with the length of its text, as other lists share it.
+/// A list with the length of its text, in bytes; other lists may share it.
 #[cycle(green)]
 #[derive(Drop)]
 pub(crate) struct Part {
@@ -123,12 +131,12 @@ impl ElementList {
         }
     }
 
-    /// Returns the two sides of a list of more than one level: of a fork those below it, of a run
-    /// its halves. Returns `None` for a list of at most 16 elements that has no levels below it.
+    /// Returns the two sides of a list of height 1 or more: the lists below a fork, the halves of a
+    /// run. Returns `None` for a list of height 0, which has at most 16 elements.
     ///
     /// # Errors
     ///
-    /// `AllocError` if an allocation fails.
+    /// [`AllocError`] if an allocation fails.
     pub(crate) fn sides(&self, alloc: Global) -> Result<Option<(Rc<Part>, Rc<Part>)>, AllocError>
         ensures { IfOk result (λ sides. MatchOption sides
             ((self.now.1 ≡ 0) × (length self.now.0 ≤ 16))
@@ -142,7 +150,7 @@ impl ElementList {
         }
     }
 
-    /// The element of this number.
+    /// Returns the element at `index`.
     pub(crate) fn at(&self, index: usize) -> GreenElementRef<'_>
         requires { index < length self.now.0 }
         ensures { result ≡ slice_index_or self.now.0 index result }
@@ -172,7 +180,7 @@ impl ElementList {
         }
     }
 
-    /// Where the text of the element of this number begins.
+    /// Returns the offset, in bytes, of the text of the element at `index` in the list's text.
     pub(crate) fn start_of(&self, index: usize) -> u32
         requires { index < length self.now.0 }
         ensures { result ≡ length (texts_of (take index self.now.0)) }
@@ -192,7 +200,7 @@ impl ElementList {
         }
     }
 
-    /// The element whose text has the byte at this offset.
+    /// Returns the place of the element whose text has the byte at `offset`.
     pub(crate) fn find(&self, offset: u32) -> Place
         requires { offset < length (texts_of self.now.0) }
         ensures place { IsChildAt self.now.0 offset result.index result.start }
@@ -251,7 +259,7 @@ impl ElementList {
         }
     }
 
-    /// A list of the same elements, which shares the sides of this one.
+    /// Returns a list of the same elements, which shares the sides of this one.
     pub(crate) fn copy(&self, alloc: Global) -> Result<Part, AllocError>
         ensures { IfOk result (λ l. l ≡ self.now) }
     {
@@ -297,7 +305,7 @@ impl Part {
         self.list.height()
     }
 
-    /// Returns the two sides of a list of more than one level, as [`ElementList::sides`] does.
+    /// Returns the two sides of a list of height 1 or more, as [`ElementList::sides`] does.
     pub(crate) fn sides(&self, alloc: Global) -> Result<Option<(Rc<Part>, Rc<Part>)>, AllocError>
         ensures { IfOk result (λ sides. MatchOption sides
             ((self.now.1 ≡ 0) × (length self.now.0 ≤ 16))
@@ -306,7 +314,7 @@ impl Part {
         self.list.sides(alloc)
     }
 
-    /// The length of its text, and the list alone.
+    /// Returns the length of the text, in bytes, and the list.
     pub(crate) fn into_list(self) -> (u32, ElementList)
         ensures text { result.0 ≡ length (texts_of self.0) }
         ensures list { result.1 ≡ self }
@@ -315,7 +323,7 @@ impl Part {
         (self.text_len, self.list)
     }
 
-    /// The list of one element.
+    /// Returns the list of one element.
     pub(crate) fn one(element: GreenElement) -> Part
         ensures { result ≡ (element ∷ [], 0) }
     {
@@ -326,7 +334,7 @@ impl Part {
         Part { text_len, list }
     }
 
-    /// The list of a few elements.
+    /// Returns the list of at most 16 elements.
     pub(crate) fn few(mut elements: Vec<GreenElement>) -> Part
         requires few { length elements.items ≤ 16 }
         requires fits { length (texts_of elements.items) < 2 ^ 32 }
@@ -341,7 +349,7 @@ impl Part {
         }
     }
 
-    /// The list of a few elements, in one block.
+    /// Returns the list of at most 16 elements, in one block. The number of elements is not 1.
     pub(crate) fn block(elements: Vec<GreenElement>) -> Part
         requires not_one { length elements.items ≢ 1 }
         requires few { length elements.items ≤ 16 }
@@ -357,7 +365,7 @@ impl Part {
         Part { text_len, list }
     }
 
-    /// The list of the elements of a run.
+    /// Returns the list of the elements of `run`.
     pub(crate) fn run(run: Run) -> Part
         requires fits { FitsNode run.0 }
         requires height { HasHeight (length run.0) run.1 }
@@ -370,7 +378,7 @@ impl Part {
         Part { text_len, list }
     }
 
-    /// The elements of two lists that are about as high.
+    /// Returns the list of the elements of `left` and `right`, whose heights differ by at most 1.
     pub(crate) fn fork(left: Rc<Part>, right: Rc<Part>) -> Part
         requires left { 8 ≤ length left.value.0 }
         requires right { 8 ≤ length right.value.0 }
@@ -389,7 +397,7 @@ impl Part {
         Part { text_len, list }
     }
 
-    /// Returns the list of clones of these elements, with `height` levels of forks.
+    /// Returns the list of clones of `elements`, with `height` levels of forks.
     fn built(alloc: Global, elements: &[GreenElement], height: u8) -> Result<Part, AllocError>
         requires many { 8 * 2 ^ height ≤ length elements.now }
         requires few { length elements.now ≤ 16 * 2 ^ height }
@@ -405,11 +413,11 @@ impl Part {
         Ok(Part::fork(left, right))
     }
 
-    /// Returns the list of these elements.
+    /// Returns the list of `elements`.
     ///
     /// # Errors
     ///
-    /// `AllocError` if an allocation fails.
+    /// [`AllocError`] if an allocation fails.
     pub(crate) fn from_vec(alloc: Global, elements: Vec<GreenElement>) -> Result<Part, AllocError>
         requires { FitsNode elements.items }
         ensures { IfOk result (λ l. l.0 ≡ elements.items) }
@@ -421,7 +429,7 @@ impl Part {
         }
     }
 
-    /// The list of clones of these elements.
+    /// Returns the list of clones of `elements`.
     pub(crate) fn of(alloc: Global, elements: &[GreenElement]) -> Result<Part, AllocError>
         requires { FitsNode elements.now }
         ensures { IfOk result (λ l. l.0 ≡ elements.now) }
@@ -433,7 +441,7 @@ impl Part {
         }
     }
 
-    /// The list of clones of many elements.
+    /// Returns the list of clones of 8 or more elements.
     pub(crate) fn of_many(alloc: Global, elements: &[GreenElement]) -> Result<Part, AllocError>
         requires many { 8 ≤ length elements.now }
         requires fits { FitsNode elements.now }
@@ -475,7 +483,7 @@ pub(crate) fn height_for(count: usize) -> u8
     height
 }
 
-/// The length of the text of these elements.
+/// Returns the length of the text of `elements`, in bytes.
 #[tactic(auto, using(crate::proofs::Lengths::lengths))]
 fn text_sum(elements: &[GreenElement]) -> u32
     requires { length (texts_of elements.now) < 2 ^ 32 }

@@ -1,4 +1,4 @@
-//! Lists of elements made out of the parts of others, which they share.
+//! Lists of elements that are joined from parts of other lists, and share them.
 ghost use Rattle.std.specs.Prelude.{◌≡◌, ◌+◌, ◌<◌, ◌≤◌, ◌++◌, max, length, take, drop, IfOk, IfErr, OnOk, false};
 ghost use Rattle.std.specs.Bool.{OnTrue};
 ghost use Rattle.rowan_green.specs.Term.{FitsNode, spliced};
@@ -12,7 +12,7 @@ use crate::error::GreenError;
 use std::alloc::{AllocError, Global};
 use std::rc::Rc;
 
-/// The list above these two, which may lie below one fork.
+/// Returns the fork of two lists whose heights differ by at most 1.
 fn forked(alloc: Global, left: &Rc<Part>, right: &Rc<Part>) -> Result<Rc<Part>, AllocError>
     requires { CanJoin 1 left.now.value right.now.value }
     ensures { IfOk result (λ l. l.value ≡ join left.now.value right.now.value) }
@@ -21,7 +21,7 @@ fn forked(alloc: Global, left: &Rc<Part>, right: &Rc<Part>) -> Result<Rc<Part>, 
     Ok(Rc::new(alloc, list)?)
 }
 
-/// The list of both, of which the left one is higher by two.
+/// Returns the list of both, where `left`'s height is greater by 2.
 fn lean_left(alloc: Global, left: &Rc<Part>, right: &Rc<Part>) -> Result<Rc<Part>, AllocError>
     requires higher { left.now.value.1 ≡ right.now.value.1 + 2 }
     requires count { 8 ≤ length right.now.value.0 }
@@ -45,7 +45,7 @@ fn lean_left(alloc: Global, left: &Rc<Part>, right: &Rc<Part>) -> Result<Rc<Part
     forked(alloc, &below_left, &below_right)
 }
 
-/// The list of both, of which the right one is higher by two.
+/// Returns the list of both, where `right`'s height is greater by 2.
 fn lean_right(alloc: Global, left: &Rc<Part>, right: &Rc<Part>) -> Result<Rc<Part>, AllocError>
     requires higher { right.now.value.1 ≡ left.now.value.1 + 2 }
     requires count { 8 ≤ length left.now.value.0 }
@@ -69,7 +69,7 @@ fn lean_right(alloc: Global, left: &Rc<Part>, right: &Rc<Part>) -> Result<Rc<Par
     forked(alloc, &below_left, &below_right)
 }
 
-/// The list of both, whose heights differ by at most two.
+/// Returns the list of both, whose heights differ by at most 2.
 fn balanced(alloc: Global, left: &Rc<Part>, right: &Rc<Part>) -> Result<Rc<Part>, AllocError>
     requires { CanJoin 2 left.now.value right.now.value }
     ensures terms { IfOk result (λ l. l.value.0 ≡ left.now.value.0 ++ right.now.value.0) }
@@ -85,7 +85,7 @@ fn balanced(alloc: Global, left: &Rc<Part>, right: &Rc<Part>) -> Result<Rc<Part>
     }
 }
 
-/// The list of these elements, in one block, or in two.
+/// Returns the list of at most 32 elements, in one block or in two.
 fn in_blocks(alloc: Global, mut elements: Vec<GreenElement>) -> Result<Rc<Part>, AllocError>
     requires few { length elements.items ≤ 32 }
     requires fits { FitsNode elements.items }
@@ -101,7 +101,7 @@ fn in_blocks(alloc: Global, mut elements: Vec<GreenElement>) -> Result<Rc<Part>,
     forked(alloc, &left, &right)
 }
 
-/// The list of both, each of which is a block.
+/// Returns the list of both, each of at most 16 elements.
 fn merged(alloc: Global, left: &Part, right: &Part) -> Result<Rc<Part>, AllocError>
     requires left { length left.now.0 ≤ 16 }
     requires right { length right.now.0 ≤ 16 }
@@ -115,7 +115,7 @@ fn merged(alloc: Global, left: &Part, right: &Part) -> Result<Rc<Part>, AllocErr
     in_blocks(alloc, elements)
 }
 
-/// The list of both, which shares all but the parts along the seam.
+/// Returns the list of both, which shares all parts but those along the seam.
 pub(crate) fn joined(
     alloc: Global,
     left: &Rc<Part>,
@@ -147,7 +147,7 @@ pub(crate) fn joined(
     forked(alloc, left, right)
 }
 
-/// The elements of a block from `start` to before `end`.
+/// Returns the elements of a block from index `start` to before `end`.
 fn part_of_block(
     alloc: Global,
     list: &Part,
@@ -184,7 +184,7 @@ pub(crate) fn first(alloc: Global, list: &Rc<Part>, count: usize) -> Result<Rc<P
     joined(alloc, &left, &more)
 }
 
-/// The elements of a list from this number on.
+/// Returns the elements of a list from index `start` on.
 pub(crate) fn last(alloc: Global, list: &Rc<Part>, start: usize) -> Result<Rc<Part>, AllocError>
     requires { start ≤ length list.now.value.0 }
     ensures { IfOk result (λ l. l.value.0 ≡ drop start list.now.value.0) }
@@ -203,7 +203,8 @@ pub(crate) fn last(alloc: Global, list: &Rc<Part>, start: usize) -> Result<Rc<Pa
     joined(alloc, &more, &right)
 }
 
-/// The list with the elements from `start` to before `end` replaced by those of `middle`.
+/// Returns the list with the elements from index `start` to before `end` replaced by those of
+/// `middle`.
 pub(crate) fn splice(
     alloc: Global,
     list: &ElementList,
@@ -229,7 +230,7 @@ pub(crate) fn splice(
     Ok(all.list().copy(alloc)?)
 }
 
-/// Whether a node may have the elements of all three lists.
+/// Returns `true` if a node may have the elements of all three lists.
 #[tactic(auto, using(crate::proofs::Joining::thirds))]
 fn fit_together(front: &Part, middle: &Part, back: &Part) -> bool
     ensures fit { OnTrue result (FitsNode (front.now.0 ++ middle.now.0 ++ back.now.0)) }

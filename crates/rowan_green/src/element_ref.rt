@@ -22,7 +22,7 @@ use std::alloc::AllocError;
 use std::marker::Model;
 use std::rc::Rc;
 
-/// A borrowed node in one of its two forms, as [`NodeForm`] has them.
+/// A borrowed node in one of the two forms of [`NodeForm`].
 #[derive(Clone, Copy)]
 enum NodeFormRef<'a> {
     Flat(u32, &'a Rc<Arena>),
@@ -51,7 +51,7 @@ impl<'a> Model for GreenNodeRef<'a> {
     ghost invariant = { λ a. IsNodeRef a.form };
 }
 
-/// A borrowed node, in a form that has calls to read it.
+/// A borrowed node, as a value whose functions read its form.
 #[derive(Drop)]
 pub(crate) enum NodeReader<'a> {
     Flat(FlatNodeRef<'a>),
@@ -113,7 +113,7 @@ impl GreenToken {
 }
 
 impl<'a> GreenNodeRef<'a> {
-    /// Returns the node of the entry of this number.
+    /// Returns the node at entry number `index`.
     pub(crate) fn at(arena: &'a Rc<Arena>, index: u32) -> GreenNodeRef<'a>
         requires { IsNodeAt arena.now.value index }
         ensures { result ≡ tree_at arena.now.value index }
@@ -123,7 +123,7 @@ impl<'a> GreenNodeRef<'a> {
         }
     }
 
-    /// Returns the node in a form that has calls to read it.
+    /// Returns the node as a value whose functions read its form.
     pub(crate) fn reader(&self) -> NodeReader<'a>
         ensures { tree_read result ≡ self.now }
     {
@@ -160,7 +160,7 @@ impl<'a> GreenNodeRef<'a> {
         }
     }
 
-    /// Returns the text of the node as one slice, if the node lies in an arena.
+    /// Returns the text of the node as one slice if the node is in an arena.
     pub fn flat_text(&self) -> Option<&'a str>
         ensures { IfSome result (λ t. t.now ≡ tree_text self.now) }
     {
@@ -199,7 +199,7 @@ impl<'a> GreenNodeRef<'a> {
         }
     }
 
-    /// Returns the child at `index`, which is there.
+    /// Returns the child at `index`, which must exist.
     pub(crate) fn child_at(&self, index: usize) -> GreenElementRef<'a>
         requires { index < length (children_of self.now) }
         ensures { result ≡ slice_index_or (children_of self.now) index result }
@@ -210,7 +210,8 @@ impl<'a> GreenNodeRef<'a> {
         }
     }
 
-    /// Returns the offset of a child's text in the node's text, as [`GreenNode::child_start`] does.
+    /// Returns the offset of a child's text in the node's text, in bytes, as
+    /// [`GreenNode::child_start`] does.
     pub fn child_start(&self, index: usize) -> Option<TextSize>
         ensures { MatchOption result (length (children_of self.now) ≤ index)
             (λ start. start.0 ≡ length (texts_of (take index (children_of self.now)))) }
@@ -236,11 +237,11 @@ impl<'a> GreenNodeRef<'a> {
         }
     }
 
-    /// Returns the node, by a clone. It does not allocate.
+    /// Returns an owned clone of the node. Does not allocate.
     ///
     /// # Errors
     ///
-    /// `AllocError` if the reference count overflows.
+    /// [`AllocError`] if the reference count overflows.
     pub fn to_owned(&self) -> Result<GreenNode, AllocError>
         ensures { IfOk result (λ n. n ≡ self.now) }
     {
@@ -278,11 +279,11 @@ impl<'a> GreenTokenRef<'a> {
         TextSize(self.arena.text_len(entry))
     }
 
-    /// Returns the token, by a clone. It does not allocate.
+    /// Returns an owned clone of the token. Does not allocate.
     ///
     /// # Errors
     ///
-    /// `AllocError` if the reference count overflows.
+    /// [`AllocError`] if the reference count overflows.
     pub fn to_owned(&self) -> Result<GreenToken, AllocError>
         ensures { IfOk result (λ t. t ≡ self.now) }
     {
@@ -324,11 +325,11 @@ impl<'a> NodeOrToken<GreenNodeRef<'a>, GreenTokenRef<'a>> {
         }
     }
 
-    /// Returns the element, by a clone. It does not allocate.
+    /// Returns an owned clone of the element. Does not allocate.
     ///
     /// # Errors
     ///
-    /// `AllocError` if the reference count overflows.
+    /// [`AllocError`] if the reference count overflows.
     pub fn to_owned(&self) -> Result<GreenElement, AllocError>
         ensures { IfOk result (λ e. e ≡ self.now) }
     {

@@ -9,7 +9,8 @@ use crate::element_list::FEWEST;
 use crate::node::GreenNode;
 use crate::utility_types::NodeOrToken;
 
-/// The element at an offset: its index, its start, and the number of lengths read to find it.
+/// The element at an offset: its index, the offset of its text, and the number of lengths read to
+/// find it.
 #[derive(Clone, Copy)]
 pub(crate) struct Place {
     pub(crate) index: usize,
@@ -34,7 +35,8 @@ impl Place {
     }
 }
 
-/// The element of a block at this offset, where `half` is the length of the text of its first half.
+/// Returns the place of the element of a block whose text has the byte at `offset`. `half` is the
+/// length, in bytes, of the text of the first half of the block.
 pub(crate) fn find_in_block(elements: &[GreenElement], half: u32, offset: u32) -> Place
     requires few { length elements.now ≤ 16 }
     requires fits { length (texts_of elements.now) < 2 ^ 32 }
@@ -55,7 +57,8 @@ pub(crate) fn find_in_block(elements: &[GreenElement], half: u32, offset: u32) -
     }
 }
 
-/// The element at this offset, by the lengths of all that lie before.
+/// Returns the place of the element whose text has the byte at `offset`. Adds the lengths of the
+/// elements from the first one on.
 #[tactic(auto, using(crate::proofs::Lengths::lengths))]
 fn find_by_scan(elements: &[GreenElement], offset: u32) -> Place
     requires few { length elements.now ≤ 8 }

@@ -7,7 +7,7 @@ ghost use Rattle.rowan_green.specs.Comparing.{outcome, pending_count};
 use crate::element_ref::{GreenElementRef, GreenNodeRef};
 use crate::utility_types::NodeOrToken;
 
-/// A comparison of two lists: the answer, or the two nodes on which it depends.
+/// The result of comparing two lists, or the pair of nodes on which it depends.
 #[derive(Drop)]
 enum Comparison<'a> {
     Different,
@@ -17,8 +17,8 @@ enum Comparison<'a> {
 
 /// Returns `true` if the nodes are equal.
 ///
-/// A loop goes on with one pair of children, and only the other pairs are compared by calls. Those
-/// have at most half of the text of `a` each, so the calls nest to the logarithm of its length.
+/// A loop continues with one pair of children; calls compare the other pairs. Those have at most
+/// half of the text of `a` each, so the calls nest to the logarithm of its length.
 #[cycle(same)]
 pub(crate) fn same_node<'a>(a: GreenNodeRef<'a>, b: GreenNodeRef<'a>) -> bool
     ensures { result ≡ same_tree a.entry b.entry }
@@ -61,7 +61,7 @@ fn same_children<'a>(a: &GreenNodeRef<'a>, b: &GreenNodeRef<'a>) -> Comparison<'
     comparison
 }
 
-/// Compares a pair of elements too.
+/// Compares one more pair of elements.
 #[cycle(same)]
 fn with_pair<'a>(
     comparison: Comparison<'a>,
@@ -90,7 +90,8 @@ fn with_pair<'a>(
     }
 }
 
-/// Compares a pair of nodes too. If a pair is pending, it compares the pair with the shorter text.
+/// Compares one more pair of nodes. If a pair is pending already, compares the pair with the
+/// shorter text.
 #[cycle(same)]
 fn with_nodes<'a>(
     comparison: Comparison<'a>,

@@ -1,4 +1,4 @@
-//! Why a green value could not be made.
+//! The error type of this crate.
 use std::alloc::{AllocError, AllocFailed};
 use std::error::Error;
 use std::fmt;
@@ -6,9 +6,10 @@ use std::fmt;
 /// The error type of this crate. On error, nothing is changed.
 #[derive(Clone, Copy, Debug, PartialEq, Eq)]
 pub enum GreenError {
-    /// A length in bytes or a count of children is past `u32`, or a node's number past `u64`.
+    /// A length in bytes, a number of children or a number of started nodes is too large, or a
+    /// builder's text has no such piece left.
     TooLong = 1,
-    /// A call that does not fit the nodes that are open.
+    /// A call does not fit the open nodes of a builder.
     Unbalanced = 2,
     /// Out of memory.
     NoMemory = 3,

@@ -1,4 +1,4 @@
-//! The children of a node of an arena, as an iterator.
+//! An iterator over the children of a node of an arena.
 ghost use Rattle.std.specs.Prelude.{◌≡◌, ◌+◌, ◌≤◌, [], length, IfSome};
 ghost use Rattle.std.specs.Iterator.{UpTo, at_most};
 ghost use Rattle.std.specs.Iterator.SizeHint.{IsWithinCount};
@@ -12,8 +12,8 @@ use std::iter::{DoubleEndedIterator, ExactSizeIterator, FusedIterator};
 use std::marker::Model;
 use std::rc::Rc;
 
-/// The children of a node of an arena, in order, from both ends. Model: the remaining children,
-/// which are the entries from number `start` to before `end`.
+/// A double-ended iterator over the children of a node of an arena, in order. Model: the remaining
+/// children, which are the entries from number `start` to before `end`.
 #[derive(Drop)]
 pub(crate) struct FlatChildren<'a> {
     start: u32,
@@ -40,7 +40,7 @@ impl<'a> Model for FlatChildren<'a> {
 }
 
 impl<'a> FlatChildren<'a> {
-    /// Returns the elements of `count` entries, from number `first` on.
+    /// Returns an iterator over the elements of `count` entries, from number `first` on.
     pub(crate) fn of(arena: &'a Rc<Arena>, first: usize, count: usize) -> FlatChildren<'a>
         requires sound { IsSound arena.now.value [] }
         requires within { first + count ≤ length arena.now.value.entries.items }

@@ -1,4 +1,4 @@
-//! A node of a tree that lies in an arena.
+//! A node of an arena.
 ghost use Rattle.std.specs.Prelude.{◌≡◌, [], length};
 ghost use Rattle.rowan_green.specs.Forest.{tree_text};
 ghost use Rattle.rowan_green.specs.declared.utility_types.NodeOrToken.TheVariants.{Node};
@@ -31,7 +31,7 @@ impl Model for FlatNode {
 }
 
 impl FlatNode {
-    /// Returns the last entry of `arena`, which is a node. It gives back spare capacity.
+    /// Returns the last entry of `arena`, which is a node. Releases spare capacity.
     pub(crate) fn of_last(mut arena: Rc<Arena>) -> FlatNode
         requires sound { IsSound arena.value [] }
         requires last { IsLast (terms_at (items_in arena.value)) (Node (last_tree arena.value)) }
@@ -45,7 +45,7 @@ impl FlatNode {
     }
 }
 
-/// Gives back the spare capacity of an arena that has one owner.
+/// Releases the spare capacity of an arena that has one owner.
 fn shrink(arena: &mut Rc<Arena>)
     requires { IsSound arena.old.value [] }
     ensures sound { IsSound arena.new.value [] }

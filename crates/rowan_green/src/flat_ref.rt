@@ -40,7 +40,7 @@ impl<'a> Model for FlatNodeRef<'a> {
     ghost invariant = { λ n. IsNodeAt n.arena.now.value n.index };
 }
 
-/// Returns the borrowed node or token of the entry of this number.
+/// Returns the node or token at entry number `index`, borrowed.
 pub(crate) fn element_at<'a>(arena: &'a Rc<Arena>, index: u32) -> GreenElementRef<'a>
     requires sound { IsSound arena.now.value [] }
     requires within { index < length arena.now.value.entries.items }
@@ -101,8 +101,8 @@ impl<'a> FlatNodeRef<'a> {
         Some(element_at(self.arena, (first + index) as u32))
     }
 
-    /// Returns the offset of a child's text in the node's text. `index` counts nodes and tokens
-    /// alike, from 0.
+    /// Returns the offset of a child's text in the node's text, in bytes. `index` counts nodes and
+    /// tokens alike, from 0.
     pub(crate) fn child_start(&self, index: usize) -> Option<TextSize>
         ensures { MatchOption result (length (children_of self.now) ≤ index)
             (λ start. start.0 ≡ length (texts_of (take index (children_of self.now)))) }
@@ -116,7 +116,7 @@ impl<'a> FlatNodeRef<'a> {
         Some(TextSize(self.arena.child_start(children, start, index)))
     }
 
-    /// Returns the child that has the byte at `offset` of the node's text.
+    /// Returns the child whose text has the byte at `offset` of the node's text.
     pub(crate) fn child_at_offset(&self, offset: TextSize) -> Option<ChildAt>
         ensures found { IsSome result ↔ (offset.0 < length (tree_text self.now)) }
         ensures child { IfSome result
@@ -139,11 +139,11 @@ impl<'a> FlatNodeRef<'a> {
         })
     }
 
-    /// Returns the children as a run, which shares the arena. It does not allocate.
+    /// Returns the children as a run, which shares the arena. Does not allocate.
     ///
     /// # Errors
     ///
-    /// `AllocError` if the reference count overflows.
+    /// [`AllocError`] if the reference count overflows.
     pub(crate) fn run(&self) -> Result<Run, AllocError>
         requires { 8 ≤ length (children_of self.now) }
         ensures terms { IfOk result (λ r. r.0 ≡ children_of self.now) }
@@ -154,11 +154,11 @@ impl<'a> FlatNodeRef<'a> {
         Ok(Run::of(self.arena.clone()?, first, count))
     }
 
-    /// Returns the node, which shares the arena. It does not allocate.
+    /// Returns the node, which shares the arena. Does not allocate.
     ///
     /// # Errors
     ///
-    /// `AllocError` if the reference count overflows.
+    /// [`AllocError`] if the reference count overflows.
     pub(crate) fn to_owned(&self) -> Result<FlatNode, AllocError>
         ensures { IfOk result (λ n. n ≡ self.now) }
     {

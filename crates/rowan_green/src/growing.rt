@@ -1,4 +1,4 @@
-//! An arena grows: by a token, or by the children of a node that is closed.
+//! Growing an arena: by a token, or by the children of a node that is closed.
 ghost use Rattle.std.specs.Prelude.{◌≡◌, ◌+◌, ◌≤◌, ◌<◌, ◌^◌, ◌++◌, [], ◌∷◌, length, take, drop, OnOk, OnErr, IfOk, string_bytes, slice_get};
 ghost use Rattle.rowan_green.specs.Term.{tree_of, texts_of};
 ghost use Rattle.rowan_green.specs.Arena.{IsSound, IsGrowing, IsWhole, items_in, terms_at, terms_over};
@@ -7,16 +7,17 @@ ghost use Rattle.rowan_green.specs.declared.utility_types.NodeOrToken.TheVariant
 use crate::arena::{Arena, Entry, Record};
 use std::alloc::{AllocError, Global};
 
-/// The greatest count of bytes, of entries and of records.
+/// The maximum number of bytes, of entries and of records.
 const MOST: usize = u32::MAX as usize;
 
-/// The most children of a [`Entry::Few`].
+/// The maximum number of children of an [`Entry::Few`].
 const MOST_FEW: usize = 255;
 
-/// The most steps from a [`Entry::Few`] down to an entry that has an end of its text.
+/// The maximum number of steps from an [`Entry::Few`] down to an entry that stores an end of its
+/// text.
 const MOST_STEPS: u32 = 8;
 
-/// Appends `done[first..]` to `entries`. Most nodes have one child, which is no row to be copied.
+/// Appends `done[first..]` to `entries`. Most nodes have one child, which is pushed alone.
 #[inline(always)]
 fn push_rest(entries: &mut Vec<Entry>, done: &[Entry], first: usize) -> Result<(), AllocError>
     requires { first < length done.now }
@@ -45,13 +46,14 @@ impl Arena {
         }
     }
 
-    /// Appends a token: its text to the arena's text, its entry to `done`, the entries without a
+    /// Appends a token: its text to the arena's text, its entry to `done`, the entries that have no
     /// parent yet.
     ///
     /// # Errors
     ///
-    /// `AllocError` if an allocation fails, or if the arena would hold 2^32 bytes or records. On
-    /// error, the terms are unchanged.
+    /// [`AllocError`] if an allocation fails, or if the arena would hold 2^32 bytes or records.
+    ///
+    /// On error, the terms are unchanged.
     pub(crate) fn push_token(
         &mut self,
         done: &mut Vec<Entry>,
@@ -139,13 +141,14 @@ impl Arena {
         Ok(())
     }
 
-    /// Replaces `done[first..]` by a node that has them as its children. They become entries of the
+    /// Replaces `done[first..]` by a node that has them as children. They become entries of the
     /// arena.
     ///
     /// # Errors
     ///
-    /// `AllocError` if an allocation fails, or if the arena would hold 2^32 entries or records. On
-    /// error, the terms are unchanged.
+    /// [`AllocError`] if an allocation fails, or if the arena would hold 2^32 entries or records.
+    ///
+    /// On error, the terms are unchanged.
     #[inline(always)]
     pub(crate) fn close(
         &mut self,
@@ -179,8 +182,9 @@ impl Arena {
     ///
     /// # Errors
     ///
-    /// `AllocError` if an allocation fails, or if the arena would hold 2^32 entries. On error, the
-    /// arena's entries are unchanged.
+    /// [`AllocError`] if an allocation fails, or if the arena would hold 2^32 entries.
+    ///
+    /// On error, the arena's entries are unchanged.
     pub(crate) fn push_root(&mut self, done: &[Entry], at: usize) -> Result<u32, AllocError>
         requires growing { IsGrowing self.old done.now }
         requires within { at < length done.now }
@@ -199,7 +203,7 @@ impl Arena {
         Ok(number as u32)
     }
 
-    /// Gives back the spare capacity.
+    /// Releases the spare capacity.
     pub(crate) fn shrink(&mut self)
         requires { IsSound self.old [] }
         ensures sound { IsSound self.new [] }
@@ -321,7 +325,7 @@ impl Arena {
     }
 
     /// Returns `true` if fewer than [`MOST_STEPS`] steps down first children lead to an entry that
-    /// has the start of its text.
+    /// stores the start of its text.
     fn is_start_near(&self, entry: Entry) -> bool
         requires { IsSound self.now (entry ∷ []) }
     {
@@ -336,7 +340,7 @@ impl Arena {
     }
 
     /// Returns `true` if fewer than [`MOST_STEPS`] steps down last children lead to an entry that
-    /// has the end of its text.
+    /// stores the end of its text.
     fn is_end_near(&self, entry: Entry) -> bool
         requires { IsSound self.now (entry ∷ []) }
     {

@@ -1,19 +1,24 @@
 //! Green trees: immutable syntax trees whose nodes and tokens are shared and know neither their
 //! parents nor their offsets.
 //!
-//! A contract sees a green value as a term: a token as a leaf (a kind and a text), a node as a kind
-//! and a list of terms. Who shares which value, and which cache has it, is never seen.
+//! The model of a green value is a term: a token is a leaf (a kind and a text), a node is a kind
+//! and a list of terms. Contracts do not say which values are shared, nor which cache has them.
 //!
-//! A tree that a builder made lies in one arena: its text once, and an entry of 8 bytes for each node
-//! and token. A node that was made of elements, or by an edit, keeps its length, and its children as
-//! a balanced list. So `clone`, `kind`, `text_len` and `children` take constant time, and `child`,
-//! `child_at_offset` and each step through the children of a list that of the list's height, which is
-//! 0 for up to 16 children; `child_at_offset` halves the children of an arena's node. An edit takes
-//! the time of the new children and of a few ways through the list, whose other parts it shares, and
-//! leaves the other children of an arena's node in the arena; a build takes that of its calls. Equality reads both values through. Printing goes one call deeper for
-//! each level above the arenas. Dropping and comparing go on with the longest child by a loop: their
-//! calls nest to the binary logarithm of the text's length, and as deep as nodes without text lie in
-//! one another.
+//! A tree from a builder is in one arena: its text once, and an entry of 8 bytes for each node and
+//! token. A node that is created from elements, or by an edit, stores its length, and its children
+//! as a balanced list.
+//!
+//! - `clone`, `kind`, `text_len` and `children` take constant time.
+//! - `child`, `child_at_offset` and each step through the children of a list take time in the
+//!   list's height, which is 0 for up to 16 children. `child_at_offset` halves the children of an
+//!   arena's node.
+//! - An edit takes the time of the new children and of a few paths through the list. It shares the
+//!   other parts of the list, and leaves the other children of an arena's node in the arena.
+//! - A build takes the time of its calls.
+//! - Equality reads both values to their ends.
+//! - Printing nests one call for each level above the arenas.
+//! - Dropping and comparing continue with the longest child in a loop: their calls nest to the
+//!   binary logarithm of the text's length, and as deep as nodes without text are nested.
 #![tactic(auto)]
 
 mod arena;

@@ -1,4 +1,4 @@
-//! The elements of a list, as an iterator.
+//! An iterator over the elements of a list.
 ghost use Rattle.std.specs.Prelude.{◌≡◌, length, IfSome};
 ghost use Rattle.std.specs.Iterator.{UpTo, at_most};
 ghost use Rattle.std.specs.Iterator.SizeHint.{IsWithinCount};
@@ -8,7 +8,7 @@ use crate::element_ref::GreenElementRef;
 use std::iter::{DoubleEndedIterator, ExactSizeIterator, FusedIterator};
 use std::marker::Model;
 
-/// The elements of a list, in order, from both ends. Model: the remaining elements.
+/// A double-ended iterator over the elements of a list, in order. Model: the remaining elements.
 #[derive(Drop)]
 pub(crate) struct ListChildren<'a> {
     all: &'a ElementList,
@@ -32,7 +32,7 @@ impl<'a> Model for ListChildren<'a> {
 }
 
 impl<'a> ListChildren<'a> {
-    /// Returns the elements of a list.
+    /// Returns an iterator over the elements of a list.
     pub(crate) fn of(children: &'a ElementList) -> ListChildren<'a>
         ensures { result ≡ children.entry.now.0 }
     {

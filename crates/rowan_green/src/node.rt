@@ -1,4 +1,4 @@
-//! Nodes: a kind and children, shared by all that hold the node.
+//! Nodes: a kind and children, shared by all owners of the node.
 ghost use Rattle.std.specs.Prelude.{ℕ, ◌≡◌, ◌*◌, ◌↔◌, ◌+◌, ◌<◌, ◌≤◌, ◌^◌, length, take, IsSome, IfSome, IfOk, IfErr, OnOk, MatchOption, List, slice_get};
 ghost use Rattle.std.specs.Option.{SomeIff};
 ghost use Rattle.std.specs.Iterator.{IsFinite, Drains};
@@ -25,7 +25,7 @@ use std::hash::{Hash, Hasher};
 use std::marker::Model;
 use std::rc::Rc;
 
-/// A node of an arena, by the number of its entry; or a node with a list of children of its own.
+/// A node of an arena, by its entry number; or a node with its own list of children.
 #[cycle(green)]
 #[derive(Drop)]
 pub(crate) enum NodeForm {
@@ -34,7 +34,7 @@ pub(crate) enum NodeForm {
 }
 
 /// A node of a green tree. A clone shares the kind and the children; cloning does not allocate. A
-/// node that a builder made keeps the whole tree alive.
+/// node from a builder keeps the whole tree alive.
 #[cycle(green)]
 pub struct GreenNode {
     pub(crate) form: NodeForm,
@@ -42,9 +42,9 @@ pub struct GreenNode {
 
 const _: () = prove!(size_of::<GreenNode>() == 16);
 
-// A loop goes on with one child, and only the other children are dropped by calls. Those have at
-// most half of the node's text each, so the calls nest to the logarithm of the text's length. A node
-// of an arena ends the loop: its children are numbers.
+// A loop continues with one child; calls drop the other children. Those have at most half of the
+// node's text each, so the calls nest to the logarithm of the text's length. A node of an arena
+// ends the loop: its children are entry numbers.
 impl Drop for GreenNode {
     #[cycle(node_drop)]
     fn drop(mut self) {
@@ -92,7 +92,13 @@ impl Model for GreenNode {
 }
 
 impl GreenNode {
-    /// The node of the elements that an iterator gives.
+    /// Creates a node with the elements of `children`.
+    ///
+    /// # Errors
+    ///
+    /// - [`GreenError::TooLong`] if the node would have 2^32 children or more, or a text of 2^32
+    ///   bytes or more.
+    /// - [`GreenError::NoMemory`] if an allocation fails or a reference count overflows.
     pub fn new<I: Iterator<Item = GreenElement> + Drop>(
         alloc: Global,
         kind: SyntaxKind,
@@ -110,12 +116,13 @@ impl GreenNode {
         GreenNode::from_vec(alloc, kind, children)
     }
 
-    /// Returns the node of these children.
+    /// Returns the node with these children.
     ///
     /// # Errors
     ///
-    /// - [`GreenError::TooLong`] if a node cannot have these children.
-    /// - [`GreenError::NoMemory`] if an allocation fails.
+    /// - [`GreenError::TooLong`] if the node would have 2^32 children or more, or a text of 2^32
+    ///   bytes or more.
+    /// - [`GreenError::NoMemory`] if an allocation fails or a reference count overflows.
     pub(crate) fn from_vec(
         alloc: Global,
         kind: SyntaxKind,
@@ -132,11 +139,11 @@ impl GreenNode {
         Ok(GreenNode::of_list(alloc, kind, list)?)
     }
 
-    /// Returns the node of a list of children.
+    /// Returns the node with a list of children.
     ///
     /// # Errors
     ///
-    /// `AllocError` if an allocation fails.
+    /// [`AllocError`] if an allocation fails.
     pub(crate) fn of_list(
         alloc: Global,
         kind: SyntaxKind,
@@ -160,21 +167,21 @@ impl GreenNode {
         }
     }
 
-    /// Its kind.
+    /// Returns the kind.
     pub fn kind(&self) -> SyntaxKind
         ensures { result.0 ≡ self.now.kind }
     {
         self.as_ref().kind()
     }
 
-    /// The length of the text of all tokens below the node.
+    /// Returns the length of the node's text, in bytes.
     pub fn text_len(&self) -> TextSize
         ensures { result.0 ≡ length (tree_text self.now) }
     {
         self.as_ref().text_len()
     }
 
-    /// The children in order, nodes and tokens.
+    /// Returns the children in order, nodes and tokens.
     pub fn children(&self) -> Children<'_>
         ensures children { result ≡ children_of self.now }
         ensures count { length (children_of self.now) < 2 ^ 32 }
@@ -182,15 +189,15 @@ impl GreenNode {
         self.as_ref().children()
     }
 
-    /// The child of this number, counted from 0, nodes and tokens alike.
+    /// Returns the child at `index`, counted from 0, nodes and tokens alike.
     pub fn child(&self, index: usize) -> Option<GreenElementRef<'_>>
         ensures { result ≡ slice_get (children_of self.now) index }
     {
         self.as_ref().child(index)
     }
 
-    /// Returns the offset of the child's text in the node's text, or `None` if the node has no child
-    /// of this number. It does not allocate, and goes down one path.
+    /// Returns the offset, in bytes, of the text of the child at `index` in the node's text; `None`
+    /// if there is no such child. Does not allocate; descends one path.
     pub fn child_start(&self, index: usize) -> Option<TextSize>
         ensures { MatchOption result (length (children_of self.now) ≤ index)
             (λ start. start.0 ≡ length (texts_of (take index (children_of self.now)))) }
@@ -198,9 +205,11 @@ impl GreenNode {
         self.as_ref().child_start(index)
     }
 
-    /// The child whose text has the byte at this offset; none from the length of the text on. It
-    /// does not allocate, and looks at one length at least, and at no more than twice as many as
-    /// the count of children has binary digits, and two.
+    /// Returns the child whose text has the byte at `offset` of the node's text; `None` if there is
+    /// no such byte.
+    ///
+    /// Does not allocate. Reads at least one length, and at most `2 * d + 2` lengths, where the
+    /// number of children is less than 2^`d`.
     pub fn child_at_offset(&self, offset: TextSize) -> Option<ChildAt>
         ensures found { IsSome result ↔ (offset.0 < length (tree_text self.now)) }
         ensures child { IfSome result
@@ -222,7 +231,7 @@ pub(crate) fn collected<I: Iterator<Item = GreenElement> + Drop>(
     requires ends { IsFinite (I.remaining elements) }
     ensures { IfOk result (λ v. Drains I.next_gives elements v.items) }
 {
-    // (no more room than a node keeps, since a hint can be too high)
+    // At most the capacity of a block, since the hint can be too high.
     let room = elements.size_hint().0.min(MOST);
     let mut all = Vec::with_capacity(alloc, room)?;
     for element in elements {
@@ -231,7 +240,7 @@ pub(crate) fn collected<I: Iterator<Item = GreenElement> + Drop>(
     Ok(all)
 }
 
-/// Returns the elements without spare capacity, if a node is to keep the vector.
+/// Returns the elements without spare capacity if they fit into one block; otherwise unchanged.
 fn trim(alloc: Global, mut elements: Vec<GreenElement>) -> Result<Vec<GreenElement>, AllocError>
     ensures { IfOk result (λ v. v.items ≡ elements.items) }
 {
@@ -244,7 +253,8 @@ fn trim(alloc: Global, mut elements: Vec<GreenElement>) -> Result<Vec<GreenEleme
     Ok(exact)
 }
 
-/// How long the children's text is, if a node can have these children.
+/// Returns the length of the children's text, in bytes; `None` if a node cannot have these
+/// children.
 #[tactic(auto, using(crate::proofs::Lengths::lengths))]
 pub(crate) fn fitting_len(children: &[GreenElement]) -> Option<u32>
     ensures { SomeIff result (FitsNode children.now) (length (texts_of children.now)) }
@@ -266,7 +276,7 @@ impl Clone for GreenNode {
     ///
     /// # Errors
     ///
-    /// `AllocError` if the reference count overflows.
+    /// [`AllocError`] if the reference count overflows.
     fn clone(&self) -> Result<GreenNode, AllocError> {
         self.as_ref().to_owned()
     }

@@ -1,7 +1,7 @@
-//! A cache of trees, so that equal ones are shared.
+//! A cache of trees, so that equal trees are shared.
 //!
-//! A cache changes no tree: what it gives was compared with what was asked for. The oldest tree gives
-//! way to the latest.
+//! A cache changes no tree: a tree that it returns is equal to the one that was built. Once the
+//! cache is full, a new tree replaces the oldest one.
 ghost use Rattle.std.specs.Prelude.{◌≡◌, IfSome};
 ghost use Rattle.std.specs.Bool.{OnTrue};
 
@@ -9,11 +9,11 @@ use crate::equality::same_node;
 use crate::node::GreenNode;
 use std::alloc::{AllocError, Global};
 
-/// The most trees of a cache.
+/// The maximum number of trees of a cache.
 const MOST_TREES: usize = 16;
 
-/// A cache that several builders may use, one after another. It has the last trees that they
-/// finished.
+/// A cache of the last trees that builders finished. Several builders may use it, one after
+/// another.
 #[derive(Drop)]
 pub struct NodeCache {
     trees: Vec<GreenNode>,
@@ -22,7 +22,7 @@ pub struct NodeCache {
 }
 
 impl NodeCache {
-    /// An empty cache. It takes memory with the first tree that it keeps.
+    /// Creates an empty cache. The first tree that it keeps allocates its memory.
     pub fn new(alloc: Global) -> NodeCache {
         NodeCache {
             trees: Vec::new(alloc),
@@ -30,8 +30,8 @@ impl NodeCache {
         }
     }
 
-    /// Returns the equal tree of the cache, if there is one, else `tree`, which is kept if there is
-    /// memory.
+    /// Returns the equal tree of the cache if there is one; otherwise returns `tree`, which the
+    /// cache keeps if no allocation fails.
     pub(crate) fn share(&mut self, tree: GreenNode) -> GreenNode
         ensures { result ≡ tree }
     {
@@ -44,11 +44,13 @@ impl NodeCache {
         tree
     }
 
-    /// Keeps a tree; replaces the oldest one if the cache is full.
+    /// Keeps `tree`; replaces the oldest tree if the cache is full.
     ///
     /// # Errors
     ///
-    /// `AllocError` if an allocation fails. On error, the cache is unchanged.
+    /// [`AllocError`] if an allocation fails.
+    ///
+    /// On error, the cache is unchanged.
     fn keep(&mut self, tree: GreenNode) -> Result<(), AllocError> {
         if self.trees.len() < MOST_TREES {
             self.trees.push(tree)?;
@@ -63,7 +65,7 @@ impl NodeCache {
     }
 }
 
-/// Returns the first of the trees that is equal to `tree`.
+/// Returns a clone of the first of the trees that is equal to `tree`, if any.
 fn found_tree(trees: &[GreenNode], tree: &GreenNode) -> Option<GreenNode>
     ensures { IfSome result (λ t. t ≡ tree.now) }
 {
@@ -75,7 +77,7 @@ fn found_tree(trees: &[GreenNode], tree: &GreenNode) -> Option<GreenNode>
     None
 }
 
-/// Returns `true` if the trees are equal. It compares what is read without a walk first.
+/// Returns `true` if the trees are equal. Compares kinds and lengths first.
 fn is_same(kept: &GreenNode, tree: &GreenNode) -> bool
     ensures { OnTrue result (kept.now ≡ tree.now) }
 {

@@ -1,4 +1,4 @@
-//! The children of a node, as an iterator.
+//! An iterator over the children of a node.
 ghost use Rattle.std.specs.Prelude.{◌≡◌, length, IfSome};
 ghost use Rattle.std.specs.Iterator.{UpTo, at_most};
 ghost use Rattle.std.specs.Iterator.SizeHint.{IsWithinCount};
@@ -9,8 +9,7 @@ use crate::list_children::ListChildren;
 use std::iter::{DoubleEndedIterator, ExactSizeIterator, FusedIterator};
 use std::marker::Model;
 
-/// The children of a node, in order, from both ends. A contract sees the list of those that are
-/// left.
+/// A double-ended iterator over the children of a node, in order. Model: the remaining children.
 #[derive(Drop)]
 pub struct Children<'a> {
     rest: Rest<'a>,
@@ -39,7 +38,7 @@ impl<'a> Model for Children<'a> {
 }
 
 impl<'a> Children<'a> {
-    /// Returns the children of a node of an arena.
+    /// Returns an iterator over the children of a node of an arena.
     pub(crate) fn of_flat(children: FlatChildren<'a>) -> Children<'a>
         ensures { result ≡ children.entry }
     {
@@ -48,7 +47,7 @@ impl<'a> Children<'a> {
         }
     }
 
-    /// Returns the elements of a list.
+    /// Returns an iterator over the elements of a list.
     pub(crate) fn of_list(children: ListChildren<'a>) -> Children<'a>
         ensures { result ≡ children.entry }
     {

@@ -1,4 +1,4 @@
-//! The data of a node that was made of elements: a kind, and the children as a balanced list.
+//! The data of a node that is created from elements: a kind, and the children as a balanced list.
 ghost use Rattle.std.specs.Prelude.{ℕ, ◌≡◌, ◌*◌, ◌↔◌, ◌+◌, ◌<◌, ◌≤◌, ◌^◌, length, take, IsSome, IfSome, MatchOption, slice_get};
 ghost use Rattle.rowan_green.specs.Forest.{tree_text};
 ghost use Rattle.rowan_green.specs.Term.{children_of, texts_of, tree_of, FitsNode};
@@ -12,7 +12,7 @@ use crate::syntax_kind::SyntaxKind;
 use crate::text_size::TextSize;
 use std::marker::Model;
 
-/// A node with a list of children of its own.
+/// A node with its own list of children.
 #[cycle(green)]
 #[derive(Drop)]
 pub(crate) struct NodeData {
@@ -21,7 +21,7 @@ pub(crate) struct NodeData {
     pub(crate) children: ElementList,
 }
 
-// (with the two counts of an `Rc` 56 bytes, which is what the allocator has in one of its sizes)
+// With the two counts of an `Rc` these are 56 bytes, one of the allocator's sizes.
 const _: () = prove!(size_of::<NodeData>() == 40);
 
 impl Model for NodeData {
@@ -97,8 +97,8 @@ impl NodeData {
         self.elements().get(index)
     }
 
-    /// Returns the offset of a child's text in the node's text, or `None` if the node has no child
-    /// at `index`. It goes down one path.
+    /// Returns the offset of a child's text in the node's text, in bytes; `None` if the node has no
+    /// child at `index`. Descends one path.
     pub(crate) fn child_start(&self, index: usize) -> Option<TextSize>
         ensures { MatchOption result (length (children_of self.now) ≤ index)
             (λ start. start.0 ≡ length (texts_of (take index (children_of self.now)))) }
@@ -111,8 +111,8 @@ impl NodeData {
         }
     }
 
-    /// Returns the child whose text has the byte at `offset`, or `None` from the length of the text
-    /// on.
+    /// Returns the child whose text has the byte at `offset` of the node's text; `None` if there is
+    /// no such byte.
     pub(crate) fn child_at_offset(&self, offset: TextSize) -> Option<ChildAt>
         ensures found { IsSome result ↔ (offset.0 < length (tree_text self.now)) }
         ensures child { IfSome result

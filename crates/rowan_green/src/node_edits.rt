@@ -1,4 +1,4 @@
-//! Nodes made of others by a change of their children.
+//! Edits: nodes that differ from others in their children.
 ghost use Rattle.std.specs.Prelude.{◌≡◌, ◌+◌, ◌≤◌, ◌<◌, ◌++◌, length, take, drop, IfOk, IfErr, OnOk, IsOkUnless, List, [], ◌∷◌};
 ghost use Rattle.std.specs.Iterator.{IsFinite, Drains};
 ghost use Rattle.rowan_green.specs.Term.{Term, tree_of, children_of, spliced, FitsNode};
@@ -16,7 +16,13 @@ use std::ops::Range;
 use std::rc::Rc;
 
 impl GreenNode {
-    /// This node with one child replaced.
+    /// Returns this node with the child at `index` replaced by `new_child`.
+    ///
+    /// # Errors
+    ///
+    /// - [`GreenError::TooLong`] if the node would have 2^32 children or more, or a text of 2^32
+    ///   bytes or more.
+    /// - [`GreenError::NoMemory`] if an allocation fails or a reference count overflows.
     pub fn replace_child(
         &self,
         alloc: Global,
@@ -36,7 +42,13 @@ impl GreenNode {
         self.splice(alloc, index, index + 1, new_children)
     }
 
-    /// This node with one more child, which gets the number `index`.
+    /// Returns this node with `new_child` inserted at `index`.
+    ///
+    /// # Errors
+    ///
+    /// - [`GreenError::TooLong`] if the node would have 2^32 children or more, or a text of 2^32
+    ///   bytes or more.
+    /// - [`GreenError::NoMemory`] if an allocation fails or a reference count overflows.
     pub fn insert_child(
         &self,
         alloc: Global,
@@ -56,7 +68,11 @@ impl GreenNode {
         self.splice(alloc, index, index, new_children)
     }
 
-    /// This node without one of its children.
+    /// Returns this node without the child at `index`.
+    ///
+    /// # Errors
+    ///
+    /// [`GreenError::NoMemory`] if an allocation fails or a reference count overflows.
     pub fn remove_child(&self, alloc: Global, index: usize) -> Result<GreenNode, GreenError>
         requires { index < length (children_of self.now) }
         ensures ok { IfOk result
@@ -64,12 +80,18 @@ impl GreenNode {
         ensures refused { IsOkUnless result GreenError.NoMemory }
     {
         prove!(index < self.as_ref().child_count());
-        // (that the length of the text is a `u32` shows that a node can have these children)
+        // The length of the text is a `u32`: this shows that a node can have these children.
         let _text_len = self.text_len();
         self.splice(alloc, index, index + 1, Vec::new(alloc))
     }
 
-    /// This node with the children of a range replaced by those that an iterator gives.
+    /// Returns this node with the children in `range` replaced by `new_children`.
+    ///
+    /// # Errors
+    ///
+    /// - [`GreenError::TooLong`] if the node would have 2^32 children or more, or a text of 2^32
+    ///   bytes or more.
+    /// - [`GreenError::NoMemory`] if an allocation fails or a reference count overflows.
     pub fn splice_children<I: Iterator<Item = GreenElement> + Drop>(
         &self,
         alloc: Global,
@@ -121,7 +143,8 @@ impl GreenNode {
         GreenNode::from_vec(alloc, self.kind(), children)
     }
 
-    /// Variant of `splice` for a result of many children. The node shares parts of the old list.
+    /// Replaces children as `splice` does, for a result of more than 16 children. The new node
+    /// shares parts of the old list.
     fn splice_many(
         &self,
         alloc: Global,
@@ -147,8 +170,8 @@ impl GreenNode {
     }
 }
 
-/// Returns the list of a node's children, with those from `start` to before `end` replaced by the
-/// elements of `middle`.
+/// Returns the list of a node's children, with those from index `start` to before `end` replaced by
+/// the elements of `middle`.
 fn spliced_list(
     alloc: Global,
     node: &GreenNodeRef<'_>,
@@ -176,15 +199,15 @@ fn spliced_list(
     }
 }
 
-/// Returns the children of a node of an arena as a list: up to 16 are cloned, more stay entries of
-/// the arena.
+/// Returns the children of a node of an arena as a list: up to 16 are cloned, more remain entries
+/// of the arena.
 fn list_of(alloc: Global, node: &FlatNodeRef<'_>) -> Result<Part, AllocError>
     ensures { IfOk result (λ l. l.0 ≡ children_of node.now) }
 {
     if node.children().len() <= MOST {
         return list_of_clones(alloc, node);
     }
-    // (that the length of the text is a `u32` shows that a list can have these children)
+    // The length of the text is a `u32`: this shows that a list can have these children.
     let _text_len = node.text_len();
     Ok(Part::run(node.run()?))
 }
@@ -198,12 +221,12 @@ fn list_of_clones(alloc: Global, node: &FlatNodeRef<'_>) -> Result<Part, AllocEr
     for child in children {
         elements.push(child.to_owned()?)?;
     }
-    // (that the length of the text is a `u32` shows that a list can have these children)
+    // The length of the text is a `u32`: this shows that a list can have these children.
     let _text_len = node.text_len();
     Part::from_vec(alloc, elements)
 }
 
-/// Appends clones of a node's children from `start` to before `end`.
+/// Appends clones of a node's children from index `start` to before `end`.
 fn push_children(
     to: &mut Vec<GreenElement>,
     from: &GreenNodeRef<'_>,

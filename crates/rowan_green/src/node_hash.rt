@@ -1,4 +1,4 @@
-//! Hashes of children, without a walk over what lies below them.
+//! Hashes of children, which do not read their descendants.
 ghost use Rattle.std.specs.Prelude.{◌≡◌, fold};
 ghost use Rattle.rowan_green.specs.Hashing.{hashed_token, hashed_child};
 
@@ -6,7 +6,7 @@ use crate::element_ref::{GreenElementRef, GreenTokenRef};
 use crate::utility_types::NodeOrToken;
 use std::hash::{Hash, Hasher};
 
-/// The most bytes of a token's text that a hash reads.
+/// The maximum number of bytes of a token's text that a hash reads.
 const MOST_TEXT: usize = 64;
 
 /// Hashes a child: the kind and the length of a node, and a token as [`hash_token`] does.

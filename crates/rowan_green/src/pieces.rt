@@ -1,4 +1,4 @@
-//! An arena whose text is given whole: each token is the next piece of it.
+//! An arena over a given text, of which each token is the next piece.
 ghost use Rattle.std.specs.Prelude.{◌≡◌, ◌+◌, ◌≤◌, ◌<◌, ◌^◌, ◌++◌, [], ◌∷◌, length, IsCharBoundary, IfOk, OnOk, OnErr, string_bytes};
 ghost use Rattle.rowan_green.specs.Arena.{IsGrowing, piece, items_in, terms_at, terms_over};
 ghost use Rattle.rowan_green.specs.declared.utility_types.NodeOrToken.TheVariants.{Token};
@@ -6,11 +6,11 @@ ghost use Rattle.rowan_green.specs.declared.utility_types.NodeOrToken.TheVariant
 use crate::arena::{Arena, Entry, Record};
 use std::alloc::{AllocError, Global};
 
-/// The greatest count of records.
+/// The maximum number of records.
 const MOST: usize = u32::MAX as usize;
 
 impl Arena {
-    /// Returns an arena with this text, of which no token has a piece.
+    /// Creates an arena with the text `text` and without tokens.
     pub(crate) fn over(alloc: Global, text: &str) -> Result<Arena, AllocError>
         requires { length text.now < 2 ^ 32 }
         ensures growing { IfOk result (λ a. IsGrowing a []) }
@@ -25,13 +25,14 @@ impl Arena {
         })
     }
 
-    /// Appends a token of the next `len` bytes of the text: its entry to `done`, the entries without
-    /// a parent yet.
+    /// Appends a token, whose text is the next `len` bytes of the text: its entry to `done`, the
+    /// entries that have no parent yet.
     ///
     /// # Errors
     ///
-    /// `AllocError` if an allocation fails, or if the arena would hold 2^32 records. On error, the
-    /// terms are unchanged.
+    /// [`AllocError`] if an allocation fails, or if the arena would hold 2^32 records.
+    ///
+    /// On error, the terms are unchanged.
     #[inline(always)]
     pub(crate) fn push_piece(
         &mut self,
@@ -135,7 +136,7 @@ impl Arena {
         Ok(())
     }
 
-    /// Returns where the next `len` bytes of the text end.
+    /// Returns the offset at which the next `len` bytes of the text end.
     #[inline(always)]
     fn end_after(&self, done: &[Entry], len: usize) -> u32
         requires growing { IsGrowing self.now done.now }

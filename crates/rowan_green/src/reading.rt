@@ -1,4 +1,4 @@
-//! What is read of an entry of an arena.
+//! Reading an entry of an arena.
 ghost use Rattle.std.specs.Prelude.{ℕ, ◌≡◌, ◌≤◌, ◌<◌, ◌^◌, ◌∷◌, [], length, take, slice_get};
 ghost use Rattle.rowan_green.specs.Term.{kind_of, term_len, text_of, texts_of};
 ghost use Rattle.rowan_green.specs.ChildAt.{IsChildAt};
@@ -67,7 +67,7 @@ impl Arena {
         }
     }
 
-    /// Returns the length of the text of an entry.
+    /// Returns the length of the text of an entry, in bytes.
     pub(crate) fn text_len(&self, entry: Entry) -> u32
         requires { IsSound self.now (entry ∷ []) }
         ensures { result ≡ term_len (term_in self.now entry) }
@@ -86,7 +86,7 @@ impl Arena {
         &self.text.as_str()[start..end]
     }
 
-    /// Returns the number of the first child, and the count of children. A token has none.
+    /// Returns the entry number of the first child, and the number of children. A token has none.
     pub(crate) fn child_range(&self, entry: Entry) -> (usize, usize)
         requires { IsSound self.now (entry ∷ []) }
         ensures { IsChildRange self.now entry result.0 result.1 }
@@ -114,7 +114,7 @@ impl Arena {
         &self.entries[first..first + count]
     }
 
-    /// Returns the entry of a number.
+    /// Returns the entry at `number`.
     pub(crate) fn entry(&self, number: u32) -> Entry
         requires sound { IsSound self.now [] }
         requires within { number < length self.now.entries.items }
@@ -125,7 +125,8 @@ impl Arena {
         self.entries[number as usize]
     }
 
-    /// Returns the offset of a child's text in the text of its node, which starts at `start`.
+    /// Returns the offset of a child's text in the text of its node, in bytes. That text starts at
+    /// `start`.
     pub(crate) fn child_start(&self, children: &[Entry], start: u32, index: usize) -> u32
         requires sound { IsSound self.now children.now }
         requires row { IsRow start (items_over self.now children.now) }
@@ -136,9 +137,9 @@ impl Arena {
         child_start - start
     }
 
-    /// Returns the child whose text has the byte at `offset` of the children's joined text, which
-    /// starts at `start` in the arena's text. It halves the range of children, and reads one start
-    /// each time.
+    /// Returns the place of the child whose text has the byte at `offset` of the children's joined
+    /// text. That text starts at `start` in the arena's text. Each step halves the range of
+    /// children and reads one start.
     pub(crate) fn find_child(&self, children: &[Entry], start: u32, offset: u32) -> Place
         requires sound { IsSound self.now children.now }
         requires row { IsRow start (items_over self.now children.now) }

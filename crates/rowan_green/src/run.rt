@@ -1,4 +1,4 @@
-//! Runs: entries of an arena side by side, as a leaf of a list of children.
+//! Runs: adjacent entries of an arena, as a leaf of a list of children.
 ghost use Rattle.std.specs.Prelude.{ℕ, ◌≡◌, ◌+◌, ◌<◌, ◌≤◌, ◌^◌, length, take, IfOk, slice_index_or};
 ghost use Rattle.rowan_green.specs.Term.{texts_of};
 ghost use Rattle.rowan_green.specs.ChildAt.{IsChildAt};
@@ -14,8 +14,8 @@ use std::alloc::AllocError;
 use std::marker::Model;
 use std::rc::Rc;
 
-/// The nodes and tokens of `count` entries of an arena, whose texts lie in a row. Model: the terms,
-/// and the height of a balanced list of as many.
+/// The nodes and tokens of `count` adjacent entries of an arena, whose texts are adjacent too.
+/// Model: the terms, and the height of a balanced list of as many.
 #[derive(Drop)]
 pub(crate) struct Run {
     height: u8,
@@ -64,7 +64,7 @@ impl Run {
         self.count as usize
     }
 
-    /// Returns how often the run can be halved.
+    /// Returns the number of times that the run can be halved.
     pub(crate) fn height(&self) -> u8
         ensures height { result ≡ self.now.1 }
         ensures fits { HasHeight (length self.now.0) self.now.1 }
@@ -73,14 +73,14 @@ impl Run {
         self.height
     }
 
-    /// Returns the length of the text of all elements.
+    /// Returns the length of the text of all elements, in bytes.
     pub(crate) fn text_len(&self) -> u32
         ensures { result ≡ length (texts_of self.now.0) }
     {
         self.arena.run_text_len(self.first, self.count)
     }
 
-    /// Returns the element of this number.
+    /// Returns the element at `index`.
     pub(crate) fn at(&self, index: usize) -> GreenElementRef<'_>
         requires { index < length self.now.0 }
         ensures { result ≡ slice_index_or self.now.0 index result }
@@ -88,7 +88,7 @@ impl Run {
         element_at(&self.arena, self.first + index as u32)
     }
 
-    /// Returns where the text of the element of this number begins.
+    /// Returns the offset, in bytes, of the text of the element at `index` in the run's text.
     pub(crate) fn start_of(&self, index: usize) -> u32
         requires { index < length self.now.0 }
         ensures { result ≡ length (texts_of (take index self.now.0)) }
@@ -96,7 +96,7 @@ impl Run {
         self.arena.run_start_of(self.first, self.count, index)
     }
 
-    /// Returns the element whose text has the byte at this offset.
+    /// Returns the place of the element whose text has the byte at `offset`.
     pub(crate) fn place_at(&self, offset: u32) -> Place
         requires { offset < length (texts_of self.now.0) }
         ensures place { IsChildAt self.now.0 offset result.index result.start }
@@ -109,7 +109,7 @@ impl Run {
     ///
     /// # Errors
     ///
-    /// `AllocError` if the reference count overflows.
+    /// [`AllocError`] if the reference count overflows.
     pub(crate) fn halves(&self) -> Result<(Run, Run), AllocError>
         requires { 1 ≤ self.now.1 }
         ensures { IfOk result (λ s. AreHalves self.now s.0 s.1) }
@@ -143,7 +143,7 @@ impl Arena {
         &self.entries[start..start + count as usize]
     }
 
-    /// Returns the length of the text of a run.
+    /// Returns the length of the text of a run, in bytes.
     fn run_text_len(&self, first: u32, count: u32) -> u32
         requires run { IsRun self.now first count }
         requires some { 1 ≤ count }
@@ -154,7 +154,7 @@ impl Arena {
         self.end_of(entries[entries.len() - 1]) - start
     }
 
-    /// Returns the offset of the text of an entry of a run in the text of the run.
+    /// Returns the offset, in bytes, of the text of an entry of a run in the text of the run.
     fn run_start_of(&self, first: u32, count: u32, index: usize) -> u32
         requires run { IsRun self.now first count }
         requires within { index < count }
@@ -165,7 +165,8 @@ impl Arena {
         self.child_start(entries, start, index)
     }
 
-    /// Returns the entry of a run whose text has the byte at `offset` of the text of the run.
+    /// Returns the place of the entry of a run whose text has the byte at `offset` of the text of
+    /// the run.
     fn find_in_run(&self, first: u32, count: u32, offset: u32) -> Place
         requires run { IsRun self.now first count }
         requires some { 1 ≤ count }

@@ -1,4 +1,4 @@
-//! A builder of green trees over a text that is given whole, so that no token copies its own.
+//! A builder of green trees over a given text, so that no token copies its text.
 ghost use Rattle.std.specs.Prelude.{◌≡◌, ◌+◌, ◌<◌, ◌≤◌, ◌^◌, ◌↔◌, true, length, IsCharBoundary, IfOk, IfErr, OnOk, OnErr, [], ◌∷◌};
 ghost use Rattle.rowan_green.specs.Term.{FitsToken, FitsNode};
 ghost use Rattle.rowan_green.specs.Word.{words};
@@ -17,11 +17,11 @@ use std::alloc::Global;
 use std::marker::Model;
 use std::rc::Rc;
 
-/// The greatest length of a text in bytes, and the greatest count of children.
+/// The maximum length of a text, in bytes, and the maximum number of children.
 const MOST: usize = u32::MAX as usize;
 
-/// A builder of one tree over a text: each token is the next piece of it. A contract sees the word
-/// of the calls that it accepted, the text, and how many of its bytes the tokens have.
+/// A builder of one tree over a text; each token is the next piece of it. Model: the word of the
+/// accepted calls, the text, and the number of its bytes that belong to tokens.
 #[derive(Drop)]
 pub struct GreenTextBuilder {
     alloc: Global,
@@ -50,7 +50,7 @@ impl Model for GreenTextBuilder {
     ghost invariant = { λ b. IsTextBuilder b.open_nodes.items b.arena b.done.items };
 }
 
-/// Returns `true` if a text may be cut at `end`.
+/// Returns `true` if `end` is a character boundary of `text`.
 #[inline(always)]
 fn may_be_cut(text: &[u8], end: usize) -> bool
     requires { end ≤ length text.now }
@@ -63,7 +63,7 @@ fn may_be_cut(text: &[u8], end: usize) -> bool
 }
 
 impl GreenTextBuilder {
-    /// Returns a builder over `text` on which nothing was called.
+    /// Creates a builder over `text`, without tokens and nodes.
     ///
     /// # Errors
     ///
@@ -86,11 +86,12 @@ impl GreenTextBuilder {
         })
     }
 
-    /// Adds a token of the next `len` bytes of the text.
+    /// Appends a token, whose text is the next `len` bytes of the text.
     ///
     /// # Errors
     ///
-    /// - [`GreenError::TooLong`] if the text has fewer bytes left, or a character there does not end.
+    /// - [`GreenError::TooLong`] if fewer than `len` bytes are left, or a character does not end
+    ///   there.
     /// - [`GreenError::NoMemory`] if an allocation fails, or if the arena would hold 2^32 records.
     ///
     /// On error, `self` is unchanged.
@@ -161,7 +162,7 @@ impl GreenTextBuilder {
         Ok(())
     }
 
-    /// Returns the tree, if it is one complete node.
+    /// Returns the tree if it is one complete node.
     ///
     /// # Errors
     ///

@@ -3,7 +3,7 @@ ghost use Rattle.std.specs.Prelude.{◌≡◌, ◌+◌, ◌^◌, ◌<◌, ◌≤
 
 use crate::text_size::TextSize;
 
-/// The bytes from `start` to just before `end`. An empty range has a place too.
+/// The bytes from `start` to before `end`. An empty range has a position too.
 #[derive(Clone, Copy, Debug, PartialEq, Eq, Hash)]
 pub struct TextRange {
     pub start: TextSize,
@@ -12,7 +12,7 @@ pub struct TextRange {
 }
 
 impl TextRange {
-    /// The bytes from a start to an end, which is not before it.
+    /// Creates the range from `start` to before `end`. `start` is not after `end`.
     pub fn new(start: TextSize, end: TextSize) -> TextRange
         requires { start.0 ≤ end.0 }
         ensures start { result.start ≡ start }
@@ -21,7 +21,7 @@ impl TextRange {
         TextRange { start, end }
     }
 
-    /// The range of `len` bytes from `offset` on.
+    /// Creates the range of `len` bytes from `offset` on.
     pub fn at(offset: TextSize, len: TextSize) -> TextRange
         requires { offset.0 + len.0 < 2 ^ 32 }
         ensures start { result.start ≡ offset }
@@ -33,7 +33,7 @@ impl TextRange {
         }
     }
 
-    /// The range of no bytes at `offset`.
+    /// Creates the empty range at `offset`.
     pub fn empty(offset: TextSize) -> TextRange
         ensures start { result.start ≡ offset }
         ensures end { result.end ≡ offset }
@@ -44,7 +44,7 @@ impl TextRange {
         }
     }
 
-    /// The byte that it begins at.
+    /// Returns the start offset, in bytes.
     pub fn start(self) -> TextSize
         ensures { result ≡ self.start }
     {
@@ -52,7 +52,7 @@ impl TextRange {
         start
     }
 
-    /// The byte that it ends before.
+    /// Returns the end offset, in bytes. The byte at this offset is not in the range.
     pub fn end(self) -> TextSize
         ensures { result ≡ self.end }
     {
@@ -60,35 +60,35 @@ impl TextRange {
         end
     }
 
-    /// How many bytes it has.
+    /// Returns the length, in bytes.
     pub fn len(self) -> TextSize
         ensures { self.start.0 + result.0 ≡ self.end.0 }
     {
         TextSize(self.end.0 - self.start.0)
     }
 
-    /// Whether it has no bytes.
+    /// Returns `true` if the range has no bytes.
     pub fn is_empty(self) -> bool
         ensures { IsTrue result ↔ (self.start.0 ≡ self.end.0) }
     {
         self.start.0 == self.end.0
     }
 
-    /// Whether the byte at `offset` lies in the range.
+    /// Returns `true` if the byte at `offset` is in the range.
     pub fn contains(self, offset: TextSize) -> bool
         ensures { IsTrue result ↔ ((self.start.0 ≤ offset.0) × (offset.0 < self.end.0)) }
     {
         self.start.0 <= offset.0 && offset.0 < self.end.0
     }
 
-    /// Whether `other` lies in the range, from end to end.
+    /// Returns `true` if `other` neither starts before the range nor ends after it.
     pub fn contains_range(self, other: TextRange) -> bool
         ensures { IsTrue result ↔ ((self.start.0 ≤ other.start.0) × (other.end.0 ≤ self.end.0)) }
     {
         self.start.0 <= other.start.0 && other.end.0 <= self.end.0
     }
 
-    /// The smallest range that holds both.
+    /// Returns the smallest range that contains both.
     pub fn cover(self, other: TextRange) -> TextRange
         ensures start { result.start.0 ≡ min self.start.0 other.start.0 }
         ensures end { result.end.0 ≡ max self.end.0 other.end.0 }
@@ -99,7 +99,8 @@ impl TextRange {
         }
     }
 
-    /// What lies in both ranges: an empty range where they only touch, `None` where they lie apart.
+    /// Returns the intersection of both ranges: an empty range if they only touch, `None` if they
+    /// are apart.
     pub fn intersect(self, other: TextRange) -> Option<TextRange>
         ensures start { IfSome result (λ r. r.start.0 ≡ max self.start.0 other.start.0) }
         ensures end { IfSome result (λ r. r.end.0 ≡ min self.end.0 other.end.0) }

@@ -1,4 +1,4 @@
-//! Tokens: a kind and a text, shared by all that hold the token.
+//! Tokens: a kind and a text, shared by all owners of the token.
 ghost use Rattle.std.specs.Prelude.{◌≡◌, length, IfOk, IfErr, OnOk};
 ghost use Rattle.rowan_green.specs.Term.{FitsToken};
 ghost use Rattle.rowan_green.specs.Refusal.{RefusesUnless};
@@ -13,7 +13,7 @@ use std::marker::Model;
 use std::rc::Rc;
 
 /// A token of a green tree: an entry of an arena. A clone shares the arena; cloning does not
-/// allocate. A token of a tree that a builder made keeps the whole tree alive.
+/// allocate. A token of a built tree keeps the whole tree alive.
 #[derive(Drop)]
 pub struct GreenToken {
     pub(crate) index: u32,
@@ -35,7 +35,7 @@ impl Model for GreenToken {
 }
 
 impl GreenToken {
-    /// Returns a token of this kind and text, in an arena of its own.
+    /// Creates a token with its own arena.
     ///
     /// # Errors
     ///
@@ -58,21 +58,21 @@ impl GreenToken {
         Ok(GreenToken { index, arena })
     }
 
-    /// Its kind.
+    /// Returns the kind.
     pub fn kind(&self) -> SyntaxKind
         ensures { result.0 ≡ self.now.kind }
     {
         self.as_ref().kind()
     }
 
-    /// Its text.
+    /// Returns the text.
     pub fn text(&self) -> &str
         ensures { result.now ≡ self.now.text }
     {
         self.as_ref().text()
     }
 
-    /// The length of its text, in bytes.
+    /// Returns the length of the text, in bytes.
     pub fn text_len(&self) -> TextSize
         ensures { result.0 ≡ length self.now.text }
     {
@@ -87,7 +87,7 @@ impl Clone for GreenToken {
     ///
     /// # Errors
     ///
-    /// `AllocError` if the reference count overflows.
+    /// [`AllocError`] if the reference count overflows.
     fn clone(&self) -> Result<GreenToken, AllocError> {
         self.as_ref().to_owned()
     }

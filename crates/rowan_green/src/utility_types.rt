@@ -11,7 +11,7 @@ pub enum NodeOrToken<N, T> {
 }
 
 impl<N, T> NodeOrToken<N, T> {
-    /// The node, if it is one.
+    /// Returns the node, or `None` for a token.
     pub fn into_node(self) -> Option<N>
     where
         T: Drop,
@@ -23,7 +23,7 @@ impl<N, T> NodeOrToken<N, T> {
         }
     }
 
-    /// The token, if it is one.
+    /// Returns the token, or `None` for a node.
     pub fn into_token(self) -> Option<T>
     where
         N: Drop,
@@ -35,7 +35,7 @@ impl<N, T> NodeOrToken<N, T> {
         }
     }
 
-    /// A reference to the node, if it is one.
+    /// Returns a reference to the node, or `None` for a token.
     pub fn as_node(&self) -> Option<&N>
         ensures { option_copied result ≡ node_part self.now }
     {
@@ -45,7 +45,7 @@ impl<N, T> NodeOrToken<N, T> {
         }
     }
 
-    /// A reference to the token, if it is one.
+    /// Returns a reference to the token, or `None` for a node.
     pub fn as_token(&self) -> Option<&T>
         ensures { option_copied result ≡ token_part self.now }
     {

@@ -44,9 +44,3 @@ pub use typed_nodes::{
     StructParts, Use, UseParts,
 };
 
-#[cfg(test)]
-mod preview_tests;
-#[cfg(test)]
-mod trial_tests;
-#[cfg(test)]
-mod typed_tests;

@@ -1,4 +1,4 @@
-//! Searches among the bytes of a text: how long the run at its front is.
+//! Searches in the bytes of a text: the length of the run at its front.
 
 ghost use Rattle.std.specs.Prelude.{◌≡◌, ◌&&◌, ◌==◌, ◌||◌, not, ltb, length};
 ghost use Rattle.rustc_lexer.specs.Characters.{line_feed, double_quote, backslash, star, slash, hash, is_whitespace, is_id_continue};
@@ -32,7 +32,7 @@ pub(crate) fn white_len(bytes: &[u8]) -> usize
     bytes.len()
 }
 
-/// The ASCII bytes at the front that may follow in an identifier.
+/// Returns the number of ASCII bytes at the front that can continue an identifier.
 pub(crate) fn continue_len(bytes: &[u8]) -> usize
     ensures { result ≡ run_len (λ b. ltb b 128 && is_id_continue b) bytes.now }
 {
@@ -44,7 +44,7 @@ pub(crate) fn continue_len(bytes: &[u8]) -> usize
     bytes.len()
 }
 
-/// The hashes at the front.
+/// Returns the number of `#` at the front.
 pub(crate) fn hash_len(bytes: &[u8]) -> usize
     ensures { result ≡ run_len (λ b. b == hash) bytes.now }
 {
@@ -56,7 +56,7 @@ pub(crate) fn hash_len(bytes: &[u8]) -> usize
     bytes.len()
 }
 
-/// The bytes before the first line feed.
+/// Returns the number of bytes before the first line feed; all if there is none.
 pub(crate) fn line_len(bytes: &[u8]) -> usize
     ensures { result ≡ run_len (λ b. not (b == line_feed)) bytes.now }
 {
@@ -66,7 +66,7 @@ pub(crate) fn line_len(bytes: &[u8]) -> usize
     }
 }
 
-/// The bytes before the first `"`.
+/// Returns the number of bytes before the first `"`; all if there is none.
 pub(crate) fn unquoted_len(bytes: &[u8]) -> usize
     ensures { result ≡ run_len (λ b. not (b == double_quote)) bytes.now }
 {
@@ -76,7 +76,7 @@ pub(crate) fn unquoted_len(bytes: &[u8]) -> usize
     }
 }
 
-/// The bytes before the first `"` or `\`.
+/// Returns the number of bytes before the first `"` or `\`; all if there is neither.
 pub(crate) fn plain_len(bytes: &[u8]) -> usize
     ensures { result ≡ run_len (λ b. not (b == double_quote || b == backslash)) bytes.now }
 {
@@ -86,7 +86,7 @@ pub(crate) fn plain_len(bytes: &[u8]) -> usize
     }
 }
 
-/// The bytes before the first `/` or `*`.
+/// Returns the number of bytes before the first `/` or `*`; all if there is neither.
 pub(crate) fn unmarked_len(bytes: &[u8]) -> usize
     ensures { result ≡ run_len (λ b. not (b == slash || b == star)) bytes.now }
 {

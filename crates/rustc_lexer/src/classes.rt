@@ -1,4 +1,4 @@
-//! The classes of characters.
+//! Character classes.
 
 ghost use Rattle.std.specs.Prelude.{◌≡◌, chars};
 ghost use Rattle.rustc_lexer.specs.Characters.{is_whitespace, is_horizontal_whitespace, is_digit, is_id_start, is_id_continue, is_ident};
@@ -18,7 +18,7 @@ pub fn is_whitespace(c: char) -> bool
         || c == '\u{2029}'
 }
 
-/// Whether a character is a tab or a space.
+/// Returns `true` if the character is a tab or a space.
 #[tactic(auto, unfolding(crate::specs::Characters::is_horizontal_whitespace))]
 pub fn is_horizontal_whitespace(c: char) -> bool
     ensures { result ≡ is_horizontal_whitespace c }
@@ -26,7 +26,7 @@ pub fn is_horizontal_whitespace(c: char) -> bool
     c == '\t' || c == ' '
 }
 
-/// Whether a character is a decimal digit.
+/// Returns `true` if the character is an ASCII decimal digit.
 #[tactic(auto, unfolding(crate::specs::Characters::is_digit))]
 pub(crate) fn is_digit(c: char) -> bool
     ensures { result ≡ is_digit c }
@@ -34,7 +34,7 @@ pub(crate) fn is_digit(c: char) -> bool
     '0' <= c && c <= '9'
 }
 
-/// Whether an identifier may begin with a character: `_`, or XID_Start.
+/// Returns `true` if the character can start an identifier: `_` or XID_Start.
 #[tactic(auto, unfolding(crate::specs::Characters::is_id_start))]
 pub fn is_id_start(c: char) -> bool
     ensures { result ≡ is_id_start c }
@@ -42,7 +42,7 @@ pub fn is_id_start(c: char) -> bool
     c == '_' || unicode_ident::is_xid_start(c)
 }
 
-/// Whether a character may follow in an identifier: XID_Continue.
+/// Returns `true` if the character can continue an identifier: XID_Continue.
 #[tactic(auto, unfolding(crate::specs::Characters::is_id_continue))]
 pub fn is_id_continue(c: char) -> bool
     ensures { result ≡ is_id_continue c }
@@ -50,8 +50,8 @@ pub fn is_id_continue(c: char) -> bool
     unicode_ident::is_xid_continue(c)
 }
 
-/// Whether a text is an identifier: not empty, begun by what may begin one, and gone on with by
-/// what may follow in one.
+/// Returns `true` if the text is an identifier: its first character is [`is_id_start`], and all
+/// others are [`is_id_continue`]. An empty text is not one.
 pub fn is_ident(text: &str) -> bool
     ensures { result ≡ is_ident (chars text.now) }
 {

@@ -20,7 +20,7 @@ fn closes_comment(a: char, b: char) -> bool
     a == '*' && b == '/'
 }
 
-// What a comment documents, by its own text.
+// Returns the doc style of the comment `text`; `None` if it is not a doc comment.
 #[tactic(auto, unfolding(crate::specs::Lexeme::doc_style))]
 fn doc_style(text: &Cursor) -> Option<DocStyle>
     ensures { result ≡ doc_style text.now }
@@ -39,7 +39,7 @@ fn doc_style(text: &Cursor) -> Option<DocStyle>
 }
 
 impl<'a> Cursor<'a> {
-    /// A comment from `//` to the end of its line.
+    /// Skips a line comment, from `//` up to the line feed or the end, and returns its kind.
     pub(crate) fn line_comment(&mut self) -> TokenKind
         ensures { Reads line_comment self.old result self.new }
     {
@@ -52,7 +52,7 @@ impl<'a> Cursor<'a> {
         }
     }
 
-    /// A comment from `/*` to its partner.
+    /// Skips a block comment, from `/*` to the matching `*/` or the end, and returns its kind.
     pub(crate) fn block_comment(&mut self) -> TokenKind
         ensures { Reads block_comment self.old result self.new }
     {
@@ -66,7 +66,7 @@ impl<'a> Cursor<'a> {
         }
     }
 
-    // The rest of a block comment; whether it is closed.
+    // Skips the rest of a block comment, after its `/*`. Returns `true` if it is terminated.
     fn eat_block(&mut self) -> bool
         ensures { Reads (block 0) self.old result self.new }
     {

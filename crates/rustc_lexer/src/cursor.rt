@@ -1,4 +1,4 @@
-//! A place in a text, from which tokens are read.
+//! A position in a text, from which tokens are read.
 
 ghost use Rattle.std.specs.Prelude.{◌≡◌, ◌<◌, ◌==◌, ◌||◌, ◌↔◌, not, ℕ, [], IsTrue, chars, drop, take, if◌then◌else◌};
 ghost use Rattle.rustc_lexer.specs.Characters.{line_feed, double_quote, backslash, slash, star, hash, size, is_whitespace, is_id_continue};
@@ -9,7 +9,7 @@ use crate::bytes;
 use crate::classes::{is_id_continue, is_id_start, is_whitespace};
 use std::marker::Model;
 
-/// A place in a text, from which tokens are read. Contracts see it as the characters that are left.
+/// A position in a text, from which tokens are read. Model: the remaining characters.
 #[derive(Drop)]
 pub struct Cursor<'a> {
     rest: &'a str,
@@ -26,21 +26,21 @@ impl<'a> Model for Cursor<'a> {
 }
 
 impl<'a> Cursor<'a> {
-    /// A cursor at the front of a text.
+    /// Creates a cursor at the start of `text`.
     pub fn new(text: &'a str) -> Cursor<'a>
         ensures { result ≡ chars text.now }
     {
         Cursor { rest: text }
     }
 
-    /// The text that is left.
+    /// Returns the remaining text.
     pub fn as_str(&self) -> &'a str
         ensures { chars result.now ≡ self.now }
     {
         self.rest
     }
 
-    /// The next character, `'\0'` past the end.
+    /// Returns the next character without consuming it; `'\0'` past the end.
     pub fn first(&self) -> char
         ensures { result ≡ peek 0 self.now }
     {
@@ -50,35 +50,35 @@ impl<'a> Cursor<'a> {
         }
     }
 
-    /// The character after the next one, `'\0'` past the end.
+    /// Returns the second next character without consuming it; `'\0'` past the end.
     pub fn second(&self) -> char
         ensures { result ≡ peek 1 self.now }
     {
         self.after().first()
     }
 
-    /// The third character, `'\0'` past the end.
+    /// Returns the third next character without consuming it; `'\0'` past the end.
     pub fn third(&self) -> char
         ensures { result ≡ peek 2 self.now }
     {
         self.after().second()
     }
 
-    /// The fourth character, `'\0'` past the end.
+    /// Returns the fourth next character without consuming it; `'\0'` past the end.
     pub(crate) fn fourth(&self) -> char
         ensures { result ≡ peek 3 self.now }
     {
         self.after().third()
     }
 
-    /// Returns a copy of the cursor, which stays here while this one moves on.
+    /// Returns a copy of the cursor, which does not move when this one does.
     pub fn here(&self) -> Cursor<'a>
         ensures { result ≡ self.now }
     {
         Cursor { rest: self.rest }
     }
 
-    /// Returns the text from here up to a later position.
+    /// Returns the text from this position up to `later`, as a cursor.
     pub fn until(&self, later: &Cursor<'a>) -> Cursor<'a>
         requires { (n : ℕ) × (later.now ≡ drop n self.now) }
         ensures { (n : ℕ) → later.now ≡ drop n self.now → result ≡ take n self.now }
@@ -88,7 +88,7 @@ impl<'a> Cursor<'a> {
         }
     }
 
-    /// The place after the next character, the end's at the end.
+    /// Returns the position after the next character; at the end, the position itself.
     pub(crate) fn after(&self) -> Cursor<'a>
         ensures { result ≡ drop 1 self.now }
     {
@@ -121,21 +121,21 @@ impl<'a> Cursor<'a> {
         self.rest = &rest[1..];
     }
 
-    /// The bytes that are left.
+    /// Returns the number of remaining bytes.
     pub fn remaining(&self) -> usize
         ensures { result ≡ size self.now }
     {
         self.rest.len()
     }
 
-    /// Whether no text is left.
+    /// Returns `true` if no text remains.
     pub fn is_empty(&self) -> bool
         ensures { IsTrue result ↔ (self.now ≡ []) }
     {
         self.rest.is_empty()
     }
 
-    /// Skips the whitespace that is next.
+    /// Skips the whitespace at this position.
     pub fn eat_whitespace(&mut self)
         ensures { self.new ≡ drop (run_len is_whitespace self.old) self.old }
     {
@@ -147,7 +147,7 @@ impl<'a> Cursor<'a> {
         }
     }
 
-    // Skips the whitespace that is next, one character at a time.
+    // Skips the whitespace at this position, one character at a time.
     #[inline(never)]
     fn eat_wide_whitespace(&mut self)
         ensures { self.new ≡ drop (run_len is_whitespace self.old) self.old }
@@ -157,7 +157,7 @@ impl<'a> Cursor<'a> {
         }
     }
 
-    /// Skips the characters that are next and can continue an identifier.
+    /// Skips the characters at this position that can continue an identifier.
     #[inline(always)]
     pub(crate) fn eat_id_continue(&mut self)
         ensures { self.new ≡ drop (run_len is_id_continue self.old) self.old }
@@ -190,7 +190,7 @@ impl<'a> Cursor<'a> {
         }
     }
 
-    /// Skips the hashes that are next, and returns their number.
+    /// Skips the `#` at this position and returns their number.
     pub(crate) fn eat_hashes(&mut self) -> usize
         ensures { Reads (run (λ c. c == hash)) self.old result self.new }
     {
@@ -200,7 +200,7 @@ impl<'a> Cursor<'a> {
         n
     }
 
-    /// On to before the next line feed, or the end.
+    /// Skips the characters before the next line feed; all if there is none.
     pub(crate) fn eat_line(&mut self)
         ensures { self.new ≡ drop (run_len (λ c. not (c == line_feed)) self.old) self.old }
     {
@@ -209,7 +209,7 @@ impl<'a> Cursor<'a> {
         self.rest = &rest[n..];
     }
 
-    /// On to before the next `"`, or the end.
+    /// Skips the characters before the next `"`; all if there is none.
     pub(crate) fn eat_unquoted(&mut self)
         ensures { self.new ≡ drop (run_len (λ c. not (c == double_quote)) self.old) self.old }
     {
@@ -218,7 +218,7 @@ impl<'a> Cursor<'a> {
         self.rest = &rest[n..];
     }
 
-    /// On to before the next `"` or `\`, or the end.
+    /// Skips the characters before the next `"` or `\`; all if there is neither.
     pub(crate) fn eat_plain(&mut self)
         ensures { self.new ≡ drop
             (run_len (λ c. not (c == double_quote || c == backslash)) self.old) self.old }
@@ -228,7 +228,7 @@ impl<'a> Cursor<'a> {
         self.rest = &rest[n..];
     }
 
-    /// On to before the next `/` or `*`, or the end.
+    /// Skips the characters before the next `/` or `*`; all if there is neither.
     pub(crate) fn eat_unmarked(&mut self)
         ensures { self.new ≡ drop (run_len (λ c. not (c == slash || c == star)) self.old) self.old }
     {
@@ -237,8 +237,8 @@ impl<'a> Cursor<'a> {
         self.rest = &rest[n..];
     }
 
-    /// Skips `hashes` hashes and returns `true` if at least that many are next; otherwise returns
-    /// `false`.
+    /// Skips `hashes` times `#` and returns `true` if at least that many are at this position;
+    /// otherwise skips nothing and returns `false`.
     pub(crate) fn eat_closing_hashes(&mut self, hashes: usize) -> bool
         ensures told { result ≡ hashes_follow hashes self.old }
         ensures rest { self.new ≡ (if result then drop hashes self.old else self.old) }

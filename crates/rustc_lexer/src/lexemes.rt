@@ -1,4 +1,4 @@
-//! What a text begins with: the first case that fits decides.
+//! The kind of the token at the front of a text: the first matching case decides.
 
 ghost use Rattle.std.specs.Prelude.{◌≡◌, ◌==◌, ◌||◌, ◌&&◌, not, true, false};
 ghost use Rattle.rustc_lexer.specs.Characters.{double_quote, hash, letter_b, letter_c, letter_r, slash, tick, is_digit, is_id_start, is_whitespace};
@@ -19,35 +19,36 @@ fn opens_raw(c: char) -> bool
     c == '#' || c == '"'
 }
 
-// Whether an `r` before these characters begins a raw identifier.
+// Returns `true` if an `r` before these characters starts a raw identifier.
 fn begins_raw_name(b: char, c: char) -> bool
     ensures { result ≡ (b == hash && is_id_start c) }
 {
     b == '#' && is_id_start(c)
 }
 
-// Whether a `b` or `c` before these characters begins a raw string.
+// Returns `true` if a `b` or `c` before these characters starts a raw string.
 fn begins_raw_string(b: char, c: char) -> bool
     ensures { result ≡ (b == letter_r && opens_raw c) }
 {
     b == 'r' && opens_raw(c)
 }
 
-// Whether a `'` before these characters may begin a lifetime.
+// Returns `true` if a `'` before these characters can start a lifetime.
 fn begins_lifetime(b: char, c: char) -> bool
     ensures { result ≡ (not (c == tick) && (is_id_start b || is_digit b)) }
 {
     c != '\'' && (is_id_start(b) || is_digit(b))
 }
 
-// Whether a character begins a name and no prefix: an ASCII letter but `r`, `b` and `c`, or `_`.
+// Returns `true` if `c` starts a name and no literal prefix: `_`, or an ASCII letter other than
+// `r`, `b` and `c`.
 fn begins_plain_name(c: char) -> bool
     ensures { result ≡ begins_plain_name c }
 {
     c == '_' || (c.is_ascii_alphabetic() && c != 'r' && c != 'b' && c != 'c')
 }
 
-// Whether a character is of ASCII and stands for itself, whatever follows.
+// Returns `true` if `c` is an ASCII character that is a token by itself, whatever follows.
 fn is_plain_sign(c: char) -> bool
     ensures { result ≡ is_plain_sign c }
 {
@@ -61,7 +62,7 @@ fn is_plain_sign(c: char) -> bool
         || c == '^'
 }
 
-// Returns the kind of a character that is a token by itself.
+// Returns the kind of the one-character token `c`; `Unknown` if `c` starts no token.
 #[inline(always)]
 #[tactic(auto, unfolding(crate::specs::Lexeme::sign, crate::specs::Rows::first_fit))]
 fn sign(c: char) -> TokenKind
@@ -100,7 +101,7 @@ fn sign(c: char) -> TokenKind
 }
 
 impl<'a> Cursor<'a> {
-    /// Reads the next token and returns its kind. Past the end, it is `Unknown` and empty.
+    /// Skips the next token and returns its kind. At the end, skips nothing and returns `Unknown`.
     pub(crate) fn lexeme(&mut self) -> TokenKind
         ensures { Reads lexeme self.old result self.new }
     {
@@ -118,7 +119,7 @@ impl<'a> Cursor<'a> {
         self.rarer_lexeme(first)
     }
 
-    // Reads any other token: no whitespace, no plain sign and no plain name.
+    // Skips a token that starts with `first`, which is not whitespace, and returns its kind.
     fn rarer_lexeme(&mut self, first: char) -> TokenKind
         requires first { first ≡ peek 0 self.old }
         requires white { is_whitespace first ≡ false }
@@ -154,7 +155,7 @@ impl<'a> Cursor<'a> {
         self.single()
     }
 
-    // Reads whitespace.
+    // Skips whitespace and returns its kind.
     fn whitespace(&mut self) -> TokenKind
         requires { is_whitespace (peek 0 self.old) ≡ true }
         ensures { Reads (lexeme_in Blank) self.old result self.new }
@@ -163,7 +164,7 @@ impl<'a> Cursor<'a> {
         TokenKind::Whitespace
     }
 
-    // One character.
+    // Skips one character and returns its kind as a token by itself.
     fn single(&mut self) -> TokenKind
         ensures { Reads (lexeme_in Single) self.old result self.new }
     {
@@ -172,7 +173,7 @@ impl<'a> Cursor<'a> {
         kind
     }
 
-    // What begins with `/`.
+    // Skips a token that starts with `/`: a comment or `/`. Returns its kind.
     fn slash(&mut self) -> TokenKind
         requires { peek 0 self.old ≡ slash }
         ensures { Reads lexeme self.old result self.new }
@@ -187,7 +188,8 @@ impl<'a> Cursor<'a> {
         self.single()
     }
 
-    // What begins with `r`.
+    // Skips a token that starts with `r`: a raw identifier, a raw string or a name. Returns its
+    // kind.
     fn letter_r(&mut self) -> TokenKind
         requires { peek 0 self.old ≡ letter_r }
         ensures { Reads lexeme self.old result self.new }
@@ -202,7 +204,8 @@ impl<'a> Cursor<'a> {
         self.identifier()
     }
 
-    // What begins with `b`.
+    // Skips a token that starts with `b`: a byte or byte string literal, or a name. Returns its
+    // kind.
     fn letter_b(&mut self) -> TokenKind
         requires { peek 0 self.old ≡ letter_b }
         ensures { Reads lexeme self.old result self.new }
@@ -220,7 +223,7 @@ impl<'a> Cursor<'a> {
         self.identifier()
     }
 
-    // What begins with `c`.
+    // Skips a token that starts with `c`: a C string literal or a name. Returns its kind.
     fn letter_c(&mut self) -> TokenKind
         requires { peek 0 self.old ≡ letter_c }
         ensures { Reads lexeme self.old result self.new }
@@ -235,7 +238,8 @@ impl<'a> Cursor<'a> {
         self.identifier()
     }
 
-    // What begins with `'`: a lifetime may stand where the third character is no `'`.
+    // Skips a token that starts with `'` and returns its kind. It can be a lifetime only if the
+    // third character is not `'`; otherwise it is a character literal.
     fn tick(&mut self) -> TokenKind
         requires { peek 0 self.old ≡ tick }
         ensures { Reads lexeme self.old result self.new }
@@ -246,7 +250,7 @@ impl<'a> Cursor<'a> {
         self.char_literal()
     }
 
-    // What begins with `#`.
+    // Skips a token that starts with `#`: a guarded prefix (`##` or `#"`) or `#`. Returns its kind.
     fn hash(&mut self) -> TokenKind
         requires { peek 0 self.old ≡ hash }
         ensures { Reads lexeme self.old result self.new }
@@ -259,7 +263,7 @@ impl<'a> Cursor<'a> {
         self.single()
     }
 
-    // A number with its suffix.
+    // Parses a number literal with its suffix.
     fn number_literal(&mut self) -> TokenKind
         ensures { Reads (literal number) self.old result self.new }
     {
@@ -268,7 +272,7 @@ impl<'a> Cursor<'a> {
         self.end_literal(start, body)
     }
 
-    // A string in quotes, with the letter before them.
+    // Parses a string literal with the letter of its kind and its suffix.
     fn string_literal(&mut self, kind: StringKind) -> TokenKind
         ensures { Reads (literal
             (string (letters kind) (quoted_kind kind))) self.old result self.new }
@@ -284,7 +288,7 @@ impl<'a> Cursor<'a> {
         self.end_literal(start, body)
     }
 
-    // A raw string, with the letters before its hashes.
+    // Parses a raw string literal with the letters before its hashes and its suffix.
     fn raw_string_literal(&mut self, kind: StringKind) -> TokenKind
         ensures { Reads (literal
             (raw_string (letters kind) (raw_kind kind))) self.old result self.new }
@@ -300,7 +304,7 @@ impl<'a> Cursor<'a> {
         self.end_literal(start, body)
     }
 
-    // `'a'`
+    // Parses a character literal with its suffix: `'a'`.
     fn char_literal(&mut self) -> TokenKind
         ensures { Reads (literal (character 0 (λ t. LiteralKind.Char t))) self.old result self.new }
     {
@@ -314,7 +318,7 @@ impl<'a> Cursor<'a> {
         self.end_literal(start, body)
     }
 
-    // `b'a'`
+    // Parses a byte literal with its suffix: `b'a'`.
     fn byte_literal(&mut self) -> TokenKind
         ensures { Reads (literal (character 1 (λ t. LiteralKind.Byte t))) self.old result self.new }
     {

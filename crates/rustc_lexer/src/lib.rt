@@ -1,5 +1,5 @@
-//! Lexemes of Rust source text: cuts a text into tokens, each a kind and a length, with no text
-//! left over.
+//! Lexer for Rust source text: cuts a text into tokens, each a kind and a length in bytes. The
+//! tokens cover the whole text.
 #![tactic(auto)]
 
 mod bytes;

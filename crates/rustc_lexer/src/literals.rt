@@ -1,4 +1,4 @@
-//! Literals in quotes: strings, raw strings, characters and bytes.
+//! Quoted literals: strings, raw strings, characters and bytes; and literal suffixes.
 
 ghost use Rattle.std.specs.Prelude.{◌≡◌, ◌≤◌, ◌-◌, false, drop};
 ghost use Rattle.rustc_lexer.specs.Characters.{size};
@@ -10,14 +10,14 @@ ghost use Rattle.rustc_lexer.specs.Strings.{letters, quoted_kind, raw_kind};
 use crate::cursor::Cursor;
 use crate::token::{LiteralKind, TokenKind};
 
-/// A literal without its suffix: its kind, and whether a suffix may follow.
+/// A literal without its suffix: its kind, and `ends`: `true` if a suffix may follow.
 #[derive(Clone, Copy)]
 pub(crate) struct Body {
     pub kind: LiteralKind,
     pub ends: bool,
 }
 
-/// What a string is made of, by the letter before its quotes or before its `r`: none, `b` or `c`.
+/// The kind of a string literal, by the letter before its quote or its `r`: none, `b` or `c`.
 #[derive(Clone, Copy)]
 pub(crate) enum StringKind {
     Str,
@@ -26,7 +26,7 @@ pub(crate) enum StringKind {
 }
 
 impl StringKind {
-    /// The kind of such a string in plain quotes.
+    /// Returns the literal kind of a string of this kind, not raw.
     pub(crate) fn quoted(self, terminated: bool) -> LiteralKind
         ensures { result ≡ quoted_kind self terminated }
     {
@@ -37,7 +37,7 @@ impl StringKind {
         }
     }
 
-    /// The kind of such a raw string.
+    /// Returns the literal kind of a raw string of this kind.
     pub(crate) fn raw(self, n_hashes: Option<u8>) -> LiteralKind
         ensures { result ≡ raw_kind self n_hashes }
     {
@@ -61,7 +61,8 @@ fn stops_character(a: char, b: char) -> bool
     a == '/' || (a == '\n' && b != '\'')
 }
 
-// The number of hashes that a raw string's kind has.
+// Returns the number of hashes in the kind of a raw string; `None` if it is not closed or has more
+// than 255.
 #[tactic(auto, unfolding(crate::specs::Lexeme::counted))]
 fn counted(hashes: usize, closed: bool) -> Option<u8>
     ensures { result ≡ counted hashes closed }
@@ -74,8 +75,8 @@ fn counted(hashes: usize, closed: bool) -> Option<u8>
 }
 
 impl<'a> Cursor<'a> {
-    /// Ends a literal that began where `start` bytes were left: takes its suffix, if one may
-    /// follow.
+    /// Skips the optional suffix of a literal if one may follow, and returns the literal's kind. At
+    /// the start of the literal, `start` bytes remained.
     pub(crate) fn end_literal(&mut self, start: usize, body: Body) -> TokenKind
         requires { size self.old ≤ start }
         ensures kind { result ≡ TokenKind.Literal body.kind (start - size self.old) }
@@ -91,7 +92,7 @@ impl<'a> Cursor<'a> {
         }
     }
 
-    /// Skips the letter before the quote of a string of this kind, if there is one.
+    /// Skips the letter before the quote, or before the `r`, of a string of this kind, if any.
     pub(crate) fn eat_letter(&mut self, kind: StringKind)
         ensures { self.new ≡ drop (letters kind) self.old }
     {
@@ -101,7 +102,7 @@ impl<'a> Cursor<'a> {
         }
     }
 
-    /// The rest of a string after its first quote; whether it is closed.
+    /// Skips the rest of a string, after its opening quote. Returns `true` if it is terminated.
     pub(crate) fn eat_quoted(&mut self) -> bool
         ensures { Reads (quoted false) self.old result self.new }
     {
@@ -117,7 +118,8 @@ impl<'a> Cursor<'a> {
         false
     }
 
-    /// Skips the rest of a character or byte after its first `'`. Returns `true` if it is closed.
+    /// Skips the rest of a character or byte literal, after its opening `'`. Returns `true` if it
+    /// is terminated.
     pub(crate) fn eat_character(&mut self) -> bool
         ensures { Reads character_end self.old result self.new }
     {
@@ -129,8 +131,8 @@ impl<'a> Cursor<'a> {
         self.eat_ticked()
     }
 
-    // Skips the rest of a character that its second character does not close. Returns `true` if it
-    // is closed.
+    // Skips the rest of a character literal up to the first unescaped `'`, or to before a `/`, or a
+    // line feed that no `'` follows. Returns `true` if it is terminated.
     fn eat_ticked(&mut self) -> bool
         ensures { Reads (ticked false) self.old result self.new }
     {
@@ -151,8 +153,8 @@ impl<'a> Cursor<'a> {
         false
     }
 
-    /// The rest of a raw string after its `r`; the number of its hashes, if it is closed and they
-    /// are at most 255.
+    /// Skips the rest of a raw string, after its `r`. Returns the number of its hashes; `None` if
+    /// it is unterminated or has more than 255.
     pub(crate) fn eat_raw_string(&mut self) -> Option<u8>
         ensures { Reads raw_end self.old result self.new }
     {
@@ -166,7 +168,8 @@ impl<'a> Cursor<'a> {
         counted(hashes, closed)
     }
 
-    // The rest of a raw string after its first quote; whether it is closed.
+    // Skips the rest of a raw string with `hashes` hashes, after its opening quote. Returns `true`
+    // if it is terminated.
     fn eat_raw(&mut self, hashes: usize) -> bool
         ensures { Reads (raw hashes) self.old result self.new }
     {

@@ -24,7 +24,7 @@ fn is_raw(a: char, b: char, c: char) -> bool
     a == 'r' && b == '#' && is_id_start(c)
 }
 
-// The kind of a lifetime before a character.
+// Returns the kind of a lifetime that the character `next` follows.
 fn lifetime_kind(next: char, starts_with_number: bool) -> TokenKind
     ensures { result ≡ (if next == hash && not starts_with_number
         then TokenKind.UnknownPrefixLifetime else TokenKind.Lifetime starts_with_number) }
@@ -37,7 +37,7 @@ fn lifetime_kind(next: char, starts_with_number: bool) -> TokenKind
 }
 
 impl<'a> Cursor<'a> {
-    /// An identifier or an unknown prefix, from what begins it.
+    /// Skips an identifier or an unknown prefix, and returns its kind.
     pub(crate) fn identifier(&mut self) -> TokenKind
         requires { is_id_start (peek 0 self.old) ≡ true }
         ensures { Reads identifier self.old result self.new }
@@ -50,7 +50,7 @@ impl<'a> Cursor<'a> {
         }
     }
 
-    /// An identifier after `r#`.
+    /// Skips a raw identifier, `r#` included, and returns its kind.
     pub(crate) fn raw_identifier(&mut self) -> TokenKind
         ensures { Reads raw_identifier self.old result self.new }
     {
@@ -60,7 +60,7 @@ impl<'a> Cursor<'a> {
         TokenKind::RawIdent
     }
 
-    /// A lifetime, or a character that is spelled like one and closed by a `'`.
+    /// Skips a lifetime, or a character literal: a lifetime with a `'` after it. Returns its kind.
     pub(crate) fn lifetime(&mut self) -> TokenKind
         ensures { Reads lifetime self.old result self.new }
     {

@@ -1,4 +1,4 @@
-//! Numbers.
+//! Number literals.
 
 ghost use Rattle.std.specs.Prelude.{◌≡◌, if◌then◌else◌, drop};
 ghost use Rattle.rustc_lexer.specs.Scan.{peek};
@@ -53,7 +53,8 @@ fn is_point(a: char, b: char) -> bool
     a == '.' && !(b == '.' || is_id_start(b))
 }
 
-// The base that a number's first two characters name.
+// Returns the base that `a` and `b`, the first two characters of a number, name; `None` if they are
+// not a base prefix.
 #[tactic(auto, unfolding(crate::specs::Lexeme::base_of, crate::specs::Rows::first_fit))]
 fn base_of(a: char, b: char) -> Option<Base>
     ensures { result ≡ base_of a b }
@@ -70,7 +71,7 @@ fn base_of(a: char, b: char) -> Option<Base>
     None
 }
 
-// The kind of a number without a dot.
+// Returns the kind of a number without a dot: a float if it has an exponent.
 #[tactic(auto, unfolding(crate::specs::Lexeme::plain_kind))]
 fn plain_kind(base: Base, exponent: Option<bool>) -> LiteralKind
     ensures { result ≡ plain_kind base exponent }
@@ -87,7 +88,7 @@ fn plain_kind(base: Base, exponent: Option<bool>) -> LiteralKind
     }
 }
 
-// The kind of a number with a dot.
+// Returns the kind of a number with a dot and a fraction.
 #[tactic(auto, unfolding(crate::specs::Lexeme::dotted_kind))]
 fn dotted_kind(base: Base, exponent: Option<bool>) -> LiteralKind
     ensures { result ≡ dotted_kind base exponent }
@@ -102,7 +103,7 @@ fn dotted_kind(base: Base, exponent: Option<bool>) -> LiteralKind
 }
 
 impl<'a> Cursor<'a> {
-    /// A number without its suffix.
+    /// Parses a number without its suffix.
     pub(crate) fn number(&mut self) -> Body
         ensures { Reads number self.old result self.new }
     {
@@ -130,7 +131,7 @@ impl<'a> Cursor<'a> {
         }
     }
 
-    // The digits of a number of a base; whether there is one.
+    // Skips the digits and `_` of a number in `base`. Returns `true` if there is a digit.
     fn eat_digits(&mut self, base: Base) -> bool
         ensures { Reads (digits (digits_of base)) self.old result self.new }
     {
@@ -142,7 +143,7 @@ impl<'a> Cursor<'a> {
         }
     }
 
-    // Digits and `_`; whether a digit is among them.
+    // Skips decimal digits and `_`. Returns `true` if there is a digit.
     fn eat_decimal_digits(&mut self) -> bool
         ensures { Reads (digits digit_or_underscore) self.old result self.new }
     {
@@ -154,7 +155,7 @@ impl<'a> Cursor<'a> {
         has
     }
 
-    // Hexadecimal digits and `_`; whether a digit is among them.
+    // Skips hexadecimal digits and `_`. Returns `true` if there is a digit.
     fn eat_hex_digits(&mut self) -> bool
         ensures { Reads (digits hex_or_underscore) self.old result self.new }
     {
@@ -166,7 +167,7 @@ impl<'a> Cursor<'a> {
         has
     }
 
-    // Reads the fraction and the exponent of a number, after its first digits.
+    // Parses the optional fraction and exponent of a number, after its first digits.
     fn fraction(&mut self, base: Base) -> Body
         ensures { Reads (fraction base) self.old result self.new }
     {
@@ -195,7 +196,7 @@ impl<'a> Cursor<'a> {
         }
     }
 
-    // An exponent, if there is one; whether it is empty.
+    // Skips an optional exponent; returns `Some(true)` if it has no digit, `None` if there is none.
     fn eat_exponent(&mut self) -> Option<bool>
         ensures { Reads exponent self.old result self.new }
     {
@@ -208,7 +209,7 @@ impl<'a> Cursor<'a> {
         Some(!has)
     }
 
-    // A sign, if there is one.
+    // Skips an optional sign.
     fn eat_sign(&mut self)
         ensures { self.new ≡ (if is_sign (peek 0 self.old) then drop 1 self.old else self.old) }
     {

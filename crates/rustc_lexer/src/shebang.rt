@@ -1,4 +1,4 @@
-//! The line at the front of a text that names its interpreter.
+//! The shebang: the first line of a text if it names an interpreter.
 
 ghost use Rattle.std.specs.Prelude.{◌≡◌, ◌==◌, ◌&&◌, chars, drop};
 ghost use Rattle.rustc_lexer.specs.Characters.{hash, exclamation};
@@ -9,8 +9,9 @@ use crate::token::TokenKind;
 use crate::tokens::Tokens;
 
 /// Returns the length of the shebang at the front of a text, in bytes, without the end of its line.
-/// A text that begins with `#!` has one, unless its next token, other than whitespace and non-doc
-/// comments, is `[`: then it is an attribute.
+///
+/// A text that starts with `#!` has a shebang, unless the next token after whitespace and non-doc
+/// comments is `[`: then it is an inner attribute. `None` if there is no shebang.
 pub fn strip_shebang(text: &str) -> Option<usize>
     ensures { result ≡ shebang (chars text.now) }
 {
@@ -38,7 +39,7 @@ fn ends_line(a: char, b: char) -> bool
     a == '\n' || (a == '\r' && b == '\n')
 }
 
-// Returns `true` for whitespace and for a comment that is not a doc comment.
+// Returns `true` if `kind` is whitespace or a comment that is not a doc comment.
 fn is_passed_over(kind: TokenKind) -> bool
     ensures { result ≡ is_passed_over kind }
 {
@@ -59,7 +60,7 @@ fn is_open_bracket(kind: TokenKind) -> bool
     }
 }
 
-// Returns `true` if the first token that is not skipped is `[`.
+// Returns `true` if the first token after whitespace and non-doc comments is `[`.
 fn opens_attribute(mut tokens: Tokens) -> bool
     ensures { result ≡ opens_attribute tokens.entry }
 {
@@ -72,7 +73,8 @@ fn opens_attribute(mut tokens: Tokens) -> bool
 }
 
 impl<'a> Cursor<'a> {
-    /// On to the end of the line: its line feed, or a carriage return before that.
+    /// Skips the characters before the end of the line: a line feed, or a carriage return and a
+    /// line feed. Skips all if there is none.
     pub fn eat_first_line(&mut self)
         ensures { self.new ≡ drop (line_len self.old) self.old }
     {

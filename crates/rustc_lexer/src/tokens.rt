@@ -1,4 +1,4 @@
-//! The tokens of a text, one after another.
+//! The tokens of a text, in source order.
 
 ghost use Rattle.std.specs.Prelude.{◌≡◌, chars, drop, length};
 ghost use Rattle.std.specs.Iterator.{YieldsFirst, item_count};
@@ -9,7 +9,7 @@ use crate::token::{Token, TokenKind};
 use std::marker::Model;
 
 impl<'a> Cursor<'a> {
-    /// Reads the next token and skips its characters. At the end, it is an `Eof` of length 0.
+    /// Parses a token and skips its characters. At the end, returns an `Eof` of length 0.
     pub fn advance_token(&mut self) -> Token
         ensures is_next { result ≡ token (next_lexeme self.old) }
         ensures rest { self.new ≡ drop (length (next_lexeme self.old).text) self.old }
@@ -47,8 +47,8 @@ impl<'a> Model for Tokens<'a> {
     ghost view = { λ t. token_list t.cursor };
 }
 
-/// Returns the tokens of a text, in source order. They cover the whole text, and their lengths sum
-/// to its length.
+/// Returns the tokens of a text, in source order. They cover the whole text: their lengths sum to
+/// its length in bytes.
 pub fn tokenize(text: &str) -> Tokens<'_>
     ensures { result ≡ token_list (chars text.now) }
 {
@@ -56,7 +56,7 @@ pub fn tokenize(text: &str) -> Tokens<'_>
 }
 
 impl<'a> Tokens<'a> {
-    /// The tokens from a place on.
+    /// Returns the tokens of the remaining text of `cursor`.
     pub(crate) fn from_cursor(cursor: Cursor<'a>) -> Tokens<'a>
         ensures { result ≡ token_list cursor.entry }
     {

@@ -11,5 +11,3 @@ pub use plan::{RewriteFailure, plan_rewrites};
 pub use rewrite::{RefusedCommand, Rewrite, RewriteFault, rewrite_bytes};
 pub use write::{RewriteStop, rewrite_files};
 
-#[cfg(test)]
-mod tests;

@@ -28,5 +28,3 @@ pub use summary::Summary;
 pub use view::{FileView, Format, View, view_bytes, view_file};
 pub use writes::{FileChange, WriteFault, write_changes};
 
-#[cfg(test)]
-mod tests;

@@ -15,5 +15,3 @@ pub use change::Change;
 pub use script::line_changes;
 pub use unified::unified_diff;
 
-#[cfg(test)]
-mod tests;

@@ -14,5 +14,3 @@ pub use edit::{dedent, indent, reset_indent};
 pub use error::IndentError;
 pub use mapped::indent_with_mapping;
 
-#[cfg(test)]
-mod tests;

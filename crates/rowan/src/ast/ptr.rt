@@ -14,7 +14,7 @@ use rowan_green::TextRange;
 use std::alloc::{AllocError, Global};
 use std::marker::PhantomData;
 
-/// A pointer to a node that is read as an `N`. Cloning does not allocate.
+/// A pointer to a typed node `N`. Cloning does not allocate.
 #[derive(Drop)]
 #[derive_where(Clone, PartialEq, Eq, Hash)]
 pub struct AstPtr<N: AstNode> {
@@ -23,7 +23,7 @@ pub struct AstPtr<N: AstNode> {
 }
 
 impl<N: AstNode> AstPtr<N> {
-    /// A pointer to a typed node: its kind and range.
+    /// Returns a pointer to a typed node: its kind and range.
     pub fn new(node: &N) -> AstPtr<N>
         ensures kind { result.raw.kind ≡ N.Language.from_raw (kind_at (N.place node.now)) }
         ensures start { result.raw.range.start.0 ≡ start_of (N.place node.now) }
@@ -35,22 +35,28 @@ impl<N: AstNode> AstPtr<N> {
         }
     }
 
-    /// The kind of the node that it was made from.
+    /// Returns the kind of the node from which the pointer was created.
     pub fn kind(&self) -> <N::Language as Language>::Kind
         ensures { result ≡ self.now.raw.kind }
     {
         self.raw.kind
     }
 
-    /// The bytes of the node that it was made from, in the text of its tree.
+    /// Returns the range of the node from which the pointer was created, in the text of its tree.
     pub fn text_range(&self) -> TextRange
         ensures { result ≡ self.now.raw.range }
     {
         self.raw.range
     }
 
-    /// The first node in preorder of the pointer's kind and range, in the tree of this root, where
-    /// it can be cast; `NotFound` otherwise, and where the node given is not a root.
+    /// Returns the first node in preorder with the kind and range of the pointer in the tree of
+    /// `root`, as an `N`.
+    ///
+    /// # Errors
+    ///
+    /// - [`CursorError::NotFound`] if there is no such node, if it cannot be cast, or if `root` is
+    ///   not a root.
+    /// - [`CursorError::NoMemory`] if an allocation fails or a reference count overflows.
     pub fn to_node(&self, alloc: Global, root: &SyntaxNode<N::Language>) -> Result<N, CursorError>
     where
         N: Drop,
@@ -63,7 +69,11 @@ impl<N: AstNode> AstPtr<N> {
         self.try_to_node(alloc, root)?.ok_or(CursorError::NotFound)
     }
 
-    /// Variant of [`AstPtr::to_node`] that returns `None` instead of `NotFound`.
+    /// Returns the node as [`AstPtr::to_node`] does, but `None` instead of `NotFound`.
+    ///
+    /// # Errors
+    ///
+    /// [`AllocError`] if an allocation fails or a reference count overflows.
     pub fn try_to_node(
         &self,
         alloc: Global,
@@ -80,7 +90,7 @@ impl<N: AstNode> AstPtr<N> {
         }
     }
 
-    /// The kind and the range alone.
+    /// Returns the untyped pointer: the kind and the range.
     pub fn syntax_node_ptr(&self) -> SyntaxNodePtr<N::Language>
         ensures { result ≡ self.now.raw }
     {
@@ -90,7 +100,7 @@ impl<N: AstNode> AstPtr<N> {
         }
     }
 
-    /// Returns the pointer as one to a `U`; `None` if its kind cannot be cast to `U`.
+    /// Returns the pointer as a pointer to a `U`; `None` if its kind cannot be cast to `U`.
     pub fn cast<U: AstNode<Language = N::Language>>(self) -> Option<AstPtr<U>>
         ensures casts { IsSome result ↔ (U.casts self.raw.kind ≡ true) }
         ensures same { IfSome result (λ p. p.raw ≡ self.raw) }
@@ -107,7 +117,7 @@ impl<N: AstNode> AstPtr<N> {
 }
 
 impl<L: Language> SyntaxNodePtr<L> {
-    /// Returns the pointer as one to an `N`; `None` if its kind cannot be cast to `N`.
+    /// Returns the pointer as a pointer to an `N`; `None` if its kind cannot be cast to `N`.
     pub fn cast<N: AstNode<Language = L>>(self) -> Option<AstPtr<N>>
         ensures casts { IsSome result ↔ (N.casts self.kind ≡ true) }
         ensures same { IfSome result (λ p. p.raw ≡ self) }

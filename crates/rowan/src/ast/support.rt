@@ -1,4 +1,4 @@
-//! What wrappers read their parts with.
+//! Functions by which typed nodes read their parts.
 ghost use Rattle.std.specs.Prelude.{◌≡◌, option_map, IfOk};
 ghost use Rattle.std.specs.List.{filter};
 ghost use Rattle.rowan.specs.Place.{kind_at};
@@ -11,7 +11,11 @@ use crate::language::Language;
 use rowan_green::NodeOrToken;
 use std::alloc::{AllocError, Global};
 
-/// The first child of a node that can be cast.
+/// Returns the first child of `parent` that can be cast to `N`.
+///
+/// # Errors
+///
+/// [`AllocError`] if an allocation fails or a reference count overflows.
 pub fn child<N: AstNode + Drop>(
     alloc: Global,
     parent: &SyntaxNode<N::Language>,
@@ -27,7 +31,11 @@ pub fn child<N: AstNode + Drop>(
     }
 }
 
-/// The children of a node that can be cast.
+/// Returns an iterator over the children of `parent` that can be cast to `N`.
+///
+/// # Errors
+///
+/// [`AllocError`] if a reference count overflows.
 pub fn children<N: AstNode>(
     alloc: Global,
     parent: &SyntaxNode<N::Language>,
@@ -37,7 +45,11 @@ pub fn children<N: AstNode>(
     Ok(AstChildren::new(parent.children(alloc)?))
 }
 
-/// The first child of a node that is a token of a kind.
+/// Returns the first child of `parent` that is a token of kind `kind`.
+///
+/// # Errors
+///
+/// [`AllocError`] if an allocation fails or a reference count overflows.
 pub fn token<L: Language>(
     alloc: Global,
     parent: &SyntaxNode<L>,

@@ -1,6 +1,6 @@
 //! Files in memory, rewritten by commands.
 
-use crate::{RefusedCommand, Rewrite, RewriteFault, RewriteStop, commands_of_files, rewrite_files};
+use source_rewrites::{RefusedCommand, Rewrite, RewriteFault, RewriteStop, commands_of_files, rewrite_files};
 use document_requests::{CommitRule, Refusal};
 use file_target::{Memory, Target};
 use line_index::LineCol;

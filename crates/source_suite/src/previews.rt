@@ -1,5 +1,5 @@
 //! Tests of previews, and of the ranges of messages.
-use crate::{
+use rust_source::{
     ChangedRange, Edition, Source, SyntaxElement, SyntaxKind, SyntaxMessage, TextRange, TextSize,
 };
 use std::test::Fail;

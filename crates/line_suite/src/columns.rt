@@ -1,6 +1,6 @@
 //! Places of a text with characters of one to four bytes, worked by hand.
 
-use crate::{Encoding, LineCol, LineIndex};
+use line_index::{Encoding, LineCol, LineIndex};
 use std::alloc::{AllocError, Global};
 use std::test::Fail;
 

@@ -1,6 +1,6 @@
 //! Diffs worked by hand, as `diff -u` prints them.
 
-use crate::{Change, line_changes, unified_diff};
+use text_diff::{Change, line_changes, unified_diff};
 use std::alloc::{AllocError, Global};
 use std::test::Fail;
 

@@ -1,5 +1,5 @@
 //! Calls succeed while allocations succeed, on hand-made trees.
-use crate::{AstNodeEdit, dedent, indent, indent_with_mapping, reset_indent};
+use tree_indent::{AstNodeEdit, dedent, indent, indent_with_mapping, reset_indent};
 use parser_input::SyntaxKind;
 use rowan_green::{GreenNode, GreenNodeBuilder};
 use std::alloc::Global;

@@ -1,6 +1,6 @@
 //! Lines of inputs, worked by hand.
 
-use crate::{LineRead, LineReader};
+use line_reader::{LineRead, LineReader};
 use std::alloc::Global;
 use std::io;
 use std::test::Fail;

@@ -1,5 +1,5 @@
 //! Tests of typed nodes: their parts in a text.
-use crate::{
+use rust_source::{
     AstNode, Attr, AttrParts, Call, CallParts, Edition, Enum, EnumParts, Fn, FnParts, HasArgList,
     HasAttributes, HasElements, HasGenericParams, HasName, HasVisibility, Impl, ImplParts, Let,
     LetParts, MethodCall, MethodCallParts, Source, SourceFile, Struct, StructParts, SyntaxNode,

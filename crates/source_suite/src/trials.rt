@@ -1,5 +1,5 @@
 //! Tests of commits that are only tried.
-use crate::{
+use rust_source::{
     CommitError, Edition, Source, SyntaxEditor, SyntaxElement, SyntaxKind, TextRange, TextSize,
 };
 use std::test::Fail;

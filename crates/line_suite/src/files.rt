@@ -1,6 +1,6 @@
 //! Reading and writing files, in memory and on the disk.
 
-use crate::{Disk, Memory, Target, TargetError};
+use file_target::{Disk, Memory, Target, TargetError};
 use std::alloc::Global;
 use std::fs;
 use std::test::Fail;

@@ -1,6 +1,6 @@
 //! Files in memory.
 
-use crate::{
+use source_tools::{
     Dialect, FileError, Format, RenameFault, Renaming, Source, Stop, Summary, View, plan_renames,
     show, write_diffs,
 };

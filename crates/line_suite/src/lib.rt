@@ -1,0 +1,11 @@
+//! Lines, columns, differences of texts, and files are tried here.
+#![tactic(auto)]
+
+#[cfg(test)]
+mod columns;
+#[cfg(test)]
+mod diffs;
+#[cfg(test)]
+mod files;
+#[cfg(test)]
+mod lines;
