@@ -1,8 +1,8 @@
 //! Diffs worked by hand, as `diff -u` prints them.
 
-use text_diff::{Change, line_changes, unified_diff};
 use std::alloc::{AllocError, Global};
 use std::test::Fail;
+use text_diff::{Change, line_changes, unified_diff};
 
 /// An old text, a new one, and the hunks between.
 const CASES: [(&str, &str, &str); 5] = [

@@ -1,10 +1,10 @@
 //! Each error of a source has its variant and its text.
-use rust_source::{NodeError, SourceError};
 use renamer::RenameError;
 use rust_document::{
     CommitError, EditError, MakeError, MergeError, OpenError, PayloadError, RecordError,
     WhitespaceError, WithoutMessagesError,
 };
+use rust_source::{NodeError, SourceError};
 use std::alloc::AllocError;
 use std::test::Fail;
 use syntax_tree::PositionError;

@@ -1,12 +1,12 @@
 //! Files in memory.
 
+use file_target::Memory;
+use parser_input::Edition;
+use rust_document::Grammar;
 use source_tools::{
     Dialect, FileError, Format, RenameFault, Renaming, Source, Stop, Summary, View, plan_renames,
     show, write_diffs,
 };
-use file_target::Memory;
-use parser_input::Edition;
-use rust_document::Grammar;
 use std::alloc::{AllocError, Global};
 use std::test::Fail;
 

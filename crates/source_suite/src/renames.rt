@@ -1,6 +1,6 @@
 //! A text is opened, and identifiers are renamed in it.
-use renamer::{RenameError, rename};
 use parser_input::edition::Edition;
+use renamer::{RenameError, rename};
 use rust_document::{CommitError, Document};
 use std::test::Fail;
 use syntax_tree::TreeIds;

@@ -1,12 +1,14 @@
 //! Files in memory, rewritten by commands.
 
-use source_rewrites::{RefusedCommand, Rewrite, RewriteFault, RewriteStop, commands_of_files, rewrite_files};
 use document_requests::{CommitRule, Refusal};
 use file_target::{Memory, Target};
 use line_index::LineCol;
 use parser_input::Edition;
 use rust_document::Grammar;
 use serde_json::Value;
+use source_rewrites::{
+    RefusedCommand, Rewrite, RewriteFault, RewriteStop, commands_of_files, rewrite_files,
+};
 use source_tools::{Dialect, Source};
 use std::alloc::Global;
 use std::test::Fail;

@@ -1,11 +1,11 @@
 //! Calls succeed while allocations succeed, on hand-made trees.
-use tree_indent::{AstNodeEdit, dedent, indent, indent_with_mapping, reset_indent};
 use parser_input::SyntaxKind;
 use rowan_green::{GreenNode, GreenNodeBuilder};
 use std::alloc::Global;
 use std::test::Fail;
 use syntax_editor::{IndentLevel, SourceFile, StmtList};
 use syntax_tree::{AstNode, SyntaxElement, SyntaxMapping, SyntaxNode, TreeIds};
+use tree_indent::{AstNodeEdit, dedent, indent, indent_with_mapping, reset_indent};
 
 /// The kind and the text of a token.
 type Leaf = (SyntaxKind, &'static str);
