@@ -15,4 +15,3 @@ pub use error::TargetError;
 pub use memory::Memory;
 pub use target::{Contents, Target};
 pub use version::Version;
-

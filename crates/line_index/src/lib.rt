@@ -11,4 +11,3 @@ mod line_index;
 pub use encoding::Encoding;
 pub use line_col::LineCol;
 pub use line_index::LineIndex;
-

@@ -7,4 +7,3 @@
 mod reader;
 
 pub use reader::{LineRead, LineReader};
-

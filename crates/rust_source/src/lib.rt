@@ -43,4 +43,3 @@ pub use typed_nodes::{
     ItemList, Let, LetParts, MethodCall, MethodCallParts, SourceFile, StmtList, Struct,
     StructParts, Use, UseParts,
 };
-

@@ -10,4 +10,3 @@ pub use command_file::{FileCommands, commands_of_files};
 pub use plan::{RewriteFailure, plan_rewrites};
 pub use rewrite::{RefusedCommand, Rewrite, RewriteFault, rewrite_bytes};
 pub use write::{RewriteStop, rewrite_files};
-

@@ -27,4 +27,3 @@ pub use source::{Dialect, FileError, FileFault, Source};
 pub use summary::Summary;
 pub use view::{FileView, Format, View, view_bytes, view_file};
 pub use writes::{FileChange, WriteFault, write_changes};
-

@@ -14,4 +14,3 @@ mod unified;
 pub use change::Change;
 pub use script::line_changes;
 pub use unified::unified_diff;
-

@@ -13,4 +13,3 @@ pub use ast_node_edit::AstNodeEdit;
 pub use edit::{dedent, indent, reset_indent};
 pub use error::IndentError;
 pub use mapped::indent_with_mapping;
-
