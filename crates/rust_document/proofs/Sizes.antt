@@ -21,7 +21,7 @@ use Rattle.parser_input.proofs.Prefaces.{after-some, after-none, piece-some, pie
 use Rattle.parser_events.specs.Dress as dress
 use Rattle.rust_document.specs.Reading.{leaves_in}
 
-all-texts : (ls : List Lexed) → dress.joined (leaves_of ls) ≡ flat_map (λ (l : Lexed). l.leaf.text) ls
+pub all-texts : (ls : List Lexed) → dress.joined (leaves_of ls) ≡ flat_map (λ (l : Lexed). l.leaf.text) ls
 unfolding dress.joined
 all-texts [] = refl
 all-texts (l ∷ ls) = ap (λ (t : List ℕ). l.leaf.text ++ t) (all-texts ls)

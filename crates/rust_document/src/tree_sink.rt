@@ -18,22 +18,19 @@ use parser_events::str_sink::StrSink;
 use parser_events::str_step::StrStep;
 use parser_input::lexed_str::LexedStr;
 use parser_input::syntax_kind::SyntaxKind;
-use rowan_green::{GreenError, GreenNode, GreenNodeBuilder};
+use rowan_green::{GreenError, GreenNode, GreenTextBuilder};
 use std::alloc::{AllocError, Global};
 
 /// Builds a green tree and lists the messages, as the steps of a tree with its text come.
 #[derive(Drop)]
-pub(crate) struct TreeSink<'c> {
-    builder: GreenNodeBuilder<'c>,
+pub(crate) struct TreeSink {
+    builder: GreenTextBuilder,
     errors: Vec<SyntaxError>,
 }
 
-/// Adds a leaf.
-fn put_token(
-    builder: &mut GreenNodeBuilder<'_>,
-    kind: SyntaxKind,
-    text: &str,
-) -> Result<(), GreenError>
+/// Adds a leaf, the next piece of the text.
+#[inline(always)]
+fn put_token(builder: &mut GreenTextBuilder, kind: SyntaxKind, text: &str) -> Result<(), GreenError>
     ensures ok { OnOk result (builder.new
         ≡ built builder.old (texts.Token (raw_of kind) (chars text.now))) }
     ensures refused { IfErr result
@@ -41,11 +38,12 @@ fn put_token(
     ensures err { OnErr result (builder.new ≡ builder.old) }
 {
     let kind = rowan_green::SyntaxKind(kind.to_raw());
-    builder.token(kind, text)
+    builder.token(kind, text.len())
 }
 
 /// Opens a node.
-fn put_enter(builder: &mut GreenNodeBuilder<'_>, kind: SyntaxKind) -> Result<(), GreenError>
+#[inline(always)]
+fn put_enter(builder: &mut GreenTextBuilder, kind: SyntaxKind) -> Result<(), GreenError>
     ensures ok { OnOk result (builder.new ≡ built builder.old (texts.Enter (raw_of kind))) }
     ensures refused { IfErr result (MayRefuse builder.old (texts.Enter (raw_of kind))) }
     ensures err { OnErr result (builder.new ≡ builder.old) }
@@ -55,7 +53,8 @@ fn put_enter(builder: &mut GreenNodeBuilder<'_>, kind: SyntaxKind) -> Result<(),
 }
 
 /// Closes the innermost open node.
-fn put_exit(builder: &mut GreenNodeBuilder<'_>) -> Result<(), GreenError>
+#[inline(always)]
+fn put_exit(builder: &mut GreenTextBuilder) -> Result<(), GreenError>
     ensures ok { OnOk result (builder.new ≡ built builder.old texts.Exit) }
     ensures refused { IfErr result (MayRefuse builder.old texts.Exit) }
     ensures err { OnErr result (builder.new ≡ builder.old) }
@@ -64,6 +63,7 @@ fn put_exit(builder: &mut GreenNodeBuilder<'_>) -> Result<(), GreenError>
 }
 
 /// Appends a message, with the offset that it is about.
+#[inline(never)]
 fn put_message(
     errors: &mut Vec<SyntaxError>,
     message: Message,
@@ -80,7 +80,7 @@ fn put_message(
     Ok(())
 }
 
-impl StrSink for TreeSink<'_> {
+impl StrSink for TreeSink {
     type Error = GreenError;
 
     ghost use Rattle.rust_document.specs.TreeSinks.{IsTaken, IsRefused};
@@ -89,6 +89,7 @@ impl StrSink for TreeSink<'_> {
 
     ghost fails_at = { IsRefused };
 
+    #[inline(always)]
     fn step(&mut self, step: StrStep<'_>) -> Result<(), GreenError> {
         match step {
             StrStep::Token { kind, text } => put_token(&mut self.builder, kind, text),
@@ -132,8 +133,13 @@ pub(crate) fn build(
     ensures { IfOk result
         (λ b. IsBuilt output.now.steps (leaves_of lexed.now.leaves) b.root b.errors.items) }
 {
+    let text = lexed.range_text(0..lexed.len());
+    let builder = match GreenTextBuilder::new(alloc, text) {
+        Ok(builder) => builder,
+        Err(error) => return Err(want_of_memory(error)),
+    };
     let mut sink = TreeSink {
-        builder: GreenNodeBuilder::new(alloc),
+        builder,
         errors: Vec::new(alloc),
     };
     match intersperse_trivia(lexed, output, &mut sink) {
@@ -143,6 +149,6 @@ pub(crate) fn build(
     let TreeSink { builder, errors } = sink;
     match builder.finish() {
         Ok(root) => Ok(Built { root, errors }),
-        Err(_) => unreachable!(),
+        Err(error) => Err(want_of_memory(error)),
     }
 }
