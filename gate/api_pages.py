@@ -15,7 +15,7 @@ from repository import TOP
 
 FOLDER = "docs/api"
 # The crates of crates.txt from this line on are tests and measurements.
-END_OF_PRODUCT = "# Tests"
+END_OF_PRODUCT = "\n# Run and not proved"
 MODULE = re.compile(r"^(pub )?mod (\w+);", re.M)
 PUBLIC_USE = re.compile(r"^pub use (?:crate::)?(\w+)(?:::\w+)*::(?:\{([^}]*)\}|(\w+));", re.M)
 HEAD = re.compile(r"^( *)(pub (?:const )?fn|pub struct|pub enum|pub trait|pub const|pub type|fn) (\w+)")

@@ -80,10 +80,22 @@ class Sums(Repository):
             os.remove(self.path(f"crates/{crate}/must-fail.ledger"))
 
     def test_source_counts_for_crates_above(self):
-        for part in ("src/lib.rt", "specs/Lib.antt", "proofs/Lib.antt"):
+        for part in ("src/lib.rt", "specs/Lib.antt"):
             self.assertEqual(self.after(f"repository/crates/low/{part}", "x"), of("low", "middle"))
             self.forget()
         self.assertEqual(self.after("repository/crates/app/src/main.rt", "x"), set())
+
+    def test_bodies_and_proofs_count_for_their_crate_alone(self):
+        function = "pub fn double(n: u32) -> u32\n    ensures { result ≡ 2 * n }\n{\n    n + n\n}\n"
+        write(self.path("crates/low/src/lib.rt"), function)
+        self.assertEqual(self.after("repository/crates/low/src/lib.rt", function.replace("n + n", "2 * n"), "w"), of("low"))
+        self.forget()
+        self.assertEqual(self.after("repository/crates/low/proofs/Lib.antt", "x"), of("low"))
+        self.forget()
+        self.assertEqual(self.after("repository/crates/low/src/lib.rt", function.replace("2 * n }", "3 * n }"), "w"), of("low", "middle"))
+
+    def test_comments_do_not_count(self):
+        self.assertEqual(self.after("repository/crates/low/src/lib.rt", "/// Doubles.\n// Why.\n"), set())
 
     def test_new_and_renamed_files_count(self):
         self.assertEqual(self.after("repository/crates/middle/src/new.rt", ""), of("middle"))
@@ -143,6 +155,15 @@ class Verdict(Repository):
     def test_edit_that_never_reaches_the_prover_has_failed(self):
         self.run_gate(BAD="2")
         self.assert_end(1, "17 passed, 2 failed")
+
+    def test_edit_that_only_a_name_refuses_fails(self):
+        self.run_gate(NAMED="1")
+        self.assert_end(1, "19 passed, 1 failed")
+        self.assertRegex("\n".join(self.lines), r"e0.edit: refused, as it must be \(only because a proof file names")
+
+    def test_failures_are_named_at_the_end(self):
+        self.run_gate(FAIL="1")
+        self.assertEqual(self.lines[-6:-2], ["rt: apart NOT PROVED", "== app", "error of app", "rt: app NOT PROVED"])
 
     def test_run_without_counts_fails(self):
         self.run_gate(SILENT="1")

@@ -12,8 +12,11 @@ import os
 import re
 import subprocess
 
+import together
+
 # The folders of a crate that its check reads.
 PARTS = ("src", "specs", "proofs")
+COMMENT = re.compile(r"\s*//")
 ALONE, TOGETHER, UNKNOWN = "alone", "together", "unknown"
 HEAD = "# The refused must-fail edits of this crate: sum, how it was seen, file. Written by gate/edits.py.\n"
 
@@ -57,6 +60,18 @@ def libraries(line):
     return line.partition(":")[2].replace(",", " ").split()
 
 
+def without_comments(text):
+    """Returns the text of a Rust file without the lines that are comments."""
+    return "\n".join(line for line in text.split("\n") if not COMMENT.match(line))
+
+
+def interface(file, text):
+    """Returns what crates above can depend on of a file of src/: its text without comments and the bodies of its functions."""
+    for body in reversed(together.bodies(file, text)):
+        text = text[: body.first] + text[body.end :]
+    return without_comments(text)
+
+
 class Sums:
     """The sums of the crates of one tree."""
 
@@ -67,20 +82,46 @@ class Sums:
         self.shared = sum_of(logic(), read(handles) if os.path.isfile(handles) else b"")
         self.cache = {}
 
-    def crate(self, name):
-        """Returns the sum of a crate: the logic, the handles, its line, its files and the sums of the crates below it.
+    def files(self, name, part):
+        """Returns the texts of the files in a folder of a crate, by their paths from the root of the tree."""
+        files = files_below(f"{self.root}/crates/{name}/{part}")
+        return {os.path.relpath(file, self.root): read(file).decode(errors="replace") for file in files}
 
-        A library of the kit counts by its name in the crate's line."""
-        if name not in self.cache:
-            # None marks a crate whose sum is being computed: a crate below itself meets it.
-            self.cache[name] = None
-            below = [self.crate(library) for library in libraries(self.lines[name]) if library in self.lines]
-            files = [file for part in PARTS for file in files_below(f"{self.root}/crates/{name}/{part}")]
-            contents = [part for file in files for part in (os.path.relpath(file, self.root), read(file))]
-            self.cache[name] = sum_of(self.shared, self.lines[name], *below, *contents)
-        if self.cache[name] is None:
+    def below(self, name, above=()):
+        """Returns the crates of the tree that a crate depends on."""
+        if name in above:
             raise ValueError(f"{name} depends on itself")
-        return self.cache[name]
+        found = {it for it in libraries(self.lines[name]) if it in self.lines}
+        return found.union(*(self.below(it, (*above, name)) for it in found))
+
+    def once(self, kind, name, compute):
+        """Returns a sum of a crate, which is computed once."""
+        if (kind, name) not in self.cache:
+            self.cache[kind, name] = compute()
+        return self.cache[kind, name]
+
+    def interface(self, name):
+        """Returns the sum of what crates above depend on: a crate's definitions, and its sources without bodies and comments."""
+
+        def compute():
+            sources = {file: interface(file, text) for file, text in self.files(name, "src").items() if file.endswith(".rt")}
+            return sum_of(*(part for row in sorted({**sources, **self.files(name, "specs")}.items()) for part in row))
+
+        return self.once("interface", name, compute)
+
+    def crate(self, name):
+        """Returns the sum that a crate's edits rest on: the logic, the handles, the crate's line and files, and the interfaces below.
+
+        A library of the kit counts by its name in the crate's line. The bodies and the proofs of crates below do not count: no proof
+        of this crate reads a body below, and a lemma there is cited by what it states."""
+
+        def compute():
+            files = {file: text for part in PARTS for file, text in self.files(name, part).items()}
+            texts = {file: without_comments(text) if file.endswith(".rt") else text for file, text in files.items()}
+            own = [part for row in sorted(texts.items()) for part in row]
+            return sum_of(self.shared, self.lines[name], *own, *map(self.interface, sorted(self.below(name))))
+
+        return self.once("crate", name, compute)
 
     def edits(self):
         """Returns the sum of each must-fail edit, by its path: the sum of its crate, its file name and its text."""

@@ -28,11 +28,12 @@ def runs(root):
                 yield name, given, stdin
 
 
-def failures(root, write):
-    """Refuses each request of each run in turn. Writes what became of them, and returns the runs that ended wrongly."""
+def failures(root, path_of, write):
+    """Refuses each request of each run in turn; `path_of` gives the path of a program. Writes what became of the requests, and returns
+    the runs that ended wrongly."""
     failed = []
     for name, given, stdin in runs(root):
-        outcome = outcome_of(f"{root}/crates/{name}/out/{name}", PROGRAMS[name], stdin)
+        outcome = outcome_of(path_of(name), PROGRAMS[name], stdin)
         for line in outcome.lines():
             write(f"test: {name}, {given}: {line}")
         if outcome.wrong:

@@ -79,7 +79,7 @@ class Runs(unittest.TestCase):
             for ended, failed in ((NAMED, []), (FAULT, ["memory_suite, stored input"])):
                 outcome = refused.Outcome(Fake(ended), "calls")
                 with mock.patch.object(refusals, "outcome_of", return_value=outcome):
-                    self.assertEqual(refusals.failures(top, lambda line: None), failed)
+                    self.assertEqual(refusals.failures(top, lambda name: f"{top}/crates/{name}/out/{name}", lambda line: None), failed)
 
 
 if __name__ == "__main__":

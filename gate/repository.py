@@ -13,6 +13,10 @@ BYTES_A_CORE = 5_000_000_000
 # What later checks, and ./run, reuse in a crate's out/. (fast_build.py names its unfinished builds fast-..)
 REUSED = re.compile(r"incremental|rlib|fast(-.*)?")
 REFUSED = re.compile(r"rt: must-fail ([^/\s]+)/(\S+): refused, as it must be")
+# What 'rt' adds if nothing but a missing name refused an edit. It says nothing of the contract, so such an edit counts as not refused.
+BY_NAME = "(only because a proof file names"
+# The comment in crates.txt below which the crates are run and not proved: tests and measuring.
+UNPROVED = re.compile(r"# Run and not proved\b")
 TEST = re.compile(r"#\s*\[[^]]*\btest\b")
 
 
@@ -80,8 +84,25 @@ def start_rt(at, *words):
 
 def refused_in(lines, tried):
     """Returns the edits of `tried` that these lines of 'rt' name as refused."""
-    names = {found.groups() for found in map(REFUSED.match, lines) if found}
+    names = {found.groups() for line in lines if BY_NAME not in line and (found := REFUSED.match(line))}
     return {edit for edit in tried if (ledger.crate_of(edit), os.path.basename(edit)) in names}
+
+
+def unproved(root):
+    """Returns the names of the crates that are run and not proved."""
+    lines = ledger.read(f"{root}/crates.txt").decode().splitlines()
+    at = next((number for number, line in enumerate(lines) if UNPROVED.match(line)), len(lines))
+    return [line.partition(":")[0].split()[0] for line in lines[at:] if line.partition("#")[0].strip()]
+
+
+def remove_unproved(copied):
+    """Removes the crates that are run and not proved from a copy of the tree, and their lines from its crates.txt."""
+    names = unproved(copied)
+    lines = ledger.read(f"{copied}/crates.txt").decode().splitlines(keepends=True)
+    for name in names:
+        shutil.rmtree(f"{copied}/crates/{name}")
+    with open(f"{copied}/crates.txt", "w", encoding="utf-8") as file:
+        file.writelines(line for line in lines if line.partition(":")[0].strip() not in names)
 
 
 def source_files(root, name):

@@ -61,12 +61,12 @@ def changes_code(root, edit):
 class Selection:
     """The edits of a run of the gate, and the counts behind them."""
 
-    def __init__(self, root, sums, rows):
+    def __init__(self, root, sums, rows, tries_all=False):
         self.sums = sums
         self.known = {edit: key for edit, key in sums.items() if rows.get(edit, ("",))[0] == key}
         self.sample = {*sample(self.known)}
-        wanted = {*sums} - {*self.known} | self.sample
-        self.tried = within_time(without_cycles(wanted))
+        wanted = {*sums} if tries_all else {*sums} - {*self.known} | self.sample
+        self.tried = wanted if tries_all else within_time(without_cycles(wanted))
         self.late = len(wanted) - len(self.tried)
         self.definitions = sum(not changes_code(root, edit) for edit in sums)
 

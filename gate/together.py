@@ -139,14 +139,15 @@ def edited(folder, tried):
     return texts
 
 
-def check(folder, texts):
-    """Checks a crate with these texts and restores its own. Returns the lines of the check."""
+def check(folder, texts, names):
+    """Checks these functions of a crate with these texts and restores its own. Returns the lines of the check."""
     own = {file: read(f"{folder}/{file}") for file in texts}
+    only = [word for name in sorted(names) for word in ("--only", name)]
     try:
         for file, text in texts.items():
             write(f"{folder}/{file}", text)
         how = {"cwd": folder, "stdout": subprocess.PIPE, "stderr": subprocess.STDOUT, "stdin": subprocess.DEVNULL, "errors": "replace"}
-        return subprocess.run(["rt", "check"], **how).stdout.splitlines()
+        return subprocess.run(["rt", "check", *only], **how).stdout.splitlines()
     finally:
         for file, text in own.items():
             write(f"{folder}/{file}", text)
@@ -218,7 +219,7 @@ def refused(folder, edits):
     left = {*edits}
     while True:
         tried = of_different_functions(folder, left)
-        lines = check(folder, edited(folder, tried)) if len(tried) > 1 else []
+        lines = check(folder, edited(folder, tried), {body.name for _, body, _ in tried}) if tried else []
         now = refused_in(lines, tried)
         if not now:
             return

@@ -168,7 +168,7 @@ class Together(unittest.TestCase):
         edits = [self.edit("a", ("m + n", "m")), self.edit("b", ("add(n)", "n")), self.edit("c", ("self.0 + 1", "1")), self.edit("d", ("f.pad", "f.put"))]
         wrong, waits, checks = "./proofs/part/twice/Answers.antt:3:1: error: `goal`\nfn n::part::twice: not proved", "no proof: it calls `f`", []
 
-        def check(folder, texts):
+        def check(folder, texts, names):
             (text,) = texts.values()
             checks.append("".join(edit for edit, old in (("a", "m + n"), ("b", "add(n)"), ("c", "self.0 + 1"), ("d", "f.pad")) if old not in text))
             return [*wrong.splitlines(), "fn n::part::Counter::count: proved", f"fn n::part::CounterDisplay::fmt: {waits}"]
@@ -178,13 +178,13 @@ class Together(unittest.TestCase):
             found = [edit for edit, _ in together.refused(self.folder, edits)]
         finally:
             together.check = own
-        self.assertEqual(([os.path.basename(edit) for edit in found], checks), (["a", "b"], ["acd", "bd"]))
+        self.assertEqual(([os.path.basename(edit) for edit in found], checks), (["a", "b"], ["acd", "bd", "d"]))
 
     def test_check_restores_files(self):
         with self.assertRaises(OSError):
             os.environ["PATH"], path = "", os.environ["PATH"]
             try:
-                together.check(self.folder, {"src/part.rt": "other"})
+                together.check(self.folder, {"src/part.rt": "other"}, set())
             finally:
                 os.environ["PATH"] = path
         self.assertEqual(together.read(f"{self.folder}/src/part.rt"), PART)
