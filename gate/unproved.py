@@ -13,10 +13,13 @@ from concurrent.futures import ThreadPoolExecutor
 import combined
 import ledger
 import repository
+from checked_build import kit
 from fast_build import stored
 from rt_try import Try
 
-# What a program of tests prints of each.
+# Runs the tests of a program, each in a process of its own, for at most ten minutes.
+RUNNER = (f"{kit()}/bin/rattle-test", "--seconds", "600")
+# What it prints of each.
 TESTED = re.compile(r"test (\S+) \.\.\. (.*)")
 UNIT_TEST = re.compile(rb"#\s*\[\s*test\s*\]")
 # The seconds of a program, and of the program of all tests.
@@ -49,7 +52,7 @@ def tests_in(root, names):
 
 def run_tests(program, count):
     """Runs a program of tests. Returns how many passed, and the failures; it fails as a whole unless it runs `count` tests."""
-    ran = subprocess.run([program], stdin=subprocess.DEVNULL, capture_output=True, text=True, errors="replace", timeout=LIMIT)
+    ran = subprocess.run([*RUNNER, program], stdin=subprocess.DEVNULL, capture_output=True, text=True, errors="replace", timeout=LIMIT)
     results = [found.groups() for found in map(TESTED.match, ran.stdout.splitlines()) if found]
     passed = sum(result == "ok" for _, result in results)
     failed = [f"test {name.removeprefix('of_')}: {result or 'it did not end'}" for name, result in results if result != "ok"]
