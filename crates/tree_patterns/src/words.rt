@@ -1,0 +1,1 @@
+//! Words that a text has to have.
