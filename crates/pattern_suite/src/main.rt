@@ -12,7 +12,8 @@ use std::alloc::Global;
 use std::fmt::Write as Words;
 use std::io;
 use syntax_tree::{SyntaxElement, TreeIds};
-use tree_patterns::{Dialect, Fragment, Pattern, PatternError};
+use pattern_parser::{Dialect, other_fragments, parse_pattern};
+use tree_patterns::{Fragment, Pattern, PatternError, Place};
 use tree_search::{Match, search};
 
 /// Returns the text member `name` of a case.
@@ -52,16 +53,15 @@ fn write_match(alloc: Global, out: &mut String, pattern: &Pattern, found: &Match
     let start = range.start().0;
     let end = range.end().0;
     write!(out, "{start}..{end}")?;
-    let names = pattern.names(alloc)?;
-    let sequences = pattern.sequences(alloc)?;
+    let places = pattern.places(alloc)?;
     for (number, binding) in found.bindings.iter().enumerate() {
-        if number >= names.len() || number >= sequences.len() {
+        if number >= places.len() {
             continue;
         }
-        let name = names[number].as_str();
+        let name = places[number].text();
         let mut is_first = name != "_";
         for before in 0..number {
-            if names[before].as_str() == name {
+            if places[before].text() == name {
                 is_first = false;
             }
         }
@@ -69,7 +69,8 @@ fn write_match(alloc: Global, out: &mut String, pattern: &Pattern, found: &Match
             continue;
         }
         write!(out, " {name}=")?;
-        if sequences[number] {
+        let is_run = Place::from_raw(places[number].kind().0).is_some_and(|place| place.is_sequence());
+        if is_run {
             write!(out, "[")?;
         }
         for (index, element) in binding.elements().iter().enumerate() {
@@ -78,7 +79,7 @@ fn write_match(alloc: Global, out: &mut String, pattern: &Pattern, found: &Match
             }
             write_range(out, element)?;
         }
-        if sequences[number] {
+        if is_run {
             write!(out, "]")?;
         }
     }
@@ -99,7 +100,7 @@ fn answer(alloc: Global, case: &Value) -> anyhow::Result<String> {
     };
     let mut out = String::new(alloc);
     let text = text_at(case, "pattern")?;
-    let pattern = match Pattern::parse(alloc, dialect, text, fragment) {
+    let pattern = match parse_pattern(alloc, dialect, text, fragment) {
         Ok(pattern) => pattern,
         Err(error) => {
             let name = refusal(error);
@@ -109,7 +110,7 @@ fn answer(alloc: Global, case: &Value) -> anyhow::Result<String> {
     };
     let name = pattern.fragment().name();
     write!(out, "{name}")?;
-    for other in Pattern::other_fragments(alloc, dialect, text, pattern.fragment())? {
+    for other in other_fragments(alloc, dialect, text, pattern.fragment())? {
         let name = other.name();
         write!(out, " {name}")?;
     }

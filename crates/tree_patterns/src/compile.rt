@@ -71,6 +71,7 @@ fn compiled_leaf(
 }
 
 /// Returns the element of a pattern that an element in a node of kind `parent` is.
+#[tactic(auto, using(crate::proofs::LeafLists::child_facts))]
 pub fn compiled(
     alloc: Global,
     stand_ins: &[StandIn],

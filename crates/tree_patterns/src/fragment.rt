@@ -1,15 +1,7 @@
 //! What a pattern is read as.
 
 use crate::kinds::{EXPRESSIONS, PATTERNS, STATEMENTS, TYPES, is_among};
-use parser_input::{Edition, SyntaxKind};
-use ra_parser::Grammar;
-
-/// The Rust that texts are read as.
-#[derive(Clone, Copy, Debug, PartialEq, Eq)]
-pub struct Dialect {
-    pub edition: Edition,
-    pub grammar: Grammar,
-}
+use parser_input::SyntaxKind;
 
 /// What a pattern is read as.
 #[derive(Clone, Copy, Debug, PartialEq, Eq)]

@@ -1,5 +1,8 @@
 //! Sets of kinds.
 
+ghost use Rattle.std.specs.Prelude.{◌≡◌};
+ghost use Rattle.tree_patterns.specs.Kinds.{is_among};
+
 use parser_input::SyntaxKind;
 
 /// Nodes whose commas separate elements; and the arm of a `match`, which a comma ends.
@@ -150,11 +153,8 @@ pub const SPELLING: [SyntaxKind; 7] = [
 ];
 
 /// Returns `true` if `kind` is the raw number of one of `kinds`.
-pub fn is_among(kinds: &[SyntaxKind], kind: u16) -> bool {
-    for one in kinds {
-        if one.to_raw() == kind {
-            return true;
-        }
-    }
-    false
+pub fn is_among(kinds: &[SyntaxKind], kind: u16) -> bool
+    ensures { result ≡ is_among kinds.now kind }
+{
+    kinds.iter().any(|one| one.to_raw() == kind)
 }

@@ -5,6 +5,7 @@
 #![tactic(auto)]
 
 pub mod bones;
+pub mod checks;
 pub mod compile;
 pub mod error;
 pub mod fragment;
@@ -13,12 +14,11 @@ pub mod leaves;
 pub mod pattern;
 pub mod pieces;
 pub mod place;
-pub mod reading;
 pub mod spelling;
 pub mod stand_ins;
 pub mod words;
 
 pub use error::PatternError;
-pub use fragment::{Dialect, Fragment};
+pub use fragment::Fragment;
 pub use pattern::Pattern;
 pub use place::Place;

@@ -80,7 +80,7 @@ pub fn pieces_of<'a>(
             if dollars == 3 {
                 return Ok(None);
             }
-            dollars += 1;
+            dollars = dollars.saturating_add(1);
         } else {
             if !push_leaf(dollars, leaf, &mut pieces)? {
                 return Ok(None);
@@ -94,3 +94,19 @@ pub fn pieces_of<'a>(
     }
     Ok(if dollars == 0 { Some(pieces) } else { None })
 }
+
+/// Returns the pieces of a text without the whitespace at both ends.
+pub fn trimmed<'a>(alloc: Global, pieces: Vec<Piece<'a>>) -> Result<Vec<Piece<'a>>, AllocError> {
+    let mut kept = Vec::new(alloc);
+    let last = pieces.len().saturating_sub(1);
+    for (index, piece) in pieces.into_iter().enumerate() {
+        let is_end = index == 0 || index == last;
+        match piece {
+            Piece::Plain(leaf)
+                if is_end && leaf.kind().0 == SyntaxKind::WHITESPACE.to_raw() => {}
+            piece => kept.push(piece)?,
+        }
+    }
+    Ok(kept)
+}
+

@@ -1,5 +1,8 @@
 //! Places: the parts of a pattern that stand for parts of a text.
 
+ghost use Rattle.std.specs.Prelude.{◌≡◌};
+ghost use Rattle.tree_patterns.specs.Places.{has_let, is_sequence, may_be, may_be_node, place_of, raw_of_place};
+
 use crate::kinds::{EXPRESSIONS, PATTERNS, TYPES, is_among};
 use parser_input::SyntaxKind;
 use rowan_green::{GreenElementRef, GreenNodeRef, NodeOrToken};
@@ -33,7 +36,9 @@ pub const FIRST_PLACE: u16 = 1024;
 
 impl Place {
     /// Returns the raw kind of the leaf that stands for it in the tree of a pattern.
-    pub fn to_raw(self) -> u16 {
+    pub fn to_raw(self) -> u16
+        ensures { result ≡ raw_of_place self }
+    {
         match self {
             Place::Expression => 1024,
             Place::Type => 1025,
@@ -49,7 +54,9 @@ impl Place {
     }
 
     /// Returns the place that a leaf of a raw kind stands for.
-    pub fn from_raw(raw: u16) -> Option<Place> {
+    pub fn from_raw(raw: u16) -> Option<Place>
+        ensures { result ≡ place_of raw }
+    {
         match raw {
             1024 => Some(Place::Expression),
             1025 => Some(Place::Type),
@@ -66,8 +73,10 @@ impl Place {
     }
 
     /// Returns `true` if it stands for any number of elements.
-    pub fn is_sequence(self) -> bool {
-        self == Place::Sequence || self == Place::ArraySequence
+    pub fn is_sequence(self) -> bool
+        ensures { result ≡ is_sequence self }
+    {
+        matches!(self, Place::Sequence | Place::ArraySequence)
     }
 
     /// Returns the place that a sequence is in a list of a raw kind.
@@ -107,7 +116,10 @@ impl Place {
 }
 
 /// Returns `true` if a node is a condition with `let`: a `let`, or an operator with such an operand.
-pub fn has_let(node: &GreenNodeRef<'_>) -> bool {
+#[tactic(auto, using(crate::proofs::LeafLists::child_facts))]
+pub fn has_let(node: &GreenNodeRef<'_>) -> bool
+    ensures { result ≡ has_let node.now }
+{
     if node.kind().0 == SyntaxKind::LET_EXPR.to_raw() {
         return true;
     }
@@ -125,7 +137,9 @@ pub fn has_let(node: &GreenNodeRef<'_>) -> bool {
 }
 
 /// Returns `true` if `place` may stand for a node.
-fn may_be_node(place: Place, node: &GreenNodeRef<'_>) -> bool {
+fn may_be_node(place: Place, node: &GreenNodeRef<'_>) -> bool
+    ensures { result ≡ may_be_node place node.now }
+{
     let kind = node.kind().0;
     match place {
         Place::Expression => is_among(&EXPRESSIONS, kind) && !has_let(node),
@@ -142,9 +156,11 @@ fn may_be_node(place: Place, node: &GreenNodeRef<'_>) -> bool {
 }
 
 /// Returns `true` if `place`, which is no sequence, may stand for an element.
-pub fn may_be(place: Place, element: &GreenElementRef<'_>) -> bool {
+pub fn may_be(place: Place, element: &GreenElementRef<'_>) -> bool
+    ensures { result ≡ may_be place element.now }
+{
     match element {
         NodeOrToken::Node(node) => may_be_node(place, node),
-        NodeOrToken::Token(_) => place == Place::Token,
+        NodeOrToken::Token(_) => matches!(place, Place::Token),
     }
 }

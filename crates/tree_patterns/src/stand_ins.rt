@@ -1,10 +1,11 @@
 //! Stand-ins in trees.
 
+use crate::bones::is_trivia;
 use crate::kinds::{LISTS, SPELLED, SPELLING, is_among};
 use crate::leaves::leaves_of;
 use crate::spelling::{Spelling, StandIn};
 use parser_input::SyntaxKind;
-use rowan_green::{GreenElementRef, GreenNodeRef, GreenTokenRef, NodeOrToken};
+use rowan_green::{GreenNodeRef, GreenTokenRef, NodeOrToken};
 use std::alloc::{AllocError, Global};
 
 /// Returns the number of the stand-in that a leaf is.
@@ -20,12 +21,6 @@ pub fn stand_in_of(stand_ins: &[StandIn], leaf: &GreenTokenRef<'_>) -> Option<us
     None
 }
 
-/// Returns `true` if a leaf is whitespace or a comment.
-fn is_trivia(leaf: &GreenTokenRef<'_>) -> bool {
-    let kind = leaf.kind().0;
-    kind == SyntaxKind::WHITESPACE.to_raw() || kind == SyntaxKind::COMMENT.to_raw()
-}
-
 /// Returns the number of the stand-in that is the only token of a node, if there is one; with
 /// `spelled`, beside tokens with which an element of a list is spelled.
 pub fn only_stand_in(
@@ -36,7 +31,7 @@ pub fn only_stand_in(
 ) -> Result<Option<usize>, AllocError> {
     let mut only = None;
     for leaf in leaves_of(alloc, node)? {
-        if is_trivia(&leaf) || spelled && is_among(&SPELLING, leaf.kind().0) {
+        if is_trivia(leaf.kind().0) || spelled && is_among(&SPELLING, leaf.kind().0) {
             continue;
         }
         let Some(number) = stand_in_of(stand_ins, &leaf) else {
@@ -54,14 +49,6 @@ pub fn only_stand_in(
 /// Returns `true` if an element of a list may be spelled with more than the stand-in.
 pub fn may_be_spelled(kind: u16) -> bool {
     is_among(&SPELLED, kind)
-}
-
-/// An element that is still to be searched, with the kind of its parent and the spelling of its list.
-#[derive(Drop)]
-struct Listed<'a> {
-    element: GreenElementRef<'a>,
-    parent: u16,
-    spelling: Spelling,
 }
 
 /// Returns how a sequence is spelled in a node of kind `kind`, in one of kind `parent`; `around` is
@@ -88,6 +75,42 @@ fn spelling_in(parent: u16, kind: u16, around: Spelling) -> Spelling {
     around
 }
 
+/// Notes how the sequences among the children of a node are spelled. `spelling` is that of the list
+/// around them.
+#[tactic(auto, using(crate::proofs::LeafLists::child_facts))]
+fn note_spellings(
+    stand_ins: &[StandIn],
+    node: &GreenNodeRef<'_>,
+    spelling: Spelling,
+    spellings: &mut Vec<Spelling>,
+) {
+    let kind = node.kind().0;
+    for child in node.children() {
+        match child {
+            NodeOrToken::Node(child) => {
+                let inner = spelling_in(kind, child.kind().0, spelling);
+                note_spellings(stand_ins, &child, inner, spellings);
+            }
+            NodeOrToken::Token(leaf) => note_spelling(stand_ins, &leaf, spelling, spellings),
+        }
+    }
+}
+
+/// Notes how the sequence that a leaf is is spelled.
+fn note_spelling(
+    stand_ins: &[StandIn],
+    leaf: &GreenTokenRef<'_>,
+    spelling: Spelling,
+    spellings: &mut Vec<Spelling>,
+) {
+    let Some(number) = stand_in_of(stand_ins, leaf) else {
+        return;
+    };
+    if number < stand_ins.len() && number < spellings.len() && stand_ins[number].is_sequence {
+        spellings[number] = spelling;
+    }
+}
+
 /// Returns how each metavariable is spelled as an element of its list in the tree of a text.
 pub fn spellings(
     alloc: Global,
@@ -95,43 +118,9 @@ pub fn spellings(
     root: &GreenNodeRef<'_>,
 ) -> Result<Vec<Spelling>, AllocError> {
     let mut spellings = Vec::new(alloc);
-    for _ in stand_ins {
+    for _stand_in in stand_ins {
         spellings.push(Spelling::Name)?;
     }
-    let mut stack = Vec::new(alloc);
-    for child in root.children() {
-        stack.push(Listed {
-            element: child,
-            parent: root.kind().0,
-            spelling: Spelling::Name,
-        })?;
-    }
-    while let Some(Listed {
-        element,
-        parent,
-        spelling,
-    }) = stack.pop()
-    {
-        match element {
-            NodeOrToken::Node(node) => {
-                let kind = node.kind().0;
-                let spelling = spelling_in(parent, kind, spelling);
-                for child in node.children() {
-                    stack.push(Listed {
-                        element: child,
-                        parent: kind,
-                        spelling,
-                    })?;
-                }
-            }
-            NodeOrToken::Token(leaf) => {
-                if let Some(number) = stand_in_of(stand_ins, &leaf) {
-                    if stand_ins[number].is_sequence && number < spellings.len() {
-                        spellings[number] = spelling;
-                    }
-                }
-            }
-        }
-    }
+    note_spellings(stand_ins, root, Spelling::Name, &mut spellings);
     Ok(spellings)
 }

@@ -1,23 +1,36 @@
 //! Whether elements fit the tree of a pattern.
+ghost use Rattle.std.specs.Prelude.{◌≡◌, ◌∷◌, [], ◌≤◌, ◌++◌, length, IfOk, IfSome, OnOk};
+ghost use Rattle.parser_input.specs.Kinds.{SEMICOLON};
+ghost use Rattle.tree_patterns.specs.Places.{place_of};
+ghost use Rattle.tree_search.specs.Elements.{is_leaf, may_stand};
+ghost use Rattle.tree_search.specs.Fit.{first_is, fit, fit_element, may_run, run_of, taken, with_taken, IsFit};
 
-use crate::bones::bones_of;
+use crate::bones::{bones_of, raw_kind};
 use crate::matching::Binding;
-use rowan_green::{GreenElementRef, GreenNodeRef, GreenTokenRef, NodeOrToken};
+use parser_input::SyntaxKind;
+use rowan_green::{GreenNodeRef, GreenTokenRef, NodeOrToken};
 use std::alloc::{AllocError, Global};
 use syntax_tree::SyntaxElement;
 use tree_patterns::Place;
 use tree_patterns::place::may_be;
 
 /// Returns `true` if `element` is the token `leaf`.
-fn is_leaf(element: &SyntaxElement, leaf: &GreenTokenRef<'_>) -> bool {
+fn is_leaf(leaf: &GreenTokenRef<'_>, element: &SyntaxElement) -> bool
+    ensures { result ≡ is_leaf leaf.now element.now }
+{
     match element {
-        SyntaxElement::Node(_) => false,
+        SyntaxElement::Node(node) => {
+            let _node = node.cursor().green();
+            false
+        }
         SyntaxElement::Token(token) => token.cursor().green().as_ref() == *leaf,
     }
 }
 
 /// Returns `true` if `place` may stand for `element`.
-fn may_stand(place: Place, element: &SyntaxElement) -> bool {
+fn may_stand(place: Place, element: &SyntaxElement) -> bool
+    ensures { result ≡ may_stand place element.now }
+{
     match element {
         SyntaxElement::Node(node) => {
             may_be(place, &NodeOrToken::Node(node.cursor().green().as_ref()))
@@ -28,68 +41,118 @@ fn may_stand(place: Place, element: &SyntaxElement) -> bool {
     }
 }
 
-/// Adds a binding of these elements.
+/// Returns `true` if a sequence may stand for a run of elements.
+fn may_run(place: Place, run: &[SyntaxElement]) -> bool
+    ensures { result ≡ may_run place run.now }
+{
+    match place {
+        Place::ArraySequence => !run
+            .iter()
+            .any(|element| raw_kind(element) == SyntaxKind::SEMICOLON.to_raw()),
+        _ => true,
+    }
+}
+
+/// Returns 1 if the first element is the token `leaf`.
+#[tactic(auto, using(crate::proofs::Taking::taking))]
+fn first_leaf(leaf: &GreenTokenRef<'_>, elements: &[SyntaxElement]) -> Option<usize>
+    ensures taken { result ≡ first_is (is_leaf leaf.now) elements.now }
+    ensures within { IfSome result (λ n. n ≤ length elements.now) }
+{
+    if elements.is_empty() {
+        return None;
+    }
+    if is_leaf(leaf, &elements[0]) {
+        Some(1)
+    } else {
+        None
+    }
+}
+
+/// Returns 1 if `place` may stand for the first element.
+#[tactic(auto, using(crate::proofs::Taking::taking))]
+fn first_place(place: Place, elements: &[SyntaxElement]) -> Option<usize>
+    ensures taken { result ≡ first_is (may_stand place) elements.now }
+    ensures within { IfSome result (λ n. n ≤ length elements.now) }
+{
+    if elements.is_empty() {
+        return None;
+    }
+    if may_stand(place, &elements[0]) {
+        Some(1)
+    } else {
+        None
+    }
+}
+
+/// Returns the number of elements before the last `rest` ones, if a sequence may stand for them.
+#[tactic(auto, using(crate::proofs::Taking::taking))]
+fn run_of(place: Place, rest: usize, elements: &[SyntaxElement]) -> Option<usize>
+    ensures taken { result ≡ run_of place rest elements.now }
+    ensures within { IfSome result (λ n. n ≤ length elements.now) }
+{
+    if rest > elements.len() {
+        return None;
+    }
+    let count = elements.len() - rest;
+    if may_run(place, &elements[..count]) {
+        Some(count)
+    } else {
+        None
+    }
+}
+
+/// Returns the number of `elements` that a leaf of a pattern takes, before `rest` further elements of
+/// the pattern.
+fn taken(leaf: &GreenTokenRef<'_>, rest: usize, elements: &[SyntaxElement]) -> Option<usize>
+    ensures taken { result ≡ taken leaf.now rest elements.now }
+    ensures within { IfSome result (λ n. n ≤ length elements.now) }
+{
+    match Place::from_raw(leaf.kind().0) {
+        None => first_leaf(leaf, elements),
+        Some(place) => {
+            if place.is_sequence() {
+                run_of(place, rest, elements)
+            } else {
+                first_place(place, elements)
+            }
+        }
+    }
+}
+
+/// Adds what a leaf of a pattern binds with the elements that it takes.
 fn bind(
     alloc: Global,
+    leaf: &GreenTokenRef<'_>,
     elements: &[SyntaxElement],
     bound: &mut Vec<Binding>,
-) -> Result<(), AllocError> {
-    let mut copies = Vec::new(alloc);
-    for element in elements {
-        copies.push(element.clone()?)?;
+) -> Result<(), AllocError>
+    ensures { OnOk result
+        (bound.new.items ≡ with_taken (place_of leaf.now.kind) elements.now bound.old.items) }
+{
+    if Place::from_raw(leaf.kind().0).is_none() {
+        return Ok(());
     }
-    bound.push(Binding::of(copies))?;
+    bound.push(Binding::copy_of(alloc, elements)?)?;
     Ok(())
 }
 
-/// Returns how many of `elements`, from number `at` on, a leaf of a pattern takes, before so many
-/// further elements of the pattern; `None` if it does not fit.
-fn fit_leaf(
-    alloc: Global,
-    leaf: &GreenTokenRef<'_>,
-    rest: usize,
-    elements: &[SyntaxElement],
-    bound: &mut Vec<Binding>,
-) -> Result<Option<usize>, AllocError> {
-    let place = Place::from_raw(leaf.kind().0);
-    if let Some(Place::Sequence) = place {
-        if elements.len() < rest {
-            return Ok(None);
-        }
-        let taken = elements.len() - rest;
-        bind(alloc, &elements[..taken], bound)?;
-        return Ok(Some(taken));
-    }
-    if elements.is_empty() {
-        return Ok(None);
-    }
-    let fits = match place {
-        Some(place) => {
-            let fits = may_stand(place, &elements[0]);
-            if fits {
-                bind(alloc, &elements[..1], bound)?;
-            }
-            fits
-        }
-        None => is_leaf(&elements[0], leaf),
-    };
-    Ok(if fits { Some(1) } else { None })
-}
-
-/// Fits an element to a node of a pattern.
-fn fit_node(
+/// Returns `true` if an element fits a node of a pattern, and adds what its places stand for.
+#[cycle(fit)]
+pub(crate) fn fit_element(
     alloc: Global,
     wanted: &GreenNodeRef<'_>,
-    elements: &[SyntaxElement],
+    element: &SyntaxElement,
     bound: &mut Vec<Binding>,
-) -> Result<bool, AllocError> {
-    if elements.is_empty() {
-        return Ok(false);
-    }
-    match &elements[0] {
+) -> Result<bool, AllocError>
+    ensures { IfOk result (λ is. IsFit
+        (fit_element wanted.now.kind wanted.now.forest element.now bound.old.items)
+        is bound.new.items) }
+{
+    match element {
         SyntaxElement::Token(_) => Ok(false),
         SyntaxElement::Node(node) => {
-            if node.cursor().green().kind() != wanted.kind() {
+            if node.cursor().green().kind().0 != wanted.kind().0 {
                 return Ok(false);
             }
             let bones = bones_of(alloc, node)?;
@@ -98,31 +161,40 @@ fn fit_node(
     }
 }
 
-/// Returns `true` if `elements` fit the children of `wanted`, one by one, and adds what its places
-/// stand for.
-pub fn fit(
+/// Returns `true` if elements fit the children of a node of a pattern, one by one, and adds what its
+/// places stand for.
+#[cycle(fit)]
+#[tactic(auto, using(crate::proofs::Fits::fit_steps))]
+fn fit(
     alloc: Global,
     wanted: &GreenNodeRef<'_>,
     elements: &[SyntaxElement],
     bound: &mut Vec<Binding>,
-) -> Result<bool, AllocError> {
+) -> Result<bool, AllocError>
+    ensures { IfOk result (λ is. IsFit
+        (fit wanted.now.forest elements.now bound.old.items) is bound.new.items) }
+{
     let mut left = wanted.children();
-    let mut at = 0usize;
-    while let Some(child) = left.next() {
+    let mut elements = elements;
+    'children: while let Some(child) = left.next() {
         match child {
             NodeOrToken::Node(child) => {
-                if !fit_node(alloc, &child, &elements[at..], bound)? {
+                if elements.is_empty() {
                     return Ok(false);
                 }
-                at += 1;
+                if !fit_element(alloc, &child, &elements[0], bound)? {
+                    return Ok(false);
+                }
+                elements = &elements[1..];
             }
             NodeOrToken::Token(leaf) => {
-                match fit_leaf(alloc, &leaf, left.len(), &elements[at..], bound)? {
-                    Some(taken) => at += taken,
-                    None => return Ok(false),
-                }
+                let Some(count) = taken(&leaf, left.len(), elements) else {
+                    return Ok(false);
+                };
+                bind(alloc, &leaf, &elements[..count], bound)?;
+                elements = &elements[count..];
             }
         }
     }
-    Ok(at == elements.len())
+    Ok(elements.is_empty())
 }

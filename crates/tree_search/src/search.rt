@@ -1,78 +1,152 @@
 //! The matches in a tree.
+ghost use Rattle.std.specs.Prelude.{◌≡◌, ◌∷◌, [], ◌++◌, map, reverse, slice_range, take, IfOk, OnOk};
+ghost use Rattle.syntax_tree.specs.declared.element.SyntaxElement.TheVariants.{Node};
+ghost use Rattle.tree_patterns.specs.Patterns.{places};
+ghost use Rattle.tree_search.specs.Elements.{children_below};
+ghost use Rattle.tree_search.specs.Matching.{names};
+ghost use Rattle.tree_search.specs.Search.{bound_elements, is_first, AreMatches};
 
-use crate::matching::{Binding, Match, match_at};
+use crate::bones::children_of;
+use crate::matching::{Binding, match_at};
+use rowan_green::GreenTokenRef;
 use std::alloc::{AllocError, Global};
-use syntax_tree::SyntaxElement;
+use std::marker::Model;
+use syntax_tree::{SyntaxElement, SyntaxNode};
 use tree_patterns::Pattern;
 
-/// Returns `true` if a place is the first one of its name, or has none.
-fn is_first(names: &[String], number: usize) -> bool {
-    let name = names[number].as_str();
-    if name == "_" {
-        return true;
+/// A match: an element, and what the places of the pattern stand for, in order.
+#[derive(Drop)]
+pub struct Match {
+    element: SyntaxElement,
+    bindings: Vec<Binding>,
+}
+
+impl Model for Match {
+    ghost use Rattle.std.specs.Coded.{codes};
+    ghost use Rattle.rowan_green.specs.Forest.{tree_code};
+    ghost use Rattle.tree_search.specs.Search.{Found};
+
+    ghost Value = { Found };
+
+    ghost coded = { Prim.hlevel (codes, tree_code) };
+
+    ghost view = { λ m. record { element = m.element; bound = m.bindings.items } };
+}
+
+impl Match {
+    /// Returns the element that matches.
+    pub fn element(&self) -> &SyntaxElement
+        ensures { result.now ≡ self.now.element }
+    {
+        &self.element
     }
-    for before in 0..number {
-        if names[before].as_str() == name {
-            return false;
-        }
+
+    /// Returns what the places of the pattern stand for, in order.
+    pub fn bindings(&self) -> &[Binding]
+        ensures { result.now ≡ self.now.bound }
+    {
+        self.bindings.as_slice()
     }
-    true
 }
 
 /// Puts elements on a stack, the first on top.
-fn push_all(
+#[tactic(auto, using(tree_patterns::proofs::Stacks::moved))]
+fn push_reversed(
     elements: Vec<SyntaxElement>,
     stack: &mut Vec<SyntaxElement>,
-) -> Result<(), AllocError> {
+) -> Result<(), AllocError>
+    ensures { OnOk result (stack.new.items ≡ stack.old.items ++ reverse elements.items) }
+{
     let mut elements = elements;
-    while let Some(element) = elements.pop() {
+    'elements: while let Some(element) = elements.pop() {
         stack.push(element)?;
     }
     Ok(())
 }
 
-/// Returns the elements of the first bindings of names, in order.
+/// Returns `true` if a place is the first of its name among places, or has none.
+fn is_first(seen: &[GreenTokenRef<'_>], name: &str) -> bool
+    ensures { result ≡ is_first (map (λ l. l.text) seen.now) name.now }
+{
+    name == "_" || !seen.iter().any(|place| place.text() == name)
+}
+
+/// Adds elements to others.
+fn extend(
+    elements: &mut Vec<SyntaxElement>,
+    more: &[SyntaxElement],
+) -> Result<(), AllocError>
+    ensures { OnOk result (elements.new.items ≡ elements.old.items ++ more.now) }
+{
+    for element in more {
+        elements.push(element.clone()?)?;
+    }
+    Ok(())
+}
+
+/// Returns the elements that the first places of names stand for, in order.
+#[tactic(auto, using(crate::proofs::Bindings::bound_steps))]
 fn bound_elements(
     alloc: Global,
-    names: &[String],
+    places: &[GreenTokenRef<'_>],
     bindings: &[Binding],
-) -> Result<Vec<SyntaxElement>, AllocError> {
+) -> Result<Vec<SyntaxElement>, AllocError>
+    ensures { IfOk result (λ v. v.items
+        ≡ bound_elements [] (map (λ l. l.text) places.now) bindings.now) }
+{
     let mut elements = Vec::new(alloc);
-    for (number, binding) in bindings.iter().enumerate() {
-        if is_first(names, number) {
-            for element in binding.elements() {
-                elements.push(element.clone()?)?;
-            }
+    let mut at = 0usize;
+    'places: while at < places.len() {
+        if at >= bindings.len() {
+            return Ok(elements);
         }
+        if is_first(&places[..at], places[at].text()) {
+            extend(&mut elements, bindings[at].elements())?;
+        }
+        at += 1;
     }
     Ok(elements)
 }
 
-/// Returns the matches of a pattern in an element, in source order: if it matches, it, then those in
-/// its bindings; else those in its children.
+/// Returns the children of an element, in order.
+fn children_below(alloc: Global, element: &SyntaxElement) -> Result<Vec<SyntaxElement>, AllocError>
+    ensures { IfOk result (λ v. v.items ≡ children_below element.now) }
+{
+    match element {
+        SyntaxElement::Node(node) => children_of(alloc, node),
+        SyntaxElement::Token(_) => Ok(Vec::new(alloc)),
+    }
+}
+
+/// Returns the matches of `pattern` in the tree below `root` and in `root` itself, in source order: of a
+/// node that matches, itself, then those in what its places stand for; of another one, those in its
+/// children. What the pattern itself fixes is not searched again.
+///
+/// # Errors
+///
+/// [`AllocError`] if an allocation fails or a reference count overflows.
+#[tactic(auto, using(crate::proofs::Searches::search_steps))]
 pub fn search(
     alloc: Global,
     pattern: &Pattern,
-    element: SyntaxElement,
-) -> Result<Vec<Match>, AllocError> {
-    let names = pattern.names(alloc)?;
+    root: &SyntaxNode,
+) -> Result<Vec<Match>, AllocError>
+    ensures { IfOk result (λ v. AreMatches pattern.now (Node root.now ∷ []) v.items) }
+{
+    let places = pattern.places(alloc)?;
     let mut matches = Vec::new(alloc);
     let mut stack = Vec::new(alloc);
-    stack.push(element)?;
-    while let Some(element) = stack.pop() {
+    stack.push(SyntaxElement::Node(root.clone()?))?;
+    'stack: while let Some(element) = stack.pop() {
         match match_at(alloc, pattern, &element)? {
             Some(bindings) => {
-                push_all(bound_elements(alloc, names.as_slice(), bindings.as_slice())?, &mut stack)?;
+                let inner = bound_elements(alloc, places.as_slice(), bindings.as_slice())?;
+                push_reversed(inner, &mut stack)?;
                 matches.push(Match { element, bindings })?;
             }
             None => {
-                if let SyntaxElement::Node(node) = &element {
-                    let mut children = Vec::new(alloc);
-                    for child in node.children_with_tokens(alloc)? {
-                        children.push(child?)?;
-                    }
-                    push_all(children, &mut stack)?;
-                }
+                let children = children_below(alloc, &element)?;
+                push_reversed(children, &mut stack)?;
             }
         }
     }

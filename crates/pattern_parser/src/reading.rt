@@ -1,11 +1,19 @@
 //! What a text is as a fragment.
 
-use crate::error::PatternError;
-use crate::fragment::{Dialect, Fragment};
+use parser_input::Edition;
+use ra_parser::Grammar;
 use rowan_green::{GreenNode, GreenNodeRef, NodeOrToken};
 use rust_document::{Document, OpenError};
 use std::alloc::Global;
 use syntax_tree::TreeIds;
+use tree_patterns::{Fragment, PatternError};
+
+/// The Rust that texts are read as.
+#[derive(Clone, Copy, Debug, PartialEq, Eq)]
+pub struct Dialect {
+    pub edition: Edition,
+    pub grammar: Grammar,
+}
 
 /// A range of bytes.
 #[derive(Clone, Copy)]
