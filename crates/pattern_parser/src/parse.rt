@@ -4,14 +4,16 @@ use crate::reading::{Dialect, opened, read_as};
 use rowan_green::{GreenElement, GreenElementRef, GreenNode, NodeOrToken};
 use rust_document::Document;
 use std::alloc::Global;
-use tree_patterns::checks::{count_places, has_two_sequences, is_mixed};
-use tree_patterns::compile::compiled;
+use crate::checks::{count_places, has_two_sequences, is_mixed};
+use crate::compile::compiled;
 use tree_patterns::fragment::FRAGMENTS;
 use tree_patterns::leaves::leaves_of;
-use tree_patterns::pieces::{Piece, pieces_of, trimmed};
-use tree_patterns::spelling::{Spelling, StandIn, free_prefix, spelled_text, stand_ins};
-use tree_patterns::stand_ins::spellings;
-use tree_patterns::{Fragment, Pattern, PatternError};
+use crate::pieces::{Piece, pieces_of, trimmed};
+use crate::spelling::{Spelling, StandIn, free_prefix, spelled_text, stand_ins};
+use crate::stand_ins::spellings;
+use crate::error::PatternError;
+use crate::frames::{after, before};
+use tree_patterns::{Fragment, Pattern};
 
 /// Returns the tree that a text with metavariables is as a fragment, if it reads so: first with each
 /// spelled as an identifier, then with sequences spelled as elements of their lists.
@@ -31,8 +33,8 @@ fn read_pattern(
     if first.is_some() {
         return Ok(first);
     }
-    let before = fragment.before();
-    let after = fragment.after();
+    let before = before(fragment);
+    let after = after(fragment);
     let text = text.as_str();
     let whole = format!(in alloc; "{before}{text}{after}")?;
     let document = opened(alloc, dialect, whole.as_str())?;

@@ -6,7 +6,9 @@ use rowan_green::{GreenNode, GreenNodeRef, NodeOrToken};
 use rust_document::{Document, OpenError};
 use std::alloc::Global;
 use syntax_tree::TreeIds;
-use tree_patterns::{Fragment, PatternError};
+use crate::error::PatternError;
+use crate::frames::{after, before, has_kind};
+use tree_patterns::Fragment;
 
 /// The Rust that texts are read as.
 #[derive(Clone, Copy, Debug, PartialEq, Eq)]
@@ -58,8 +60,8 @@ pub fn read_as(
     fragment: Fragment,
     text: &str,
 ) -> Result<Option<GreenNode>, PatternError> {
-    let before = fragment.before();
-    let after = fragment.after();
+    let before = before(fragment);
+    let after = after(fragment);
     let whole = format!(in alloc; "{before}{text}{after}")?;
     let document = opened(alloc, dialect, whole.as_str())?;
     if !document.errors().is_empty() {
@@ -72,7 +74,7 @@ pub fn read_as(
     };
     let root = document.root().cursor().green().as_ref();
     match node_over(&root, 0, bounds) {
-        Some(node) if fragment.has_kind(node.kind().0) => Ok(Some(node.to_owned()?)),
+        Some(node) if has_kind(fragment, node.kind().0) => Ok(Some(node.to_owned()?)),
         _ => Ok(None),
     }
 }

@@ -12,8 +12,8 @@ use std::alloc::Global;
 use std::fmt::Write as Words;
 use std::io;
 use syntax_tree::{SyntaxElement, TreeIds};
-use pattern_parser::{Dialect, other_fragments, parse_pattern};
-use tree_patterns::{Fragment, Pattern, PatternError, Place};
+use pattern_parser::{Dialect, PatternError, other_fragments, parse_pattern};
+use tree_patterns::{Fragment, Pattern, Place};
 use tree_search::{Match, search};
 
 /// Returns the text member `name` of a case.
@@ -49,12 +49,12 @@ fn write_range(out: &mut String, element: &SyntaxElement) -> anyhow::Result<()> 
 
 /// Writes a match as it stands in a case.
 fn write_match(alloc: Global, out: &mut String, pattern: &Pattern, found: &Match) -> anyhow::Result<()> {
-    let range = found.element.text_range();
+    let range = found.element().text_range();
     let start = range.start().0;
     let end = range.end().0;
     write!(out, "{start}..{end}")?;
     let places = pattern.places(alloc)?;
-    for (number, binding) in found.bindings.iter().enumerate() {
+    for (number, binding) in found.bindings().iter().enumerate() {
         if number >= places.len() {
             continue;
         }
@@ -117,8 +117,7 @@ fn answer(alloc: Global, case: &Value) -> anyhow::Result<String> {
     writeln!(out)?;
     let mut ids = TreeIds::new();
     let document = Document::open_by(alloc, edition, Grammar::Whole, text_at(case, "text")?, &mut ids)?;
-    let root = SyntaxElement::Node(document.root().clone()?);
-    for found in search(alloc, &pattern, root)? {
+    for found in search(alloc, &pattern, document.root())? {
         write_match(alloc, &mut out, &pattern, &found)?;
     }
     Ok(out)

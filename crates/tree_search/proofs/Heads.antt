@@ -46,9 +46,9 @@ same_long [] (y ∷ ys) none some = refl
 same_long (x ∷ xs) ys none some = absurd (omega arith)
 
 pub same_none : (xs ys : List SyntaxElement) → length xs ≡ 0 → length ys ≡ 0 → same_tokens xs ys ≡ true
-same_none [] [] none no = refl
-same_none [] (y ∷ ys) none no = absurd (omega arith)
-same_none (x ∷ xs) ys none no = absurd (omega arith)
+same_none [] [] none unlike = refl
+same_none [] (y ∷ ys) none unlike = absurd (omega arith)
+same_none (x ∷ xs) ys none unlike = absurd (omega arith)
 
 pub ruleset same_steps = (same_more, same_off, same_short, same_long, same_none)
 

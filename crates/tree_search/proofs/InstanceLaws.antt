@@ -38,18 +38,18 @@ leaf_made l r es before after (Some place) (Some n) is takes rest h = sorted (is
         → ((m : ℕ) (mid : Bound) → fit r (drop m xs) mid ≡ Some after → Made r (drop m xs) mid after)
         → fit r (drop n xs) (before ++ take n xs ∷ []) ≡ Some after
         → Made (leaf l r) xs before after
-    single [] no k further g = absurd (cc)
-    single (e ∷ xs) no k further g = tested (may_stand place e) refl k
+    single [] unlike k further g = absurd (cc)
+    single (e ∷ xs) unlike k further g = tested (may_stand place e) refl k
       where
         tested : (b : Bool) → may_stand place e ≡ b → (if b then Some 1 else None) ≡ Some n → Made (leaf l r) (e ∷ xs) before after
         tested true same j =
             let m : 1 ≡ n = cc in
             let P : ℕ → Type 0 = λ i. fit r (drop i (e ∷ xs)) (before ++ take i (e ∷ xs) ∷ []) ≡ Some after in
             let made = further 1 (before ++ (e ∷ []) ∷ []) (subst P (sym m) g) in
-            ((e ∷ []) ∷ made.0, made.1 ∙ append_assoc before ((e ∷ []) ∷ []) made.0, one l r place e xs made.0 is no same made.2)
+            ((e ∷ []) ∷ made.0, made.1 ∙ append_assoc before ((e ∷ []) ∷ []) made.0, one l r place e xs made.0 is unlike same made.2)
         tested false same j = absurd (cc)
     several : is_sequence place ≡ true → run_of place (length (terms r)) es ≡ Some n → Made (leaf l r) es before after
-    several yes k = chosen (nat_le (length (terms r)) (length es) && may_run place (take (length es - length (terms r)) es)) refl k
+    several sure k = chosen (nat_le (length (terms r)) (length es) && may_run place (take (length es - length (terms r)) es)) refl k
       where
         chosen : (b : Bool) → (nat_le (length (terms r)) (length es) && may_run place (take (length es - length (terms r)) es)) ≡ b
             → (if b then Some (length es - length (terms r)) else None) ≡ Some n → Made (leaf l r) es before after
@@ -60,30 +60,34 @@ leaf_made l r es before after (Some place) (Some n) is takes rest h = sorted (is
             let made = rest n (before ++ take n es ∷ []) h in
             let P : List SyntaxElement → Type 0 = λ xs. IsInstance (leaf l r) xs (take n es ∷ made.0) in
             (take n es ∷ made.0, made.1 ∙ append_assoc before (take n es ∷ []) made.0,
-            subst P (take-append-drop n es) (run l r place (take n es) (drop n es) made.0 is yes fits made.2))
+            subst P (take-append-drop n es) (run l r place (take n es) (drop n es) made.0 is sure fits made.2))
         chosen false both j = absurd (cc)
     sorted : (b : Bool) → is_sequence place ≡ b → (if b then run_of place (length (terms r)) es else first_is (may_stand place) es) ≡ Some n
         → Made (leaf l r) es before after
-    sorted true yes k = several yes k
-    sorted false no k = single es no k rest h
+    sorted true sure k = several sure k
+    sorted false unlike k = single es unlike k rest h
 
 pub matches-are-instances : MatchesAreInstances
 matches-are-instances empty [] before after is = ([], (let same : before ≡ after = cc in sym same ∙ sym (append-nil before)), ends)
 matches-are-instances empty (e ∷ es) before after is = absurd (cc)
 matches-are-instances (node k f r) [] before after is = absurd (cc)
-matches-are-instances (node k f r) (e ∷ es) before after is = tested (is_node k e) refl is
+matches-are-instances (node k f r) (e ∷ es) before after is =
+    tested (is_node k e) refl (λ mid. matches-are-instances f (bones_below e) before mid) (λ mid. matches-are-instances r es mid after) is
   where
     inner : is_node k e ≡ true → (o : Option Bound) → ((mid : Bound) → o ≡ Some mid → Made f (bones_below e) before mid)
+        → ((mid : Bound) → fit r es mid ≡ Some after → Made r es mid after)
         → and_then o (fit r es) ≡ Some after → Made (node k f r) (e ∷ es) before after
-    inner kind None made h = absurd (cc)
-    inner kind (Some mid) made h =
+    inner kind None made further h = absurd (cc)
+    inner kind (Some mid) made further h =
         let own = made mid refl in
-        let rest = matches-are-instances r es mid after h in
+        let rest = further mid h in
         (own.0 ++ rest.0, rest.1 ∙ ap (λ b. b ++ rest.0) own.1 ∙ append_assoc before own.0 rest.0, nodes k f r e es own.0 rest.0 kind own.2 rest.2)
-    tested : (b : Bool) → is_node k e ≡ b → and_then (if b then fit f (bones_below e) before else None) (fit r es) ≡ Some after
+    tested : (b : Bool) → is_node k e ≡ b → ((mid : Bound) → fit f (bones_below e) before ≡ Some mid → Made f (bones_below e) before mid)
+        → ((mid : Bound) → fit r es mid ≡ Some after → Made r es mid after)
+        → and_then (if b then fit f (bones_below e) before else None) (fit r es) ≡ Some after
         → Made (node k f r) (e ∷ es) before after
-    tested true kind h = inner kind (fit f (bones_below e) before) (λ mid. matches-are-instances f (bones_below e) before mid) h
-    tested false kind h = absurd (cc)
+    tested true kind made further h = inner kind (fit f (bones_below e) before) made further h
+    tested false kind made further h = absurd (cc)
 matches-are-instances (leaf l r) es before after is =
     leaf_made l r es before after (place_of l.kind) (taken l (length (terms r)) es) refl refl (λ n mid. matches-are-instances r (drop n es) mid after) is
 
@@ -101,11 +105,11 @@ abbrev at_place : (l : Leaf) (r : Forest) (es : List SyntaxElement) (before : Bo
 at_place l r es before o = and_then (taken_by o l (length (terms r)) es) (λ n. fit r (drop n es) (with_taken o (take n es) before))
 
 last_of : (place : Place) (others : Bool) → is_sequence place ≡ true → is_last (Some place) others ≡ true → others ≡ true
-last_of place others yes h = ap (λ b. if b then others else true) (sym yes) ∙ h
+last_of place others sure h = ap (λ b. if b then others else true) (sym sure) ∙ h
 
 no-run : (o : Option Place) (place : Place) → o ≡ Some place → is_sequence place ≡ true → is_single o ≡ true → ⊥
-no-run None place is yes h = cc
-no-run (Some q) place is yes h = let z : false ≡ true = ap (λ b. if b then false else true) (sym yes) ∙ (let k : q ≡ place = cc in ap (λ (x : Place). is_single (Some x)) (sym k) ∙ h) in cc
+no-run None place is sure h = cc
+no-run (Some q) place is sure h = let z : false ≡ true = ap (λ b. if b then false else true) (sym sure) ∙ (let k : q ≡ place = cc in ap (λ (x : Place). is_single (Some x)) (sym k) ∙ h) in cc
 
 -- without a sequence there are as many elements as there are in the pattern
 as_many : (f : Forest) (es : List SyntaxElement) (bound : Bound) → IsInstance f es bound → has_no_sequence f ≡ true → length es ≡ length (terms f)
@@ -114,10 +118,10 @@ as_many f0 es0 b0 (nodes k f r e es v w kind below rest) h =
     let n : length es ≡ length (terms r) = as_many r es w rest h in omega (arith, n)
 as_many f0 es0 b0 (token l r e es w is same rest) h =
     let n : length es ≡ length (terms r) = as_many r es w rest (and_parts (is_single (place_of l.kind)) (has_no_sequence r) h).1 in omega (arith, n)
-as_many f0 es0 b0 (one l r place e es w is no same rest) h =
+as_many f0 es0 b0 (one l r place e es w is unlike same rest) h =
     let n : length es ≡ length (terms r) = as_many r es w rest (and_parts (is_single (place_of l.kind)) (has_no_sequence r) h).1 in omega (arith, n)
-as_many f0 es0 b0 (run l r place xs es w is yes fits rest) h =
-    absurd (no-run (place_of l.kind) place is yes (and_parts (is_single (place_of l.kind)) (has_no_sequence r) h).0)
+as_many f0 es0 b0 (run l r place xs es w is sure fits rest) h =
+    absurd (no-run (place_of l.kind) place is sure (and_parts (is_single (place_of l.kind)) (has_no_sequence r) h).0)
 
 within : (a b : ℕ) → a ≤ b → nat_le a b ≡ true
 within a b h = le-leb a b h
@@ -136,18 +140,18 @@ made_again f0 es0 b0 (token l r e es w is same rest) before s =
     ap (at_place l r (e ∷ es) before) is
     ∙ ap (λ b. and_then (if b then Some 1 else None) (λ n. fit r (drop n (e ∷ es)) before)) same
     ∙ made_again r es w rest before parts.1
-made_again f0 es0 b0 (one l r place e es w is no same rest) before s =
+made_again f0 es0 b0 (one l r place e es w is unlike same rest) before s =
     let parts = and_parts (is_last (place_of l.kind) (has_no_sequence r)) (has_single_sequences r) s in
     let next : ℕ → Option Bound = λ n. fit r (drop n (e ∷ es)) (before ++ take n (e ∷ es) ∷ []) in
     ap (at_place l r (e ∷ es) before) is
-    ∙ ap (λ b. and_then (if b then run_of place (length (terms r)) (e ∷ es) else first_is (may_stand place) (e ∷ es)) next) no
+    ∙ ap (λ b. and_then (if b then run_of place (length (terms r)) (e ∷ es) else first_is (may_stand place) (e ∷ es)) next) unlike
     ∙ ap (λ b. and_then (if b then Some 1 else None) next) same
     ∙ made_again r es w rest (before ++ (e ∷ []) ∷ []) parts.1
     ∙ ap Some (append_assoc before ((e ∷ []) ∷ []) w)
-made_again f0 es0 b0 (run l r place xs es w is yes fits rest) before s =
+made_again f0 es0 b0 (run l r place xs es w is sure fits rest) before s =
     let parts = and_parts (is_last (place_of l.kind) (has_no_sequence r)) (has_single_sequences r) s in
     let count : ℕ = length (terms r) in
-    let none : has_no_sequence r ≡ true = last_of place (has_no_sequence r) yes (ap (λ o. is_last o (has_no_sequence r)) (sym is) ∙ parts.0) in
+    let none : has_no_sequence r ≡ true = last_of place (has_no_sequence r) sure (ap (λ o. is_last o (has_no_sequence r)) (sym is) ∙ parts.0) in
     let n : length es ≡ length (terms r) = as_many r es w rest none in
     let all : length (xs ++ es) ≡ length xs + length es = length-append xs es in
     let m : length (xs ++ es) - length (terms r) ≡ length xs = omega (arith, n, all) in
@@ -157,7 +161,7 @@ made_again f0 es0 b0 (run l r place xs es w is yes fits rest) before s =
     let may : may_run place (take (length (xs ++ es) - length (terms r)) (xs ++ es)) ≡ true = ap (λ i. may_run place (take i (xs ++ es))) m ∙ ap (may_run place) front ∙ fits in
     let next : ℕ → Option Bound = λ i. fit r (drop i (xs ++ es)) (before ++ take i (xs ++ es) ∷ []) in
     ap (at_place l r (xs ++ es) before) is
-    ∙ ap (λ b. and_then (if b then run_of place (length (terms r)) (xs ++ es) else first_is (may_stand place) (xs ++ es)) next) yes
+    ∙ ap (λ b. and_then (if b then run_of place (length (terms r)) (xs ++ es) else first_is (may_stand place) (xs ++ es)) next) sure
     ∙ (λ i. and_then (if (enough i && may i) then Some (m i) else None) next)
     ∙ (λ i. fit r (back i) (before ++ front i ∷ []))
     ∙ made_again r es w rest (before ++ xs ∷ []) parts.1

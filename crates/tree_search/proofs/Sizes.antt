@@ -124,27 +124,31 @@ fit_size empty [] before after is =
     omega (arith, ap bound_size same)
 fit_size empty (e ∷ es) before after is = absurd (cc)
 fit_size (node k f r) [] before after is = absurd (cc)
-fit_size (node k f r) (e ∷ es) before after is = tested (is_node k e) is
+fit_size (node k f r) (e ∷ es) before after is =
+    tested (is_node k e) (λ mid. fit_size f (bones_below e) before mid) (λ mid. fit_size r es mid after) is
   where
     inner : (o : Option Bound) → ((mid : Bound) → o ≡ Some mid → bound_size mid ≤ bound_size before + size (bones_below e))
+        → ((mid : Bound) → fit r es mid ≡ Some after → bound_size after ≤ bound_size mid + size es)
         → and_then o (fit r es) ≡ Some after → bound_size after ≤ bound_size before + size (e ∷ es)
-    inner None least h = absurd (cc)
-    inner (Some mid) least h =
+    inner None least most h = absurd (cc)
+    inner (Some mid) least most h =
         let own : bound_size mid ≤ bound_size before + size (bones_below e) = least mid refl in
-        let rest : bound_size after ≤ bound_size mid + size es = fit_size r es mid after h in
+        let rest : bound_size after ≤ bound_size mid + size es = most mid h in
         omega (arith, own, rest, bones_fewer e)
-    tested : (b : Bool) → and_then (if b then fit f (bones_below e) before else None) (fit r es) ≡ Some after
+    tested : (b : Bool) → ((mid : Bound) → fit f (bones_below e) before ≡ Some mid → bound_size mid ≤ bound_size before + size (bones_below e))
+        → ((mid : Bound) → fit r es mid ≡ Some after → bound_size after ≤ bound_size mid + size es)
+        → and_then (if b then fit f (bones_below e) before else None) (fit r es) ≡ Some after
         → bound_size after ≤ bound_size before + size (e ∷ es)
-    tested true h = inner (fit f (bones_below e) before) (λ mid. fit_size f (bones_below e) before mid) h
-    tested false h = absurd (cc)
-fit_size (leaf l r) es before after is = counted (taken l (length (terms r)) es) is
+    tested true least most h = inner (fit f (bones_below e) before) least most h
+    tested false least most h = absurd (cc)
+fit_size (leaf l r) es before after is = counted (taken l (length (terms r)) es) (λ xs mid. fit_size r xs mid after) is
   where
-    counted : (o : Option ℕ) → and_then o (λ n. fit r (drop n es) (with_taken (place_of l.kind) (take n es) before)) ≡ Some after
+    counted : (o : Option ℕ) → ((xs : List SyntaxElement) (mid : Bound) → fit r xs mid ≡ Some after → bound_size after ≤ bound_size mid + size xs) → and_then o (λ n. fit r (drop n es) (with_taken (place_of l.kind) (take n es) before)) ≡ Some after
         → bound_size after ≤ bound_size before + size es
-    counted None h = absurd (cc)
-    counted (Some n) h =
+    counted None most h = absurd (cc)
+    counted (Some n) most h =
         let rest : bound_size after ≤ bound_size (with_taken (place_of l.kind) (take n es) before) + size (drop n es) =
-            fit_size r (drop n es) (with_taken (place_of l.kind) (take n es) before) after h in
+            most (drop n es) (with_taken (place_of l.kind) (take n es) before) h in
         omega (arith, rest, taken_size (place_of l.kind) (take n es) before, split_size n es)
 
 first_size : (seen ns : Names) (bound : Bound) → size (bound_elements seen ns bound) ≤ bound_size bound

@@ -12,10 +12,10 @@ first_none test [] none = refl
 first_none test (e ∷ es) none = absurd (omega arith)
 
 pub first_yes : (test : SyntaxElement → Bool) (es : List SyntaxElement) (e : SyntaxElement) → 0 < length es → e ≡ get_or es 0 e → test e ≡ true → first_is test es ≡ Some 1
-first_yes test es e some here yes = ap (first_is test) (with_head es e some here) ∙ ap (λ b. if b then Some 1 else None) yes
+first_yes test es e some here sure = ap (first_is test) (with_head es e some here) ∙ ap (λ b. if b then Some 1 else None) sure
 
 pub first_no : (test : SyntaxElement → Bool) (es : List SyntaxElement) (e : SyntaxElement) → 0 < length es → e ≡ get_or es 0 e → test e ≡ false → first_is test es ≡ None
-first_no test es e some here no = ap (first_is test) (with_head es e some here) ∙ ap (λ b. if b then Some 1 else None) no
+first_no test es e some here unlike = ap (first_is test) (with_head es e some here) ∙ ap (λ b. if b then Some 1 else None) unlike
 
 within : (a b : ℕ) → a ≤ b → nat_le a b ≡ true
 within a b h = le-leb a b h

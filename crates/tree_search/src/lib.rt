@@ -7,9 +7,9 @@
 pub mod bones;
 pub mod fit;
 pub mod laws;
+pub mod matches;
 pub mod matching;
-pub mod search;
 pub mod tokens;
 
+pub use matches::{Match, search};
 pub use matching::{Binding, match_at};
-pub use search::{Match, search};

@@ -1,8 +1,8 @@
 //! Stand-ins in trees.
 
-use crate::bones::is_trivia;
-use crate::kinds::{LISTS, SPELLED, SPELLING, is_among};
-use crate::leaves::leaves_of;
+use tree_patterns::bones::is_trivia;
+use tree_patterns::kinds::{LISTS, SPELLED, SPELLING, is_among};
+use tree_patterns::leaves::leaves_of;
 use crate::spelling::{Spelling, StandIn};
 use parser_input::SyntaxKind;
 use rowan_green::{GreenNodeRef, GreenTokenRef, NodeOrToken};
@@ -77,7 +77,7 @@ fn spelling_in(parent: u16, kind: u16, around: Spelling) -> Spelling {
 
 /// Notes how the sequences among the children of a node are spelled. `spelling` is that of the list
 /// around them.
-#[tactic(auto, using(crate::proofs::LeafLists::child_facts))]
+#[tactic(auto, using(tree_patterns::proofs::LeafLists::child_facts))]
 fn note_spellings(
     stand_ins: &[StandIn],
     node: &GreenNodeRef<'_>,

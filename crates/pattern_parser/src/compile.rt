@@ -1,9 +1,9 @@
 //! The tree of a pattern: bones, with a leaf of its own kind for each place.
 
-use crate::bones::is_bone;
+use tree_patterns::bones::is_bone;
 use crate::error::PatternError;
-use crate::kinds::{LISTS, is_among};
-use crate::place::Place;
+use tree_patterns::kinds::{LISTS, is_among};
+use tree_patterns::place::Place;
 use crate::spelling::StandIn;
 use crate::stand_ins::{may_be_spelled, only_stand_in, stand_in_of};
 use parser_input::SyntaxKind;
@@ -71,7 +71,7 @@ fn compiled_leaf(
 }
 
 /// Returns the element of a pattern that an element in a node of kind `parent` is.
-#[tactic(auto, using(crate::proofs::LeafLists::child_facts))]
+#[tactic(auto, using(tree_patterns::proofs::LeafLists::child_facts))]
 pub fn compiled(
     alloc: Global,
     stand_ins: &[StandIn],

@@ -1,7 +1,7 @@
 //! What is checked of a pattern's tree.
 
-use crate::leaves::leaves_of;
-use crate::place::Place;
+use tree_patterns::leaves::leaves_of;
+use tree_patterns::place::Place;
 use crate::spelling::StandIn;
 use rowan_green::{GreenNodeRef, GreenTokenRef, NodeOrToken};
 use std::alloc::{AllocError, Global};
@@ -41,7 +41,7 @@ fn is_sequence(leaf: &GreenTokenRef<'_>) -> bool {
 }
 
 /// Returns `true` if a list of the pattern has two sequences.
-#[tactic(auto, using(crate::proofs::LeafLists::child_facts))]
+#[tactic(auto, using(tree_patterns::proofs::LeafLists::child_facts))]
 pub fn has_two_sequences(node: &GreenNodeRef<'_>) -> bool {
     let mut has_one = false;
     for child in node.children() {

@@ -4,7 +4,7 @@ use Rattle.syntax_tree.specs.declared.element.SyntaxElement.TheVariants.{Node}
 use Rattle.tree_search.proofs.Searches.{Continues}
 use Rattle.tree_search.proofs.Sizes.{size}
 use Rattle.tree_patterns.specs.Patterns.{places}
-use Rattle.tree_search.proofs.search.search.Given as goal
+use Rattle.tree_search.proofs.matches.search.Given as goal
 
 abbrev pub invariant-stack : goal.invariant-stack
 invariant-stack l = record {

@@ -2,10 +2,10 @@
 use Rattle.std.proofs.Common.{◌≤◌}
 use Rattle.rowan_green.specs.Forest.{forest_count, tree_count}
 use Rattle.rowan_green.specs.Term.{forest_of, term_count}
-use Rattle.tree_patterns.proofs.checks.+has_two_sequences.Given as goal
+use Rattle.pattern_parser.proofs.stand_ins.+note_spellings.Given as goal
 
-abbrev pub decreases-has_two_sequences : goal.decreases-has_two_sequences
-decreases-has_two_sequences l = tree_count l.node.now
+abbrev pub decreases-note_spellings : goal.decreases-note_spellings
+decreases-note_spellings l = tree_count l.node.now
 
 abbrev pub invariant-loop-child : goal.invariant-loop-child
 invariant-loop-child l = record {

@@ -3,7 +3,7 @@
 use std::alloc::{AllocError, AllocFailed};
 use thiserror::Error;
 
-/// The error type of [`Pattern::parse`](crate::Pattern::parse).
+/// The error type of [`parse_pattern`](crate::parse_pattern).
 #[derive(Clone, Copy, Debug, PartialEq, Eq, Error)]
 pub enum PatternError {
     /// A `$` begins no metavariable.
@@ -36,7 +36,7 @@ pub enum PatternError {
 }
 
 impl From<AllocError> for PatternError {
-    ghost use Rattle.tree_patterns.specs.declared.error.PatternError.TheVariants.{NoMemory};
+    ghost use Rattle.pattern_parser.specs.declared.error.PatternError.TheVariants.{NoMemory};
     ghost use Rattle.std.specs.Prelude.{◌≡◌};
 
     ghost from_gives = { λ _ e. e ≡ NoMemory };
@@ -47,7 +47,7 @@ impl From<AllocError> for PatternError {
 }
 
 impl<T: Drop> From<AllocFailed<T>> for PatternError {
-    ghost use Rattle.tree_patterns.specs.declared.error.PatternError.TheVariants.{NoMemory};
+    ghost use Rattle.pattern_parser.specs.declared.error.PatternError.TheVariants.{NoMemory};
     ghost use Rattle.std.specs.Prelude.{◌≡◌};
 
     ghost from_gives = { λ _ e. e ≡ NoMemory };

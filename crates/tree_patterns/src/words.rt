@@ -1,1 +1,0 @@
-//! Words that a text has to have.
