@@ -1,5 +1,7 @@
 -- The elements that the first places of names stand for, place by place.
-use Rattle.std.proofs.Common.{◌≡◌, ℕ, ◌+◌, ◌<◌, ◌≤◌, Bool, true, false, List, [], ◌∷◌, ◌++◌, length, get_or, take, drop, map, refl, ap, sym, ◌∙◌, arith, append_assoc, append-nil, length-drop, if◌then◌else◌}
+use Rattle.std.proofs.Common.{◌≡◌, ℕ, ◌+◌, ◌<◌, ◌≤◌, ◌||◌, Bool, true, false, List, [], ◌∷◌, ◌++◌, length, get_or, take, drop, map, refl, ap, sym, ◌∙◌, arith, append_assoc, append-nil, length-drop, if◌then◌else◌}
+use Rattle.std.specs.List.{list_any}
+use Rattle.std.specs.Str.{bytes_eq}
 use Rattle.std.proofs.lemmas.List.{drop_more, take_more}
 use Rattle.rowan_green.specs.Leaf.{Leaf}
 use Rattle.syntax_tree.specs.declared.element.SyntaxElement.{SyntaxElement}
@@ -30,20 +32,16 @@ step at ls vs l w some more here there =
     (λ i. bound_elements (names_of (take at ls)) (names_of (later i)) (runs i))
     ∙ ap (λ s. (if is_first (names_of (take at ls)) l.text then w else []) ++ bound_elements s (names_of (drop (at + 1) ls)) (drop (at + 1) vs)) seen
 
--- a first place adds its elements
-pub first_adds : (all old new : List SyntaxElement) (at : ℕ) (ls : List Leaf) (vs : Bound) (l : Leaf) (w : List SyntaxElement)
-    → at < length ls → at < length vs → l ≡ get_or ls at l → w ≡ get_or vs at w → is_first (map (λ x. x.text) (take at ls)) l.text ≡ true
-    → new ≡ old ++ w → all ≡ old ++ bound_from at ls vs → all ≡ new ++ bound_from (at + 1) ls vs
-first_adds all old new at ls vs l w some more here there first is sum =
-    sum ∙ ap (λ es. old ++ es) (step at ls vs l w some more here there ∙ ap (λ b. (if b then w else []) ++ bound_from (at + 1) ls vs) first)
-    ∙ sym (append_assoc old w (bound_from (at + 1) ls vs)) ∙ ap (λ es. es ++ bound_from (at + 1) ls vs) (sym is)
-
--- a later one adds none
-pub later_adds : (all old : List SyntaxElement) (at : ℕ) (ls : List Leaf) (vs : Bound) (l : Leaf) (w : List SyntaxElement)
-    → at < length ls → at < length vs → l ≡ get_or ls at l → w ≡ get_or vs at w → is_first (map (λ x. x.text) (take at ls)) l.text ≡ false
-    → all ≡ old ++ bound_from at ls vs → all ≡ old ++ bound_from (at + 1) ls vs
-later_adds all old at ls vs l w some more here there first sum =
-    sum ∙ ap (λ es. old ++ es) (step at ls vs l w some more here there ∙ ap (λ b. (if b then w else []) ++ bound_from (at + 1) ls vs) first)
+-- a place adds its elements, if it is the first of its name
+pub place_adds : (all old new : List SyntaxElement) (at : ℕ) (ls : List Leaf) (vs : Bound) (seen : List Leaf) (l : Leaf) (w : List SyntaxElement)
+    → at < length ls → at < length vs → seen ≡ take at ls → l ≡ get_or ls at l → w ≡ get_or vs at w
+    → new ≡ old ++ (if is_first (map (λ x. x.text) seen) l.text then w else [])
+    → all ≡ old ++ bound_from at ls vs → all ≡ new ++ bound_from (at + 1) ls vs
+place_adds all old new at ls vs seen l w some more front here there is sum =
+    sum ∙ ap (λ es. old ++ es) (step at ls vs l w some more here there)
+    ∙ ap (λ s. old ++ ((if is_first (names_of s) l.text then w else []) ++ bound_from (at + 1) ls vs)) (sym front)
+    ∙ sym (append_assoc old (if is_first (names_of seen) l.text then w else []) (bound_from (at + 1) ls vs))
+    ∙ ap (λ es. es ++ bound_from (at + 1) ls vs) (sym is)
 
 no_place : (s : Names) (ls : List Leaf) (vs : Bound) → length ls ≡ 0 → bound_elements s (names_of ls) vs ≡ []
 no_place s [] vs none = refl
@@ -68,4 +66,7 @@ runs_end all old at ls vs none sum =
 pub bound_begins : (ls : List Leaf) (vs : Bound) → bound_elements [] (map (λ x. x.text) ls) vs ≡ [] ++ bound_from 0 ls vs
 bound_begins ls vs = refl
 
-pub ruleset bound_steps = (first_adds, later_adds, places_end, runs_end, bound_begins)
+-- the names of places
+pub seen_names : (ls : List Leaf) (n : List ℕ) → list_any (λ m. bytes_eq m n) (map (λ x. x.text) ls) ≡ list_any (λ l. bytes_eq l.text n) ls
+seen_names [] n = refl
+seen_names (l ∷ ls) n = ap (λ b. bytes_eq l.text n || b) (seen_names ls n)

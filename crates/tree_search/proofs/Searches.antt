@@ -25,11 +25,11 @@ begins p root stack found is nothing = record {
 next_stack : (old new after inner : List SyntaxElement) → after ≡ new ++ reverse inner → reverse after ≡ inner ++ reverse new
 next_stack old new after inner is = ap reverse is ∙ put new inner
 
-pub goes_in : (p : Shape) (all old new after : List SyntaxElement) (e : SyntaxElement) (bound : Bound) (m : Found) (found then : List Found)
+pub goes_in : (p : Shape) (all old new after : List SyntaxElement) (e : SyntaxElement) (bound : Bound) (found then : List Found)
     → old ≡ new ++ e ∷ [] → after ≡ new ++ reverse (bound_elements [] (names p) bound) → matched p e ≡ Some bound
-    → m ≡ record { element = e; bound = bound } → then ≡ found ++ m ∷ []
+    → then ≡ found ++ record { element = e; bound = bound } ∷ []
     → Continues p all old found → Continues p all after then
-goes_in p all old new after e bound m found then is next fits one more c = record {
+goes_in p all old new after e bound found then is next fits more c = record {
   continue = λ ms h.
     let inner = bound_elements [] (names p) bound in
     let P : List SyntaxElement → Type 0 = λ es. AreMatches p es ms in
@@ -38,7 +38,7 @@ goes_in p all old new after e bound m found then is next fits one more c = recor
     let here : AreMatches p (inner ++ reverse new) ms = subst P (next_stack old new after inner next) h in
     let with : AreMatches p (reverse old) (record { element = e; bound = bound } ∷ ms) = subst Q (sym (top old new e is)) (match e (reverse new) bound ms fits here) in
     let joined : found ++ (record { element = e; bound = bound } ∷ ms) ≡ then ++ ms =
-        ap (λ x. found ++ x ∷ ms) (sym one) ∙ sym (append_assoc found (m ∷ []) ms) ∙ ap (λ fs. fs ++ ms) (sym more) in
+        sym (append_assoc found (record { element = e; bound = bound } ∷ []) ms) ∙ ap (λ fs. fs ++ ms) (sym more) in
     subst R joined (c.continue (record { element = e; bound = bound } ∷ ms) with);
 }
 

@@ -1,14 +1,16 @@
 //! Whether elements fit the tree of a pattern.
 ghost use Rattle.std.specs.Prelude.{◌≡◌, ◌∷◌, [], ◌≤◌, ◌++◌, length, IfOk, IfSome, OnOk};
+ghost use Rattle.std.specs.Prelude.{◌==◌};
+ghost use Rattle.std.specs.List.{list_any};
 ghost use Rattle.parser_input.specs.Kinds.{SEMICOLON};
 ghost use Rattle.tree_patterns.specs.Places.{place_of};
-ghost use Rattle.tree_search.specs.Elements.{is_leaf, may_stand};
+ghost use Rattle.tree_search.specs.Elements.{is_leaf, kind_of, may_stand};
 ghost use Rattle.tree_search.specs.Fit.{first_is, fit, fit_element, may_run, run_of, taken, with_taken, IsFit};
 
 use crate::bones::{bones_of, raw_kind};
 use crate::matching::Binding;
 use parser_input::SyntaxKind;
-use rowan_green::{GreenNodeRef, GreenTokenRef, NodeOrToken};
+use rowan_green::{Children, GreenNodeRef, GreenTokenRef, NodeOrToken};
 use std::alloc::{AllocError, Global};
 use syntax_tree::SyntaxElement;
 use tree_patterns::Place;
@@ -41,14 +43,20 @@ fn may_stand(place: Place, element: &SyntaxElement) -> bool
     }
 }
 
+/// Returns `true` if an element is a semicolon.
+fn has_semicolon(run: &[SyntaxElement]) -> bool
+    ensures { result ≡ list_any (λ e. kind_of e == SEMICOLON) run.now }
+{
+    run.iter()
+        .any(|element| raw_kind(element) == SyntaxKind::SEMICOLON.to_raw())
+}
+
 /// Returns `true` if a sequence may stand for a run of elements.
 fn may_run(place: Place, run: &[SyntaxElement]) -> bool
     ensures { result ≡ may_run place run.now }
 {
     match place {
-        Place::ArraySequence => !run
-            .iter()
-            .any(|element| raw_kind(element) == SyntaxKind::SEMICOLON.to_raw()),
+        Place::ArraySequence => !has_semicolon(run),
         _ => true,
     }
 }
@@ -137,6 +145,13 @@ fn bind(
     Ok(())
 }
 
+/// Returns the number of children that are left.
+fn count_left(children: &Children<'_>) -> usize
+    ensures { result ≡ length children.now }
+{
+    children.len()
+}
+
 /// Returns `true` if an element fits a node of a pattern, and adds what its places stand for.
 #[cycle(fit)]
 pub(crate) fn fit_element(
@@ -188,11 +203,12 @@ fn fit(
                 elements = &elements[1..];
             }
             NodeOrToken::Token(leaf) => {
-                let Some(count) = taken(&leaf, left.len(), elements) else {
+                let Some(count) = taken(&leaf, count_left(&left), elements) else {
                     return Ok(false);
                 };
-                bind(alloc, &leaf, &elements[..count], bound)?;
-                elements = &elements[count..];
+                let (run, behind) = elements.split_at(count);
+                bind(alloc, &leaf, run, bound)?;
+                elements = behind;
             }
         }
     }

@@ -1,7 +1,8 @@
 //! The matches in a tree.
-ghost use Rattle.std.specs.Prelude.{◌≡◌, ◌∷◌, [], ◌++◌, map, reverse, slice_range, take, IfOk, OnOk};
+ghost use Rattle.std.specs.Prelude.{◌≡◌, ◌≤◌, ◌∷◌, [], ◌++◌, if◌then◌else◌, length, map, reverse, take, IfOk, OnOk};
+ghost use Rattle.std.specs.List.{list_any};
+ghost use Rattle.std.specs.Str.{bytes_eq};
 ghost use Rattle.syntax_tree.specs.declared.element.SyntaxElement.TheVariants.{Node};
-ghost use Rattle.tree_patterns.specs.Patterns.{places};
 ghost use Rattle.tree_search.specs.Elements.{children_below};
 ghost use Rattle.tree_search.specs.Matching.{names};
 ghost use Rattle.tree_search.specs.Search.{bound_elements, is_first, AreMatches};
@@ -64,11 +65,19 @@ fn push_reversed(
     Ok(())
 }
 
+/// Returns `true` if a place of a name is among places.
+fn is_seen(seen: &[GreenTokenRef<'_>], name: &str) -> bool
+    ensures { result ≡ list_any (λ l. bytes_eq l.text name.now) seen.now }
+{
+    seen.iter().any(|place| place.text() == name)
+}
+
 /// Returns `true` if a place is the first of its name among places, or has none.
+#[tactic(auto, using(crate::proofs::Bindings::seen_names))]
 fn is_first(seen: &[GreenTokenRef<'_>], name: &str) -> bool
     ensures { result ≡ is_first (map (λ l. l.text) seen.now) name.now }
 {
-    name == "_" || !seen.iter().any(|place| place.text() == name)
+    name == "_" || !is_seen(seen, name)
 }
 
 /// Adds elements to others.
@@ -84,8 +93,32 @@ fn extend(
     Ok(())
 }
 
+/// Returns the first places.
+fn front<'a, 'b>(places: &'b [GreenTokenRef<'a>], count: usize) -> &'b [GreenTokenRef<'a>]
+    requires { count ≤ length places.now }
+    ensures { result.now ≡ take count places.now }
+{
+    &places[..count]
+}
+
+/// Adds the elements of a binding, unless a place of its name was seen.
+fn extend_first(
+    elements: &mut Vec<SyntaxElement>,
+    seen: &[GreenTokenRef<'_>],
+    name: &str,
+    binding: &Binding,
+) -> Result<(), AllocError>
+    ensures { OnOk result (elements.new.items ≡ elements.old.items
+        ++ (if is_first (map (λ l. l.text) seen.now) name.now then binding.now else [])) }
+{
+    if is_first(seen, name) {
+        extend(elements, binding.elements())?;
+        return Ok(());
+    }
+    Ok(())
+}
+
 /// Returns the elements that the first places of names stand for, in order.
-#[tactic(auto, using(crate::proofs::Bindings::bound_steps))]
 fn bound_elements(
     alloc: Global,
     places: &[GreenTokenRef<'_>],
@@ -100,12 +133,32 @@ fn bound_elements(
         if at >= bindings.len() {
             return Ok(elements);
         }
-        if is_first(&places[..at], places[at].text()) {
-            extend(&mut elements, bindings[at].elements())?;
-        }
+        let seen = front(places, at);
+        let place = &places[at];
+        let binding = &bindings[at];
+        extend_first(&mut elements, seen, place.text(), binding)?;
         at += 1;
     }
     Ok(elements)
+}
+
+/// Adds a match, and puts what its places stand for on a stack, the first on top.
+fn push_match(
+    alloc: Global,
+    pattern: &Pattern,
+    found: Match,
+    stack: &mut Vec<SyntaxElement>,
+    matches: &mut Vec<Match>,
+) -> Result<(), AllocError>
+    ensures stack { OnOk result (stack.new.items
+        ≡ stack.old.items ++ reverse (bound_elements [] (names pattern.now) found.bound)) }
+    ensures matches { OnOk result (matches.new.items ≡ matches.old.items ++ found ∷ []) }
+{
+    let places = pattern.places(alloc)?;
+    let inner = bound_elements(alloc, places.as_slice(), found.bindings())?;
+    push_reversed(inner, stack)?;
+    matches.push(found)?;
+    Ok(())
 }
 
 /// Returns the children of an element, in order.
@@ -133,16 +186,14 @@ pub fn search(
 ) -> Result<Vec<Match>, AllocError>
     ensures { IfOk result (λ v. AreMatches pattern.now (Node root.now ∷ []) v.items) }
 {
-    let places = pattern.places(alloc)?;
     let mut matches = Vec::new(alloc);
     let mut stack = Vec::new(alloc);
     stack.push(SyntaxElement::Node(root.clone()?))?;
     'stack: while let Some(element) = stack.pop() {
         match match_at(alloc, pattern, &element)? {
             Some(bindings) => {
-                let inner = bound_elements(alloc, places.as_slice(), bindings.as_slice())?;
-                push_reversed(inner, &mut stack)?;
-                matches.push(Match { element, bindings })?;
+                let found = Match { element, bindings };
+                push_match(alloc, pattern, found, &mut stack, &mut matches)?;
             }
             None => {
                 let children = children_below(alloc, &element)?;

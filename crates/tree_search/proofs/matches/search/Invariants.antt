@@ -3,14 +3,10 @@ use Rattle.std.proofs.Common.{◌≡◌, ◌∷◌, [], reverse}
 use Rattle.syntax_tree.specs.declared.element.SyntaxElement.TheVariants.{Node}
 use Rattle.tree_search.proofs.Searches.{Continues}
 use Rattle.tree_search.proofs.Sizes.{size}
-use Rattle.tree_patterns.specs.Patterns.{places}
 use Rattle.tree_search.proofs.matches.search.Given as goal
 
 abbrev pub invariant-stack : goal.invariant-stack
-invariant-stack l = record {
-  continues : Continues l.pattern (Node l.root ∷ []) l.stack.items l.matches.items;
-  names : l.places.items ≡ places l.pattern.tree;
-}
+invariant-stack l = Continues l.pattern (Node l.root ∷ []) l.stack.items l.matches.items
 
 abbrev pub decreases-stack : goal.decreases-stack
 decreases-stack l = size (reverse l.stack.items)
