@@ -1,10 +1,10 @@
 //! What is checked of a pattern's tree.
 
-use tree_patterns::leaves::leaves_of;
-use tree_patterns::place::Place;
 use crate::spelling::StandIn;
 use rowan_green::{GreenNodeRef, GreenTokenRef, NodeOrToken};
 use std::alloc::{AllocError, Global};
+use tree_patterns::leaves::leaves_of;
+use tree_patterns::place::Place;
 
 /// Returns the number of places in the tree of a pattern.
 pub fn count_places(alloc: Global, tree: &GreenNodeRef<'_>) -> Result<usize, AllocError> {
@@ -63,4 +63,3 @@ pub fn has_two_sequences(node: &GreenNodeRef<'_>) -> bool {
     }
     false
 }
-

@@ -1,9 +1,6 @@
 //! The tree of a pattern: bones, with a leaf of its own kind for each place.
 
-use tree_patterns::bones::is_bone;
 use crate::error::PatternError;
-use tree_patterns::kinds::{LISTS, is_among};
-use tree_patterns::place::Place;
 use crate::spelling::StandIn;
 use crate::stand_ins::{may_be_spelled, only_stand_in, stand_in_of};
 use parser_input::SyntaxKind;
@@ -11,6 +8,9 @@ use rowan_green::{
     GreenElement, GreenElementRef, GreenError, GreenNode, GreenNodeRef, GreenToken, NodeOrToken,
 };
 use std::alloc::Global;
+use tree_patterns::bones::is_bone;
+use tree_patterns::kinds::{LISTS, is_among};
+use tree_patterns::place::Place;
 
 /// Returns the leaf that stands for a place, with the name of its metavariable.
 fn place_leaf(alloc: Global, place: Place, name: &str) -> Result<GreenElement, PatternError> {

@@ -1,18 +1,18 @@
 //! Texts that are read as patterns.
 
+use crate::checks::{count_places, has_two_sequences, is_mixed};
+use crate::compile::compiled;
+use crate::error::PatternError;
+use crate::frames::{after, before};
+use crate::pieces::{Piece, pieces_of, trimmed};
 use crate::reading::{Dialect, opened, read_as};
+use crate::spelling::{Spelling, StandIn, free_prefix, spelled_text, stand_ins};
+use crate::stand_ins::spellings;
 use rowan_green::{GreenElement, GreenElementRef, GreenNode, NodeOrToken};
 use rust_document::Document;
 use std::alloc::Global;
-use crate::checks::{count_places, has_two_sequences, is_mixed};
-use crate::compile::compiled;
 use tree_patterns::fragment::FRAGMENTS;
 use tree_patterns::leaves::leaves_of;
-use crate::pieces::{Piece, pieces_of, trimmed};
-use crate::spelling::{Spelling, StandIn, free_prefix, spelled_text, stand_ins};
-use crate::stand_ins::spellings;
-use crate::error::PatternError;
-use crate::frames::{after, before};
 use tree_patterns::{Fragment, Pattern};
 
 /// Returns the tree that a text with metavariables is as a fragment, if it reads so: first with each
@@ -149,4 +149,3 @@ pub fn other_fragments(
     }
     Ok(others)
 }
-

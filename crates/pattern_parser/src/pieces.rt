@@ -102,11 +102,9 @@ pub fn trimmed<'a>(alloc: Global, pieces: Vec<Piece<'a>>) -> Result<Vec<Piece<'a
     for (index, piece) in pieces.into_iter().enumerate() {
         let is_end = index == 0 || index == last;
         match piece {
-            Piece::Plain(leaf)
-                if is_end && leaf.kind().0 == SyntaxKind::WHITESPACE.to_raw() => {}
+            Piece::Plain(leaf) if is_end && leaf.kind().0 == SyntaxKind::WHITESPACE.to_raw() => {}
             piece => kept.push(piece)?,
         }
     }
     Ok(kept)
 }
-

@@ -1,13 +1,13 @@
 //! What a text is as a fragment.
 
+use crate::error::PatternError;
+use crate::frames::{after, before, has_kind};
 use parser_input::Edition;
 use ra_parser::Grammar;
 use rowan_green::{GreenNode, GreenNodeRef, NodeOrToken};
 use rust_document::{Document, OpenError};
 use std::alloc::Global;
 use syntax_tree::TreeIds;
-use crate::error::PatternError;
-use crate::frames::{after, before, has_kind};
 use tree_patterns::Fragment;
 
 /// The Rust that texts are read as.

@@ -99,7 +99,11 @@ pub fn spelled_text(
         if let Piece::Plain(leaf) = piece {
             text.push_str(leaf.text())?;
         } else if number < stand_ins.len() && number < spellings.len() {
-            push_spelled(&mut text, stand_ins[number].word.as_str(), spellings[number])?;
+            push_spelled(
+                &mut text,
+                stand_ins[number].word.as_str(),
+                spellings[number],
+            )?;
             number += 1;
         }
     }

@@ -1,12 +1,12 @@
 //! Stand-ins in trees.
 
-use tree_patterns::bones::is_trivia;
-use tree_patterns::kinds::{LISTS, SPELLED, SPELLING, is_among};
-use tree_patterns::leaves::leaves_of;
 use crate::spelling::{Spelling, StandIn};
 use parser_input::SyntaxKind;
 use rowan_green::{GreenNodeRef, GreenTokenRef, NodeOrToken};
 use std::alloc::{AllocError, Global};
+use tree_patterns::bones::is_trivia;
+use tree_patterns::kinds::{LISTS, SPELLED, SPELLING, is_among};
+use tree_patterns::leaves::leaves_of;
 
 /// Returns the number of the stand-in that a leaf is.
 pub fn stand_in_of(stand_ins: &[StandIn], leaf: &GreenTokenRef<'_>) -> Option<usize> {

@@ -5,6 +5,7 @@
 
 use anyhow::Context;
 use parser_input::Edition;
+use pattern_parser::{Dialect, PatternError, other_fragments, parse_pattern};
 use ra_parser::Grammar;
 use rust_document::Document;
 use serde_json::Value;
@@ -12,7 +13,6 @@ use std::alloc::Global;
 use std::fmt::Write as Words;
 use std::io;
 use syntax_tree::{SyntaxElement, TreeIds};
-use pattern_parser::{Dialect, PatternError, other_fragments, parse_pattern};
 use tree_patterns::{Fragment, Pattern, Place};
 use tree_search::{Match, search};
 
@@ -48,7 +48,12 @@ fn write_range(out: &mut String, element: &SyntaxElement) -> anyhow::Result<()> 
 }
 
 /// Writes a match as it stands in a case.
-fn write_match(alloc: Global, out: &mut String, pattern: &Pattern, found: &Match) -> anyhow::Result<()> {
+fn write_match(
+    alloc: Global,
+    out: &mut String,
+    pattern: &Pattern,
+    found: &Match,
+) -> anyhow::Result<()> {
     let range = found.element().text_range();
     let start = range.start().0;
     let end = range.end().0;
@@ -69,7 +74,9 @@ fn write_match(alloc: Global, out: &mut String, pattern: &Pattern, found: &Match
             continue;
         }
         write!(out, " {name}=")?;
-        let is_run = Place::from_raw(places[number].kind().0).is_some_and(|place| place.is_sequence());
+        let is_run = Place::from_raw(places[number].kind().0).is_some_and(
+            |place| place.is_sequence(),
+        );
         if is_run {
             write!(out, "[")?;
         }
@@ -116,7 +123,13 @@ fn answer(alloc: Global, case: &Value) -> anyhow::Result<String> {
     }
     writeln!(out)?;
     let mut ids = TreeIds::new();
-    let document = Document::open_by(alloc, edition, Grammar::Whole, text_at(case, "text")?, &mut ids)?;
+    let document = Document::open_by(
+        alloc,
+        edition,
+        Grammar::Whole,
+        text_at(case, "text")?,
+        &mut ids,
+    )?;
     for found in search(alloc, &pattern, document.root())? {
         write_match(alloc, &mut out, &pattern, &found)?;
     }

@@ -28,7 +28,7 @@ step at ls vs l w some more here there =
     let later : drop at ls ≡ l ∷ drop (at + 1) ls = drop_more ls at l some ∙ ap (λ x. x ∷ drop (at + 1) ls) (sym here) in
     let runs : drop at vs ≡ w ∷ drop (at + 1) vs = drop_more vs at w more ∙ ap (λ x. x ∷ drop (at + 1) vs) (sym there) in
     let seen : names_of (take at ls) ++ l.text ∷ [] ≡ names_of (take (at + 1) ls) =
-        sym (map-last (take at ls) l) ∙ ap (λ x. names_of (take at ls ++ x ∷ [])) here ∙ ap names_of (sym (take_more ls at l some)) in
+    sym (map-last (take at ls) l) ∙ ap (λ x. names_of (take at ls ++ x ∷ [])) here ∙ ap names_of (sym (take_more ls at l some)) in
     (λ i. bound_elements (names_of (take at ls)) (names_of (later i)) (runs i))
     ∙ ap (λ s. (if is_first (names_of (take at ls)) l.text then w else []) ++ bound_elements s (names_of (drop (at + 1) ls)) (drop (at + 1) vs)) seen
 

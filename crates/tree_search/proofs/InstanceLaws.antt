@@ -48,6 +48,7 @@ leaf_made l r es before after (Some place) (Some n) is takes rest h = sorted (is
             let made = further 1 (before ++ (e ∷ []) ∷ []) (subst P (sym m) g) in
             ((e ∷ []) ∷ made.0, made.1 ∙ append_assoc before ((e ∷ []) ∷ []) made.0, one l r place e xs made.0 is unlike same made.2)
         tested false same j = absurd (cc)
+
     several : is_sequence place ≡ true → run_of place (length (terms r)) es ≡ Some n → Made (leaf l r) es before after
     several sure k = chosen (nat_le (length (terms r)) (length es) && may_run place (take (length es - length (terms r)) es)) refl k
       where
@@ -58,10 +59,13 @@ leaf_made l r es before after (Some place) (Some n) is takes rest h = sorted (is
             let parts = and_parts (nat_le (length (terms r)) (length es)) (may_run place (take (length es - length (terms r)) es)) both in
             let fits : may_run place (take n es) ≡ true = ap (λ i. may_run place (take i es)) (sym m) ∙ parts.1 in
             let made = rest n (before ++ take n es ∷ []) h in
-            let P : List SyntaxElement → Type 0 = λ xs. IsInstance (leaf l r) xs (take n es ∷ made.0) in
-            (take n es ∷ made.0, made.1 ∙ append_assoc before (take n es ∷ []) made.0,
-            subst P (take-append-drop n es) (run l r place (take n es) (drop n es) made.0 is sure fits made.2))
+            let P : List SyntaxElement → Type 0 = λ xs. IsInstance (leaf l r) xs (take n es ∷ made.0) in (
+              take n es ∷ made.0,
+              made.1 ∙ append_assoc before (take n es ∷ []) made.0,
+              subst P (take-append-drop n es) (run l r place (take n es) (drop n es) made.0 is sure fits made.2),
+            )
         chosen false both j = absurd (cc)
+
     sorted : (b : Bool) → is_sequence place ≡ b → (if b then run_of place (length (terms r)) es else first_is (may_stand place) es) ≡ Some n
         → Made (leaf l r) es before after
     sorted true sure k = several sure k
@@ -82,6 +86,7 @@ matches-are-instances (node k f r) (e ∷ es) before after is =
         let own = made mid refl in
         let rest = further mid h in
         (own.0 ++ rest.0, rest.1 ∙ ap (λ b. b ++ rest.0) own.1 ∙ append_assoc before own.0 rest.0, nodes k f r e es own.0 rest.0 kind own.2 rest.2)
+
     tested : (b : Bool) → is_node k e ≡ b → ((mid : Bound) → fit f (bones_below e) before ≡ Some mid → Made f (bones_below e) before mid)
         → ((mid : Bound) → fit r es mid ≡ Some after → Made r es mid after)
         → and_then (if b then fit f (bones_below e) before else None) (fit r es) ≡ Some after

@@ -17,9 +17,9 @@ pub begins : (p : Shape) (root : SyntaxElement) (stack : List SyntaxElement) (fo
     → Continues p (root ∷ []) stack found
 begins p root stack found is nothing = record {
   continue = λ ms h.
-    let P : List SyntaxElement → Type 0 = λ es. AreMatches p es ms in
-    let Q : List Found → Type 0 = λ fs. AreMatches p (root ∷ []) (fs ++ ms) in
-    subst Q (sym nothing) (subst P (ap reverse is) h);
+      let P : List SyntaxElement → Type 0 = λ es. AreMatches p es ms in
+      let Q : List Found → Type 0 = λ fs. AreMatches p (root ∷ []) (fs ++ ms) in
+      subst Q (sym nothing) (subst P (ap reverse is) h);
 }
 
 next_stack : (old new after inner : List SyntaxElement) → after ≡ new ++ reverse inner → reverse after ≡ inner ++ reverse new
@@ -31,15 +31,15 @@ pub goes_in : (p : Shape) (all old new after : List SyntaxElement) (e : SyntaxEl
     → Continues p all old found → Continues p all after then
 goes_in p all old new after e bound found then is next fits more c = record {
   continue = λ ms h.
-    let inner = bound_elements [] (names p) bound in
-    let P : List SyntaxElement → Type 0 = λ es. AreMatches p es ms in
-    let Q : List SyntaxElement → Type 0 = λ es. AreMatches p es (record { element = e; bound = bound } ∷ ms) in
-    let R : List Found → Type 0 = λ fs. AreMatches p all fs in
-    let here : AreMatches p (inner ++ reverse new) ms = subst P (next_stack old new after inner next) h in
-    let with : AreMatches p (reverse old) (record { element = e; bound = bound } ∷ ms) = subst Q (sym (top old new e is)) (match e (reverse new) bound ms fits here) in
-    let joined : found ++ (record { element = e; bound = bound } ∷ ms) ≡ then ++ ms =
-        sym (append_assoc found (record { element = e; bound = bound } ∷ []) ms) ∙ ap (λ fs. fs ++ ms) (sym more) in
-    subst R joined (c.continue (record { element = e; bound = bound } ∷ ms) with);
+      let inner = bound_elements [] (names p) bound in
+      let P : List SyntaxElement → Type 0 = λ es. AreMatches p es ms in
+      let Q : List SyntaxElement → Type 0 = λ es. AreMatches p es (record { element = e; bound = bound } ∷ ms) in
+      let R : List Found → Type 0 = λ fs. AreMatches p all fs in
+      let here : AreMatches p (inner ++ reverse new) ms = subst P (next_stack old new after inner next) h in
+      let with : AreMatches p (reverse old) (record { element = e; bound = bound } ∷ ms) = subst Q (sym (top old new e is)) (match e (reverse new) bound ms fits here) in
+      let joined : found ++ (record { element = e; bound = bound } ∷ ms) ≡ then ++ ms =
+      sym (append_assoc found (record { element = e; bound = bound } ∷ []) ms) ∙ ap (λ fs. fs ++ ms) (sym more) in
+      subst R joined (c.continue (record { element = e; bound = bound } ∷ ms) with);
 }
 
 pub goes_below : (p : Shape) (all old new after : List SyntaxElement) (e : SyntaxElement) (found : List Found)
@@ -47,9 +47,9 @@ pub goes_below : (p : Shape) (all old new after : List SyntaxElement) (e : Synta
     → Continues p all old found → Continues p all after found
 goes_below p all old new after e found is next fits c = record {
   continue = λ ms h.
-    let P : List SyntaxElement → Type 0 = λ es. AreMatches p es ms in
-    let here : AreMatches p (children_below e ++ reverse new) ms = subst P (next_stack old new after (children_below e) next) h in
-    c.continue ms (subst P (sym (top old new e is)) (other e (reverse new) ms fits here));
+      let P : List SyntaxElement → Type 0 = λ es. AreMatches p es ms in
+      let here : AreMatches p (children_below e ++ reverse new) ms = subst P (next_stack old new after (children_below e) next) h in
+      c.continue ms (subst P (sym (top old new e is)) (other e (reverse new) ms fits here));
 }
 
 pub ended : (p : Shape) (all stack : List SyntaxElement) (found : List Found) → stack ≡ [] → Continues p all stack found → AreMatches p all found

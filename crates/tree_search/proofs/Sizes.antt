@@ -135,6 +135,7 @@ fit_size (node k f r) (e ∷ es) before after is =
         let own : bound_size mid ≤ bound_size before + size (bones_below e) = least mid refl in
         let rest : bound_size after ≤ bound_size mid + size es = most mid h in
         omega (arith, own, rest, bones_fewer e)
+
     tested : (b : Bool) → ((mid : Bound) → fit f (bones_below e) before ≡ Some mid → bound_size mid ≤ bound_size before + size (bones_below e))
         → ((mid : Bound) → fit r es mid ≡ Some after → bound_size after ≤ bound_size mid + size es)
         → and_then (if b then fit f (bones_below e) before else None) (fit r es) ≡ Some after
@@ -148,7 +149,7 @@ fit_size (leaf l r) es before after is = counted (taken l (length (terms r)) es)
     counted None most h = absurd (cc)
     counted (Some n) most h =
         let rest : bound_size after ≤ bound_size (with_taken (place_of l.kind) (take n es) before) + size (drop n es) =
-            most (drop n es) (with_taken (place_of l.kind) (take n es) before) h in
+        most (drop n es) (with_taken (place_of l.kind) (take n es) before) h in
         omega (arith, rest, taken_size (place_of l.kind) (take n es) before, split_size n es)
 
 first_size : (seen ns : Names) (bound : Bound) → size (bound_elements seen ns bound) ≤ bound_size bound

@@ -47,8 +47,7 @@ fn may_stand(place: Place, element: &SyntaxElement) -> bool
 fn has_semicolon(run: &[SyntaxElement]) -> bool
     ensures { result ≡ list_any (λ e. kind_of e == SEMICOLON) run.now }
 {
-    run.iter()
-        .any(|element| raw_kind(element) == SyntaxKind::SEMICOLON.to_raw())
+    run.iter().any(|element| raw_kind(element) == SyntaxKind::SEMICOLON.to_raw())
 }
 
 /// Returns `true` if a sequence may stand for a run of elements.

@@ -81,10 +81,7 @@ fn is_first(seen: &[GreenTokenRef<'_>], name: &str) -> bool
 }
 
 /// Adds elements to others.
-fn extend(
-    elements: &mut Vec<SyntaxElement>,
-    more: &[SyntaxElement],
-) -> Result<(), AllocError>
+fn extend(elements: &mut Vec<SyntaxElement>, more: &[SyntaxElement]) -> Result<(), AllocError>
     ensures { OnOk result (elements.new.items ≡ elements.old.items ++ more.now) }
 {
     for element in more {
@@ -179,11 +176,7 @@ fn children_below(alloc: Global, element: &SyntaxElement) -> Result<Vec<SyntaxEl
 ///
 /// [`AllocError`] if an allocation fails or a reference count overflows.
 #[tactic(auto, using(crate::proofs::Searches::search_steps))]
-pub fn search(
-    alloc: Global,
-    pattern: &Pattern,
-    root: &SyntaxNode,
-) -> Result<Vec<Match>, AllocError>
+pub fn search(alloc: Global, pattern: &Pattern, root: &SyntaxNode) -> Result<Vec<Match>, AllocError>
     ensures { IfOk result (λ v. AreMatches pattern.now (Node root.now ∷ []) v.items) }
 {
     let mut matches = Vec::new(alloc);

@@ -32,10 +32,7 @@ impl Model for Binding {
 
 impl Binding {
     /// Returns a binding of these elements.
-    pub(crate) fn copy_of(
-        alloc: Global,
-        elements: &[SyntaxElement],
-    ) -> Result<Binding, AllocError>
+    pub(crate) fn copy_of(alloc: Global, elements: &[SyntaxElement]) -> Result<Binding, AllocError>
         ensures { IfOk result (λ b. b ≡ elements.now) }
     {
         let mut copies = Vec::new(alloc);

@@ -11,7 +11,7 @@ returns-then-at-bindings c = runs_end _ _ c.places.at c.args.places.now c.args.b
 pub places-preserved : goal.places-preserved
 places-preserved c =
     let added : c.extend_first.new.elements.items ≡ c.places.elements.items ++ (if is_first (names_of c.front-seen.result.now) c.text.result.now then c.index-bindings-at.result else []) =
-        first_of (search rules, grind arith) in
+    first_of (search rules, grind arith) in
     place_adds _ _ _ c.places.at c.args.places.now c.args.bindings.now c.front-seen.result.now c.index-places-at.result c.index-bindings-at.result
     (omega arith) (omega arith) c.front-seen.ensures c.index-places-at.is c.index-bindings-at.is
     (added ∙ ap (λ t. c.places.elements.items ++ (if is_first (names_of c.front-seen.result.now) t then c.index-bindings-at.result else [])) c.text.ensures)
