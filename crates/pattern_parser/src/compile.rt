@@ -1,0 +1,102 @@
+//! The tree of a pattern: bones, with a leaf of its own kind for each place.
+
+use crate::error::PatternError;
+use crate::spelling::StandIn;
+use crate::stand_ins::{may_be_spelled, only_stand_in, stand_in_of};
+use parser_input::SyntaxKind;
+use rowan_green::{
+    GreenElement, GreenElementRef, GreenError, GreenNode, GreenNodeRef, GreenToken, NodeOrToken,
+};
+use std::alloc::Global;
+use tree_patterns::bones::is_bone;
+use tree_patterns::kinds::{LISTS, is_among};
+use tree_patterns::place::Place;
+
+/// Returns the leaf that stands for a place, with the name of its metavariable.
+fn place_leaf(alloc: Global, place: Place, name: &str) -> Result<GreenElement, PatternError> {
+    let kind = rowan_green::SyntaxKind(place.to_raw());
+    match GreenToken::new(alloc, kind, name) {
+        Ok(token) => Ok(NodeOrToken::Token(token)),
+        Err(GreenError::TooLong) => Err(PatternError::TooLong),
+        Err(_) => Err(PatternError::NoMemory),
+    }
+}
+
+/// Returns the place that a child of a node of kind `parent` is, with the number of its metavariable.
+fn place_of(
+    alloc: Global,
+    stand_ins: &[StandIn],
+    parent: u16,
+    node: &GreenNodeRef<'_>,
+) -> Result<Option<(Place, usize)>, PatternError> {
+    let kind = node.kind().0;
+    if is_among(&LISTS, parent) {
+        if let Some(number) = only_stand_in(alloc, stand_ins, node, may_be_spelled(kind))? {
+            if number < stand_ins.len() && stand_ins[number].is_sequence {
+                return Ok(Some((Place::of_list(parent), number)));
+            }
+        }
+    }
+    let Some(place) = Place::of_node(kind) else {
+        return Ok(None);
+    };
+    match only_stand_in(alloc, stand_ins, node, false)? {
+        Some(number) if number < stand_ins.len() && !stand_ins[number].is_sequence => {
+            Ok(Some((place, number)))
+        }
+        _ => Ok(None),
+    }
+}
+
+/// Returns the leaf of a pattern that a leaf in a node of kind `parent` is.
+fn compiled_leaf(
+    alloc: Global,
+    stand_ins: &[StandIn],
+    parent: u16,
+    leaf: &rowan_green::GreenTokenRef<'_>,
+) -> Result<GreenElement, PatternError> {
+    let Some(number) = stand_in_of(stand_ins, leaf) else {
+        return Ok(NodeOrToken::Token(leaf.to_owned()?));
+    };
+    if parent != SyntaxKind::TOKEN_TREE.to_raw() || number >= stand_ins.len() {
+        return Err(PatternError::Place);
+    }
+    let stand_in = &stand_ins[number];
+    let place = if stand_in.is_sequence {
+        Place::Sequence
+    } else {
+        Place::Token
+    };
+    place_leaf(alloc, place, stand_in.name.as_str())
+}
+
+/// Returns the element of a pattern that an element in a node of kind `parent` is.
+#[tactic(auto, using(tree_patterns::proofs::LeafLists::child_facts))]
+pub fn compiled(
+    alloc: Global,
+    stand_ins: &[StandIn],
+    parent: u16,
+    element: &GreenElementRef<'_>,
+) -> Result<GreenElement, PatternError> {
+    let node = match element {
+        NodeOrToken::Token(leaf) => return compiled_leaf(alloc, stand_ins, parent, leaf),
+        NodeOrToken::Node(node) => node,
+    };
+    if let Some((place, number)) = place_of(alloc, stand_ins, parent, node)? {
+        if number < stand_ins.len() {
+            return place_leaf(alloc, place, stand_ins[number].name.as_str());
+        }
+    }
+    let kind = node.kind();
+    let mut children = Vec::new(alloc);
+    for child in node.children() {
+        if is_bone(kind.0, child.kind().0) {
+            children.push(compiled(alloc, stand_ins, kind.0, &child)?)?;
+        }
+    }
+    match GreenNode::new(alloc, kind, children.into_iter()) {
+        Ok(node) => Ok(NodeOrToken::Node(node)),
+        Err(GreenError::TooLong) => Err(PatternError::TooLong),
+        Err(_) => Err(PatternError::NoMemory),
+    }
+}

@@ -1,0 +1,80 @@
+//! What a text is as a fragment.
+
+use crate::error::PatternError;
+use crate::frames::{after, before, has_kind};
+use parser_input::Edition;
+use ra_parser::Grammar;
+use rowan_green::{GreenNode, GreenNodeRef, NodeOrToken};
+use rust_document::{Document, OpenError};
+use std::alloc::Global;
+use syntax_tree::TreeIds;
+use tree_patterns::Fragment;
+
+/// The Rust that texts are read as.
+#[derive(Clone, Copy, Debug, PartialEq, Eq)]
+pub struct Dialect {
+    pub edition: Edition,
+    pub grammar: Grammar,
+}
+
+/// A range of bytes.
+#[derive(Clone, Copy)]
+pub struct Bounds {
+    pub start: u32,
+    pub end: u32,
+}
+
+/// Returns the first node below `node`, in preorder, that has the bounds. The node's text starts at `at`.
+fn node_over<'a>(node: &GreenNodeRef<'a>, at: u32, bounds: Bounds) -> Option<GreenNodeRef<'a>> {
+    let mut at = at;
+    for child in node.children() {
+        let start = at;
+        at = start + child.text_len().0;
+        if let NodeOrToken::Node(inner) = child {
+            if start == bounds.start && at == bounds.end {
+                return Some(inner);
+            }
+            let found = node_over(&inner, start, bounds);
+            if found.is_some() {
+                return found;
+            }
+        }
+    }
+    None
+}
+
+/// Opens a text that holds a fragment.
+pub fn opened(alloc: Global, dialect: Dialect, text: &str) -> Result<Document, PatternError> {
+    let mut ids = TreeIds::new();
+    match Document::open_by(alloc, dialect.edition, dialect.grammar, text, &mut ids) {
+        Ok(document) => Ok(document),
+        Err(OpenError::TooLong) => Err(PatternError::TooLong),
+        Err(_) => Err(PatternError::NoMemory),
+    }
+}
+
+/// Returns the one node that a text is as a fragment, if it reads so without messages.
+pub fn read_as(
+    alloc: Global,
+    dialect: Dialect,
+    fragment: Fragment,
+    text: &str,
+) -> Result<Option<GreenNode>, PatternError> {
+    let before = before(fragment);
+    let after = after(fragment);
+    let whole = format!(in alloc; "{before}{text}{after}")?;
+    let document = opened(alloc, dialect, whole.as_str())?;
+    if !document.errors().is_empty() {
+        return Ok(None);
+    }
+    let start = before.len() as u32;
+    let bounds = Bounds {
+        start,
+        end: start + text.len() as u32,
+    };
+    let root = document.root().cursor().green().as_ref();
+    match node_over(&root, 0, bounds) {
+        Some(node) if has_kind(fragment, node.kind().0) => Ok(Some(node.to_owned()?)),
+        _ => Ok(None),
+    }
+}

@@ -1,0 +1,5 @@
+pub mod Kinds
+pub mod Bones
+pub mod Leaves
+pub mod Places
+pub mod Patterns
