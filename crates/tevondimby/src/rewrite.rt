@@ -1,34 +1,62 @@
 //! Files are rewritten by commands.
 
-use crate::dialect_options::DialectOptions;
-use crate::inputs::Inputs;
+use crate::dialects::Dialects;
+use crate::diffs::print_diffs;
+use crate::file_ids::file_id;
+use crate::inputs::{Inputs, STANDARD_INPUT};
+use crate::report::{report_unwritten, usage_error};
 use crate::run::FAULT;
 use anyhow::{Result, anyhow};
 use clap::ArgMatches;
 use document_requests::CommitRule;
+use file_paths::{FileId, first_same};
 use file_target::Target;
 use serde_json::Value;
 use source_rewrites::{
     FileCommands, Rewrite, RewriteFailure, RewriteStop, commands_of_files, plan_rewrites,
     rewrite_files,
 };
-use source_tools::{Source, write_diffs};
+use source_tools::Source;
 use std::alloc::AllocError;
 
-/// Returns the rewrites of the files, each read as its own Rust.
+/// Returns the identities of the files, as far as the system tells them.
+fn ids_of(rt: &HostRuntime, files: &[FileCommands<'_>]) -> Result<Vec<Option<FileId>>, AllocError> {
+    let mut ids = Vec::new(rt.alloc());
+    for file in files {
+        ids.push(file_id(rt, file.path))?;
+    }
+    Ok(ids)
+}
+
+/// Returns the rewrites of the files, each read as its own Rust. Of paths that lead to one file the
+/// commands are done one after another.
 fn rewrites_of<'a>(
     rt: &HostRuntime,
-    options: DialectOptions,
+    dialects: &mut Dialects<'_>,
     files: Vec<FileCommands<'a>>,
 ) -> Result<Vec<Rewrite<'a>>, AllocError> {
-    let mut rewrites = Vec::new(rt.alloc());
-    for file in files {
-        let dialect = options.dialect(rt, file.path);
-        let path = String::from_str(rt.alloc(), file.path)?;
-        rewrites.push(Rewrite {
-            source: Source { path, dialect },
-            commands: file.commands,
-        })?;
+    let ids = ids_of(rt, files.as_slice())?;
+    let mut rewrites: Vec<Rewrite<'a>> = Vec::new(rt.alloc());
+    // The index in `rewrites` of each file so far.
+    let mut places: Vec<usize> = Vec::new(rt.alloc());
+    for (index, file) in files.into_iter().enumerate() {
+        let mut commands = file.commands;
+        let first = if index < ids.len() {
+            first_same(ids.as_slice(), index)
+        } else {
+            index
+        };
+        let place = places.get(first).copied().unwrap_or(rewrites.len());
+        match rewrites.get_mut(place) {
+            Some(rewrite) => rewrite.commands.append(&mut commands)?,
+            None => {
+                let dialect = dialects.dialect(file.path)?;
+                let path = String::from_str(rt.alloc(), file.path)?;
+                let source = Source { path, dialect };
+                rewrites.push(Rewrite { source, commands })?;
+            }
+        }
+        places.push(place)?;
     }
     Ok(rewrites)
 }
@@ -43,11 +71,7 @@ fn report_stop(rt: &HostRuntime, rewrites: &[Rewrite<'_>], stop: &RewriteStop) {
             };
             let _ = eprintln!(rt; "tevondimby: {path}: {fault}; no file is written");
         }
-        RewriteStop::Unwritten(path, error) => {
-            let _ = eprintln!(rt;
-                "tevondimby: {path}: {error}; files before it, if any, are written"
-            );
-        }
+        RewriteStop::Unwritten(path, error) => report_unwritten(rt, path.as_str(), error),
     }
 }
 
@@ -67,10 +91,7 @@ fn run_rewrites(
         rewrite_files(rt.alloc(), rule, &mut inputs, rewrites).err()
     } else {
         match plan_rewrites(rt.alloc(), rule, &inputs, rewrites) {
-            Ok(changes) => {
-                write_diffs(rt.alloc(), changes.as_slice(), &mut rt.stdout())?;
-                None
-            }
+            Ok(changes) => return print_diffs(rt, changes),
             Err(failure) => Some(RewriteStop::RefusedFile(failure)),
         }
     };
@@ -81,6 +102,16 @@ fn run_rewrites(
             Ok(FAULT)
         }
     }
+}
+
+/// Returns `true` if standard input is one of the files.
+fn names_input(files: &[FileCommands<'_>]) -> bool {
+    for file in files {
+        if file.path == STANDARD_INPUT {
+            return true;
+        }
+    }
+    false
 }
 
 /// Rewrites files by the commands in a file.
@@ -97,10 +128,16 @@ pub(crate) fn rewrite(rt: &HostRuntime, matches: &ArgMatches<'_>) -> Result<u8> 
         Ok(value) => value,
         Err(error) => return Err(anyhow!("{path}: {error}")),
     };
-    let options = DialectOptions::new(matches);
-    let Some(files) = commands_of_files(rt.alloc(), options.grammar, &value)? else {
+    let mut dialects = Dialects::new(rt, matches);
+    let Some(files) = commands_of_files(rt.alloc(), dialects.grammar, &value)? else {
         return Err(anyhow!("{path}: is no object of lists of commands"));
     };
-    let rewrites = rewrites_of(rt, options, files)?;
+    if matches.get_flag("write") && names_input(files.as_slice()) {
+        return Ok(usage_error(
+            rt,
+            "`-` is standard input, which is not written: leave out --write",
+        ));
+    }
+    let rewrites = rewrites_of(rt, &mut dialects, files)?;
     run_rewrites(rt, matches, rewrites.as_slice())
 }

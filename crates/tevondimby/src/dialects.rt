@@ -1,38 +1,42 @@
 //! The Rust that the files of a command are read as.
 
-use crate::edition_of::edition_of;
+use crate::editions::Editions;
 use clap::ArgMatches;
 use parser_input::Edition;
 use rust_document::Grammar;
 use source_tools::Dialect;
+use std::alloc::AllocError;
 
-/// What a command line says of the Rust of its files.
-#[derive(Clone, Copy)]
-pub(crate) struct DialectOptions {
+/// The Rust that the files of a command are read as.
+#[derive(Drop)]
+pub(crate) struct Dialects<'a> {
+    /// The edition of all files, if the command line names one.
     edition: Option<Edition>,
     pub(crate) grammar: Grammar,
+    editions: Editions<'a>,
 }
 
-impl DialectOptions {
+impl<'a> Dialects<'a> {
     /// Returns what a command line says.
-    pub(crate) fn new(matches: &ArgMatches<'_>) -> DialectOptions {
-        DialectOptions {
+    pub(crate) fn new(rt: &'a HostRuntime, matches: &ArgMatches<'_>) -> Dialects<'a> {
+        Dialects {
             edition: matches.get_str("edition").and_then(Edition::from_name),
             grammar: match matches.get_str("grammar") {
                 Some("profile") => Grammar::Profile,
                 _ => Grammar::Whole,
             },
+            editions: Editions::new(rt),
         }
     }
 
     /// Returns the Rust that the file at `path` is read as.
-    pub(crate) fn dialect(self, rt: &HostRuntime, path: &str) -> Dialect {
-        Dialect {
+    pub(crate) fn dialect(&mut self, path: &str) -> Result<Dialect, AllocError> {
+        Ok(Dialect {
             edition: match self.edition {
                 Some(edition) => edition,
-                None => edition_of(rt, path),
+                None => self.editions.edition_of(path)?,
             },
             grammar: self.grammar,
-        }
+        })
     }
 }

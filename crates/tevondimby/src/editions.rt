@@ -1,0 +1,144 @@
+//! The editions of files, by the nearest `Cargo.toml`.
+
+use parser_input::Edition;
+use std::alloc::{AllocError, Global};
+use std::fs;
+use std::io::ErrorKind;
+use std::path::{self, Path};
+use toml::{Table, Value};
+
+/// The most directories that are looked into for one file.
+const MAX_DEPTH: usize = 4096;
+
+/// What a manifest says of the edition.
+#[derive(Drop)]
+enum Said {
+    Edition(Edition),
+    /// The edition is the workspace's.
+    Workspace,
+    Nothing,
+    /// There is none, since the manifest is wrong as the words say.
+    Wrong(String),
+}
+
+/// Returns what `edition` of a package says.
+fn said_by(alloc: Global, value: Option<&Value>) -> Result<Said, AllocError> {
+    let Some(value) = value else {
+        return Ok(Said::Edition(Edition::Edition2015));
+    };
+    let Some(name) = value.as_str() else {
+        return Ok(Said::Workspace);
+    };
+    match Edition::from_name(name) {
+        Some(edition) => Ok(Said::Edition(edition)),
+        None => Ok(Said::Wrong(format!(in alloc;
+            "edition `{name}`: one of 2015, 2018, 2021, 2024 or next is wanted"
+        )?)),
+    }
+}
+
+/// Returns what a manifest says. Of a package without an edition it is 2015, as `cargo` has it.
+fn said_in(alloc: Global, table: &Table, of_workspace: bool) -> Result<Said, AllocError> {
+    let package = if of_workspace {
+        match table.get("workspace") {
+            Some(workspace) => workspace.get("package"),
+            None => None,
+        }
+    } else {
+        table.get("package")
+    };
+    match package {
+        Some(package) => said_by(alloc, package.get("edition")),
+        None => Ok(Said::Nothing),
+    }
+}
+
+/// The editions of files. A manifest that is wrong is named once on standard error.
+#[derive(Drop)]
+pub(crate) struct Editions<'a> {
+    rt: &'a HostRuntime,
+    /// The manifests that were named.
+    named: Vec<String>,
+}
+
+impl<'a> Editions<'a> {
+    /// Returns the editions of the files of a system.
+    pub(crate) fn new(rt: &'a HostRuntime) -> Editions<'a> {
+        Editions {
+            rt,
+            named: Vec::new(rt.alloc()),
+        }
+    }
+
+    /// Names a manifest and says what is wrong with it.
+    fn report(&mut self, manifest: &str, words: &str) -> Result<(), AllocError> {
+        let alloc: Global = self.rt.alloc();
+        for named in self.named.as_slice() {
+            if named.as_str() == manifest {
+                return Ok(());
+            }
+        }
+        let _ = eprintln!(self.rt;
+            "tevondimby: {manifest}: {words}; its files are read by edition 2021"
+        );
+        self.named.push(String::from_str(alloc, manifest)?)?;
+        Ok(())
+    }
+
+    /// Returns what the manifest in a directory says.
+    fn said_at(&self, manifest: &str, of_workspace: bool) -> Result<Said, AllocError> {
+        let alloc: Global = self.rt.alloc();
+        let text = match fs::read_to_string(self.rt, manifest) {
+            Ok(text) => text,
+            Err(error) if error.kind() == ErrorKind::NotFound => return Ok(Said::Nothing),
+            Err(error) if error.kind() == ErrorKind::NotADirectory => return Ok(Said::Nothing),
+            Err(error) => return Ok(Said::Wrong(format!(in alloc; "{error}")?)),
+        };
+        match toml::table_from_str(alloc, text.as_str()) {
+            Ok(table) => said_in(alloc, &table, of_workspace),
+            Err(error) => Ok(Said::Wrong(format!(in alloc; "{error}")?)),
+        }
+    }
+
+    /// Returns the edition that the manifest in a directory says, if it ends the search.
+    fn edition_at(
+        &mut self,
+        directory: Path<'_>,
+        of_workspace: &mut bool,
+    ) -> Result<Option<Edition>, AllocError> {
+        let manifest = directory.join(self.rt.alloc(), "Cargo.toml")?;
+        let manifest = manifest.as_path().as_str();
+        let mut said = self.said_at(manifest, *of_workspace)?;
+        if let Said::Workspace = said {
+            *of_workspace = true;
+            said = self.said_at(manifest, true)?;
+        }
+        match said {
+            Said::Edition(edition) => Ok(Some(edition)),
+            Said::Wrong(words) => {
+                self.report(manifest, words.as_str())?;
+                Ok(Some(Edition::Edition2021))
+            }
+            Said::Workspace | Said::Nothing => Ok(None),
+        }
+    }
+
+    /// Returns the edition of the file at `path`: of the nearest `Cargo.toml`, else 2021.
+    pub(crate) fn edition_of(&mut self, file: &str) -> Result<Edition, AllocError> {
+        let Ok(file) = path::absolute(self.rt, file) else {
+            return Ok(Edition::Edition2021);
+        };
+        let mut place = file.as_path();
+        let mut of_workspace = false;
+        for _turn in 0..MAX_DEPTH {
+            let Some(directory) = place.parent() else {
+                break;
+            };
+            if let Some(edition) = self.edition_at(directory, &mut of_workspace)? {
+                return Ok(edition);
+            }
+            place = directory;
+        }
+        Ok(Edition::Edition2021)
+    }
+}

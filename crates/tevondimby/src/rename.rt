@@ -1,0 +1,124 @@
+//! Identifiers are renamed in files.
+
+use crate::dialects::Dialects;
+use crate::diffs::print_diffs;
+use crate::inputs::{Inputs, STANDARD_INPUT};
+use crate::output::is_closed;
+use crate::report::{report_unwritten, usage_error};
+use crate::run::{FAULT, files_of, path_of};
+use anyhow::{Result, anyhow};
+use clap::ArgMatches;
+use file_target::Target;
+use source_tools::{
+    RenameFailure, RenameStop, Renaming, Source, plan_renames, rename_bytes, rename_files,
+};
+use std::io::Write;
+
+/// The exit status if nothing is renamed.
+const NOTHING: u8 = 1;
+
+/// Names the file that stopped a renaming. Returns the exit status.
+fn report_stop(rt: &HostRuntime, sources: &[Source], stop: &RenameStop) -> u8 {
+    match stop {
+        RenameStop::RefusedFile(RenameFailure { index, fault }) => {
+            let path = path_of(sources, *index);
+            let _ = eprintln!(rt; "tevondimby: {path}: {fault}; no file is written");
+        }
+        RenameStop::Unwritten(path, error) => report_unwritten(rt, path.as_str(), error),
+    }
+    FAULT
+}
+
+/// Says that no file has the identifier. Returns the exit status.
+fn report_nothing(rt: &HostRuntime, old: &str, count: usize) -> u8 {
+    let files = if count == 1 { "file" } else { "files" };
+    let _ = eprintln!(rt; "tevondimby: no identifier `{old}` in {count} {files}");
+    NOTHING
+}
+
+/// Renames in standard input, and prints the new text. Returns the exit status.
+fn rename_input(rt: &HostRuntime, renaming: &Renaming<'_>, matches: &ArgMatches<'_>) -> Result<u8> {
+    let alloc = rt.alloc();
+    let dialect = Dialects::new(rt, matches).dialect(STANDARD_INPUT)?;
+    let contents = match Inputs::new(rt).read(alloc, STANDARD_INPUT) {
+        Ok(contents) => contents,
+        Err(error) => return Err(anyhow!("-: {error}")),
+    };
+    let old = contents.bytes.as_slice();
+    let new = match rename_bytes(alloc, renaming, dialect, old) {
+        Ok(new) => new,
+        Err(fault) => return Err(anyhow!("-: {fault}")),
+    };
+    let mut output = rt.stdout();
+    match output.write_all(new.as_slice()) {
+        Ok(()) => {}
+        Err(error) if is_closed(&error) => return Ok(0),
+        Err(error) => return Err(anyhow!("the output could not be written: {error}")),
+    }
+    if new.as_slice() == old {
+        return Ok(report_nothing(rt, renaming.old, 1));
+    }
+    Ok(0)
+}
+
+/// Renames in files, and writes them. Returns the exit status.
+fn rename_written(rt: &HostRuntime, renaming: &Renaming<'_>, sources: &[Source]) -> u8 {
+    let mut inputs = Inputs::new(rt);
+    match rename_files(rt.alloc(), renaming, &mut inputs, sources) {
+        Ok(0) => report_nothing(rt, renaming.old, sources.len()),
+        Ok(_) => 0,
+        Err(stop) => report_stop(rt, sources, &stop),
+    }
+}
+
+/// Renames in files, and prints a diff. Returns the exit status.
+fn rename_shown(rt: &HostRuntime, renaming: &Renaming<'_>, sources: &[Source]) -> Result<u8> {
+    match plan_renames(rt.alloc(), renaming, &Inputs::new(rt), sources) {
+        Ok(changes) if changes.is_empty() => Ok(report_nothing(rt, renaming.old, sources.len())),
+        Ok(changes) => print_diffs(rt, changes),
+        Err(failure) => Ok(report_stop(rt, sources, &RenameStop::RefusedFile(failure))),
+    }
+}
+
+/// Returns `true` if standard input is one of the files.
+fn has_input(paths: &[&str]) -> bool {
+    for path in paths {
+        if *path == STANDARD_INPUT {
+            return true;
+        }
+    }
+    false
+}
+
+/// Renames in files, and writes them or prints a diff; of standard input the new text is printed.
+pub(crate) fn rename(rt: &HostRuntime, matches: &ArgMatches<'_>) -> Result<u8> {
+    let renaming = Renaming {
+        old: matches.get_str("old").unwrap_or(""),
+        new: matches.get_str("new").unwrap_or(""),
+        merge: matches.get_flag("merge"),
+    };
+    let is_written = matches.get_flag("write");
+    if renaming.old == renaming.new {
+        return Ok(usage_error(rt, "the old name and the new name are the same"));
+    }
+    let paths = matches.get_strs("files").unwrap_or([].as_slice());
+    if has_input(paths) {
+        if is_written || matches.get_flag("diff") || paths.len() != 1 {
+            return Ok(usage_error(
+                rt,
+                "`-` is standard input, whose new text is printed: no other file, --write or --diff goes with it",
+            ));
+        }
+        return rename_input(rt, &renaming, matches);
+    }
+    let list = files_of(rt, matches)?;
+    if list.has_faults {
+        return Ok(FAULT);
+    }
+    let sources = list.sources.as_slice();
+    if is_written {
+        Ok(rename_written(rt, &renaming, sources))
+    } else {
+        rename_shown(rt, &renaming, sources)
+    }
+}
