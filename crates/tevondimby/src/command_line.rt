@@ -8,16 +8,20 @@ const ABOUT: &str =
 
 const AFTER: &str = "\
 A FILE is a path, `-` for standard input, or a directory for the `.rs` files in it, in order of name; \
-links in it are not followed. A file that several paths lead to is taken once. A file's edition is that \
+links in it are not followed, and in it directories that are hidden or named `target` are left out. A \
+file that several paths lead to is taken once. A file's edition is that \
 of `--edition`, or else of the nearest `Cargo.toml`, or else 2021; a `Cargo.toml` that cannot be read \
 or names no edition of Rust is named on standard error. Its grammar is the whole language, or with \
 `--grammar profile` the part of it that a request is read by if it names no grammar.
 
-The exit status is 0; or 1 if `check` prints messages, if `rename` finds no identifier OLD, or if there \
-is no file; or 2 after a fault: a file that cannot be read is named on standard error, and `check`, \
+The exit status is 0; or 1 if `check` prints messages, if `rename` finds no identifier OLD, if with \
+`--check` a file would change, or if there is no file; or 2 after a fault: a file that cannot be read is named on standard error, and `check`, \
 `tokens` and `tree` still read the others.";
 
 const JSON: &str = "Prints an object in JSON for each file, on a line of its own";
+
+const CHECK: &str =
+    "Prints the paths of the files that would change; the exit status is 1 if there are any";
 
 const REWRITE: &str = "\
 Rewrites files by the commands in COMMANDS, a file in JSON or `-` for standard input:
@@ -122,7 +126,10 @@ fn word<'a>(alloc: Global, name: &'a str, shown: &'a str, help: &'a str) -> Arg<
 fn with_flags<'a>(alloc: Global, command: Command<'a>) -> Result<Command<'a>, AllocError> {
     let write = flag(alloc, "write", "Writes the files").short('w');
     let diff = flag(alloc, "diff", "Prints a diff, as without --write").conflicts_with("write")?;
-    command.arg(write)?.arg(diff)
+    let check = flag(alloc, "check", CHECK).conflicts_with("write")?;
+    let check = check.conflicts_with("diff")?;
+    let quiet = flag(alloc, "quiet", "Says nothing on standard error but faults").short('q');
+    command.arg(write)?.arg(diff)?.arg(check)?.arg(quiet)
 }
 
 /// Adds the names of a renaming.

@@ -1,10 +1,11 @@
 //! Diffs of files, named so that `git apply` and `patch -p1` take them.
 
-use crate::output::unless_closed;
-use anyhow::Result;
+use crate::output::{is_closed, unless_closed};
+use anyhow::{Result, anyhow};
 use file_paths::{common_folder, name_in};
 use source_tools::{FileChange, write_diffs};
 use std::alloc::AllocError;
+use std::io::Write;
 use std::{env, fs};
 
 /// Returns the current folder without links and without a slash at its end; `None` if the system does
@@ -69,4 +70,21 @@ pub(crate) fn print_diffs(rt: &HostRuntime, changes: Vec<FileChange>) -> Result<
     name_changes(rt, changes.as_mut_slice())?;
     let _written = unless_closed(write_diffs(rt.alloc(), changes.as_slice(), &mut rt.stdout()))?;
     Ok(0)
+}
+
+/// The exit status of `--check` if a file would change.
+const WOULD_CHANGE: u8 = 1;
+
+/// Prints the paths of the files that would change. Returns the exit status.
+pub(crate) fn print_paths(rt: &HostRuntime, changes: &[FileChange]) -> Result<u8> {
+    let mut output = rt.stdout();
+    for change in changes {
+        let line = format!(in rt.alloc(); "{}\n", change.path)?;
+        match output.write_all(line.as_str().as_bytes()) {
+            Ok(()) => {}
+            Err(error) if is_closed(&error) => break,
+            Err(error) => return Err(anyhow!("the output could not be written: {error}")),
+        }
+    }
+    Ok(if changes.is_empty() { 0 } else { WOULD_CHANGE })
 }

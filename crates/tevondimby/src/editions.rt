@@ -1,18 +1,19 @@
 //! The editions of files, by the nearest `Cargo.toml`.
 
+use cargo_editions::{Said, said_in};
 use parser_input::Edition;
 use std::alloc::{AllocError, Global};
 use std::fs;
 use std::io::ErrorKind;
 use std::path::{self, Path};
-use toml::{Table, Value};
+use toml::Value;
 
 /// The most directories that are looked into for one file.
 const MAX_DEPTH: usize = 4096;
 
-/// What a manifest says of the edition.
+/// What the manifest in a directory says.
 #[derive(Drop)]
-enum Said {
+enum Found {
     Edition(Edition),
     /// The edition is the workspace's.
     Workspace,
@@ -21,36 +22,16 @@ enum Said {
     Wrong(String),
 }
 
-/// Returns what `edition` of a package says.
-fn said_by(alloc: Global, value: Option<&Value>) -> Result<Said, AllocError> {
-    let Some(value) = value else {
-        return Ok(Said::Edition(Edition::Edition2015));
-    };
-    let Some(name) = value.as_str() else {
-        return Ok(Said::Workspace);
-    };
-    match Edition::from_name(name) {
-        Some(edition) => Ok(Said::Edition(edition)),
-        None => Ok(Said::Wrong(format!(in alloc;
+/// Returns what a manifest says.
+fn found_in(alloc: Global, manifest: &Value, of_workspace: bool) -> Result<Found, AllocError> {
+    Ok(match said_in(manifest, of_workspace) {
+        Said::Edition(edition) => Found::Edition(edition),
+        Said::Workspace => Found::Workspace,
+        Said::Nothing => Found::Nothing,
+        Said::Unknown(name) => Found::Wrong(format!(in alloc;
             "edition `{name}`: one of 2015, 2018, 2021, 2024 or next is wanted"
-        )?)),
-    }
-}
-
-/// Returns what a manifest says. Of a package without an edition it is 2015, as `cargo` has it.
-fn said_in(alloc: Global, table: &Table, of_workspace: bool) -> Result<Said, AllocError> {
-    let package = if of_workspace {
-        match table.get("workspace") {
-            Some(workspace) => workspace.get("package"),
-            None => None,
-        }
-    } else {
-        table.get("package")
-    };
-    match package {
-        Some(package) => said_by(alloc, package.get("edition")),
-        None => Ok(Said::Nothing),
-    }
+        )?),
+    })
 }
 
 /// The editions of files. A manifest that is wrong is named once on standard error.
@@ -86,17 +67,17 @@ impl<'a> Editions<'a> {
     }
 
     /// Returns what the manifest in a directory says.
-    fn said_at(&self, manifest: &str, of_workspace: bool) -> Result<Said, AllocError> {
+    fn found_at(&self, manifest: &str, of_workspace: bool) -> Result<Found, AllocError> {
         let alloc: Global = self.rt.alloc();
         let text = match fs::read_to_string(self.rt, manifest) {
             Ok(text) => text,
-            Err(error) if error.kind() == ErrorKind::NotFound => return Ok(Said::Nothing),
-            Err(error) if error.kind() == ErrorKind::NotADirectory => return Ok(Said::Nothing),
-            Err(error) => return Ok(Said::Wrong(format!(in alloc; "{error}")?)),
+            Err(error) if error.kind() == ErrorKind::NotFound => return Ok(Found::Nothing),
+            Err(error) if error.kind() == ErrorKind::NotADirectory => return Ok(Found::Nothing),
+            Err(error) => return Ok(Found::Wrong(format!(in alloc; "{error}")?)),
         };
         match toml::table_from_str(alloc, text.as_str()) {
-            Ok(table) => said_in(alloc, &table, of_workspace),
-            Err(error) => Ok(Said::Wrong(format!(in alloc; "{error}")?)),
+            Ok(table) => found_in(alloc, &Value::Table(table), of_workspace),
+            Err(error) => Ok(Found::Wrong(format!(in alloc; "{error}")?)),
         }
     }
 
@@ -108,18 +89,18 @@ impl<'a> Editions<'a> {
     ) -> Result<Option<Edition>, AllocError> {
         let manifest = directory.join(self.rt.alloc(), "Cargo.toml")?;
         let manifest = manifest.as_path().as_str();
-        let mut said = self.said_at(manifest, *of_workspace)?;
-        if let Said::Workspace = said {
+        let mut found = self.found_at(manifest, *of_workspace)?;
+        if let Found::Workspace = found {
             *of_workspace = true;
-            said = self.said_at(manifest, true)?;
+            found = self.found_at(manifest, true)?;
         }
-        match said {
-            Said::Edition(edition) => Ok(Some(edition)),
-            Said::Wrong(words) => {
+        match found {
+            Found::Edition(edition) => Ok(Some(edition)),
+            Found::Wrong(words) => {
                 self.report(manifest, words.as_str())?;
                 Ok(Some(Edition::Edition2021))
             }
-            Said::Workspace | Said::Nothing => Ok(None),
+            Found::Workspace | Found::Nothing => Ok(None),
         }
     }
 

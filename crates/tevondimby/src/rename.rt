@@ -1,10 +1,10 @@
 //! Identifiers are renamed in files.
 
 use crate::dialects::Dialects;
-use crate::diffs::print_diffs;
+use crate::diffs::{print_diffs, print_paths};
 use crate::inputs::{Inputs, STANDARD_INPUT};
 use crate::output::is_closed;
-use crate::report::{report_unwritten, usage_error};
+use crate::report::{report_unwritten, report_written, usage_error};
 use crate::run::{FAULT, files_of, path_of};
 use anyhow::{Result, anyhow};
 use clap::ArgMatches;
@@ -29,15 +29,30 @@ fn report_stop(rt: &HostRuntime, sources: &[Source], stop: &RenameStop) -> u8 {
     FAULT
 }
 
+/// What a renaming says and does beside it.
+#[derive(Clone, Copy)]
+struct Manner {
+    is_written: bool,
+    is_check: bool,
+    is_quiet: bool,
+}
+
 /// Says that no file has the identifier. Returns the exit status.
-fn report_nothing(rt: &HostRuntime, old: &str, count: usize) -> u8 {
-    let files = if count == 1 { "file" } else { "files" };
-    let _ = eprintln!(rt; "tevondimby: no identifier `{old}` in {count} {files}");
+fn report_nothing(rt: &HostRuntime, manner: Manner, old: &str, count: usize) -> u8 {
+    if !manner.is_quiet {
+        let files = if count == 1 { "file" } else { "files" };
+        let _ = eprintln!(rt; "tevondimby: no identifier `{old}` in {count} {files}");
+    }
     NOTHING
 }
 
 /// Renames in standard input, and prints the new text. Returns the exit status.
-fn rename_input(rt: &HostRuntime, renaming: &Renaming<'_>, matches: &ArgMatches<'_>) -> Result<u8> {
+fn rename_input(
+    rt: &HostRuntime,
+    renaming: &Renaming<'_>,
+    manner: Manner,
+    matches: &ArgMatches<'_>,
+) -> Result<u8> {
     let alloc = rt.alloc();
     let dialect = Dialects::new(rt, matches).dialect(STANDARD_INPUT)?;
     let contents = match Inputs::new(rt).read(alloc, STANDARD_INPUT) {
@@ -56,25 +71,44 @@ fn rename_input(rt: &HostRuntime, renaming: &Renaming<'_>, matches: &ArgMatches<
         Err(error) => return Err(anyhow!("the output could not be written: {error}")),
     }
     if new.as_slice() == old {
-        return Ok(report_nothing(rt, renaming.old, 1));
+        return Ok(report_nothing(rt, manner, renaming.old, 1));
     }
     Ok(0)
 }
 
 /// Renames in files, and writes them. Returns the exit status.
-fn rename_written(rt: &HostRuntime, renaming: &Renaming<'_>, sources: &[Source]) -> u8 {
+fn rename_written(
+    rt: &HostRuntime,
+    renaming: &Renaming<'_>,
+    manner: Manner,
+    sources: &[Source],
+) -> u8 {
     let mut inputs = Inputs::new(rt);
     match rename_files(rt.alloc(), renaming, &mut inputs, sources) {
-        Ok(0) => report_nothing(rt, renaming.old, sources.len()),
-        Ok(_) => 0,
+        Ok(0) => report_nothing(rt, manner, renaming.old, sources.len()),
+        Ok(count) => {
+            if !manner.is_quiet {
+                report_written(rt, count);
+            }
+            0
+        }
         Err(stop) => report_stop(rt, sources, &stop),
     }
 }
 
-/// Renames in files, and prints a diff. Returns the exit status.
-fn rename_shown(rt: &HostRuntime, renaming: &Renaming<'_>, sources: &[Source]) -> Result<u8> {
+/// Renames in files, and prints a diff, or the paths of the files that would change. Returns the exit
+/// status.
+fn rename_shown(
+    rt: &HostRuntime,
+    renaming: &Renaming<'_>,
+    manner: Manner,
+    sources: &[Source],
+) -> Result<u8> {
     match plan_renames(rt.alloc(), renaming, &Inputs::new(rt), sources) {
-        Ok(changes) if changes.is_empty() => Ok(report_nothing(rt, renaming.old, sources.len())),
+        Ok(changes) if manner.is_check => print_paths(rt, changes.as_slice()),
+        Ok(changes) if changes.is_empty() => {
+            Ok(report_nothing(rt, manner, renaming.old, sources.len()))
+        }
         Ok(changes) => print_diffs(rt, changes),
         Err(failure) => Ok(report_stop(rt, sources, &RenameStop::RefusedFile(failure))),
     }
@@ -97,28 +131,33 @@ pub(crate) fn rename(rt: &HostRuntime, matches: &ArgMatches<'_>) -> Result<u8> {
         new: matches.get_str("new").unwrap_or(""),
         merge: matches.get_flag("merge"),
     };
-    let is_written = matches.get_flag("write");
+    let manner = Manner {
+        is_written: matches.get_flag("write"),
+        is_check: matches.get_flag("check"),
+        is_quiet: matches.get_flag("quiet"),
+    };
     if renaming.old == renaming.new {
         return Ok(usage_error(rt, "the old name and the new name are the same"));
     }
     let paths = matches.get_strs("files").unwrap_or([].as_slice());
     if has_input(paths) {
-        if is_written || matches.get_flag("diff") || paths.len() != 1 {
+        let is_other = manner.is_written || manner.is_check || matches.get_flag("diff");
+        if is_other || paths.len() != 1 {
             return Ok(usage_error(
                 rt,
-                "`-` is standard input, whose new text is printed: no other file, --write or --diff goes with it",
+                "`-` is standard input, whose new text is printed: no other file, --write, --diff or --check goes with it",
             ));
         }
-        return rename_input(rt, &renaming, matches);
+        return rename_input(rt, &renaming, manner, matches);
     }
     let list = files_of(rt, matches)?;
     if list.has_faults {
         return Ok(FAULT);
     }
     let sources = list.sources.as_slice();
-    if is_written {
-        Ok(rename_written(rt, &renaming, sources))
+    if manner.is_written {
+        Ok(rename_written(rt, &renaming, manner, sources))
     } else {
-        rename_shown(rt, &renaming, sources)
+        rename_shown(rt, &renaming, manner, sources)
     }
 }

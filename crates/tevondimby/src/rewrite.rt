@@ -1,10 +1,10 @@
 //! Files are rewritten by commands.
 
 use crate::dialects::Dialects;
-use crate::diffs::print_diffs;
+use crate::diffs::{print_diffs, print_paths};
 use crate::file_ids::file_id;
 use crate::inputs::{Inputs, STANDARD_INPUT};
-use crate::report::{report_unwritten, usage_error};
+use crate::report::{report_unwritten, report_written, usage_error};
 use crate::run::FAULT;
 use anyhow::{Result, anyhow};
 use clap::ArgMatches;
@@ -61,8 +61,8 @@ fn rewrites_of<'a>(
     Ok(rewrites)
 }
 
-/// Names the file that stopped a rewrite.
-fn report_stop(rt: &HostRuntime, rewrites: &[Rewrite<'_>], stop: &RewriteStop) {
+/// Names the file that stopped a rewrite. Returns the exit status.
+fn report_stop(rt: &HostRuntime, rewrites: &[Rewrite<'_>], stop: &RewriteStop) -> u8 {
     match stop {
         RewriteStop::RefusedFile(RewriteFailure { index, fault }) => {
             let path = match rewrites.get(*index) {
@@ -73,6 +73,7 @@ fn report_stop(rt: &HostRuntime, rewrites: &[Rewrite<'_>], stop: &RewriteStop) {
         }
         RewriteStop::Unwritten(path, error) => report_unwritten(rt, path.as_str(), error),
     }
+    FAULT
 }
 
 /// Rewrites files, and writes them or prints a diff.
@@ -87,20 +88,23 @@ fn run_rewrites(
         CommitRule::WithoutMessages
     };
     let mut inputs = Inputs::new(rt);
-    let stop = if matches.get_flag("write") {
-        rewrite_files(rt.alloc(), rule, &mut inputs, rewrites).err()
-    } else {
-        match plan_rewrites(rt.alloc(), rule, &inputs, rewrites) {
-            Ok(changes) => return print_diffs(rt, changes),
-            Err(failure) => Some(RewriteStop::RefusedFile(failure)),
-        }
-    };
-    match stop {
-        None => Ok(0),
-        Some(stop) => {
-            report_stop(rt, rewrites, &stop);
-            Ok(FAULT)
-        }
+    if matches.get_flag("write") {
+        return Ok(
+            match rewrite_files(rt.alloc(), rule, &mut inputs, rewrites) {
+                Ok(count) => {
+                    if !matches.get_flag("quiet") {
+                        report_written(rt, count);
+                    }
+                    0
+                }
+                Err(stop) => report_stop(rt, rewrites, &stop),
+            },
+        );
+    }
+    match plan_rewrites(rt.alloc(), rule, &inputs, rewrites) {
+        Ok(changes) if matches.get_flag("check") => print_paths(rt, changes.as_slice()),
+        Ok(changes) => print_diffs(rt, changes),
+        Err(failure) => Ok(report_stop(rt, rewrites, &RewriteStop::RefusedFile(failure))),
     }
 }
 

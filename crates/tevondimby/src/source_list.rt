@@ -26,6 +26,9 @@ struct PathList<'a> {
     has_faults: bool,
 }
 
+/// The folder that `cargo` builds in.
+const BUILD_FOLDER: &str = "target";
+
 /// What is at a path of the list.
 #[derive(Drop)]
 enum PathKind {
@@ -46,7 +49,7 @@ fn report_entry(rt: &HostRuntime, directory: &str, error: &io::Error) {
 }
 
 /// Returns the paths of the files and directories in a directory that are read, by name, the last
-/// one first.
+/// one first. Hidden directories and those that `cargo` builds in are left out.
 fn entries(rt: &HostRuntime, directory: &str, faults: &mut bool) -> io::Result<Vec<String>> {
     let alloc: Global = rt.alloc();
     let mut paths = Vec::new(alloc);
@@ -60,8 +63,10 @@ fn entries(rt: &HostRuntime, directory: &str, faults: &mut bool) -> io::Result<V
             }
         };
         let kind = entry.file_type()?;
-        let is_source = kind.is_file() && entry.file_name().ends_with(".rs");
-        if kind.is_dir() || is_source {
+        let name = entry.file_name();
+        let is_source = kind.is_file() && name.ends_with(".rs");
+        let is_walked = kind.is_dir() && !name.starts_with('.') && name != BUILD_FOLDER;
+        if is_walked || is_source {
             paths.push(String::from_str(alloc, entry.path().as_str())?)?;
         }
     }
