@@ -34,6 +34,18 @@ fn found_in(alloc: Global, manifest: &Value, of_workspace: bool) -> Result<Found
     })
 }
 
+/// Returns the lines of `text` as one, each but the first behind a colon.
+fn one_line(alloc: Global, text: &str) -> Result<String, AllocError> {
+    let mut line = String::new(alloc);
+    for part in text.lines() {
+        if !line.is_empty() {
+            line.push_str(": ")?;
+        }
+        line.push_str(part)?;
+    }
+    Ok(line)
+}
+
 /// The editions of files. A manifest that is wrong is named once on standard error.
 #[derive(Drop)]
 pub(crate) struct Editions<'a> {
@@ -77,7 +89,10 @@ impl<'a> Editions<'a> {
         };
         match toml::table_from_str(alloc, text.as_str()) {
             Ok(table) => found_in(alloc, &Value::Table(table), of_workspace),
-            Err(error) => Ok(Found::Wrong(format!(in alloc; "{error}")?)),
+            Err(error) => {
+                let words = format!(in alloc; "{error}")?;
+                Ok(Found::Wrong(one_line(alloc, words.as_str())?))
+            }
         }
     }
 

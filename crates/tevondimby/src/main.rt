@@ -2,6 +2,7 @@
 //! them, and answers to requests.
 #![tactic(auto)]
 
+mod advice;
 mod command_line;
 mod dialects;
 mod diffs;

@@ -1,5 +1,6 @@
 //! Identifiers are renamed in files.
 
+use crate::advice::advise;
 use crate::dialects::Dialects;
 use crate::diffs::{print_diffs, print_paths};
 use crate::inputs::{Inputs, STANDARD_INPUT};
@@ -17,12 +18,20 @@ use std::io::Write;
 /// The exit status if nothing is renamed.
 const NOTHING: u8 = 1;
 
-/// Names the file that stopped a renaming. Returns the exit status.
-fn report_stop(rt: &HostRuntime, sources: &[Source], stop: &RenameStop) -> u8 {
+/// Names the file that stopped a renaming, and says what leads on. Returns the exit status.
+fn report_stop(
+    rt: &HostRuntime,
+    renaming: &Renaming<'_>,
+    sources: &[Source],
+    stop: &RenameStop,
+) -> u8 {
     match stop {
         RenameStop::RefusedFile(RenameFailure { index, fault }) => {
             let path = path_of(sources, *index);
             let _ = eprintln!(rt; "tevondimby: {path}: {fault}; no file is written");
+            if let Some(source) = sources.get(*index) {
+                let _ = advise(rt, renaming, source, fault);
+            }
         }
         RenameStop::Unwritten(path, error) => report_unwritten(rt, path.as_str(), error),
     }
@@ -92,7 +101,7 @@ fn rename_written(
             }
             0
         }
-        Err(stop) => report_stop(rt, sources, &stop),
+        Err(stop) => report_stop(rt, renaming, sources, &stop),
     }
 }
 
@@ -110,7 +119,10 @@ fn rename_shown(
             Ok(report_nothing(rt, manner, renaming.old, sources.len()))
         }
         Ok(changes) => print_diffs(rt, changes),
-        Err(failure) => Ok(report_stop(rt, sources, &RenameStop::RefusedFile(failure))),
+        Err(failure) => {
+            let stop = RenameStop::RefusedFile(failure);
+            Ok(report_stop(rt, renaming, sources, &stop))
+        }
     }
 }
 

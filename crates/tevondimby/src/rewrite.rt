@@ -8,9 +8,10 @@ use crate::report::{report_unwritten, report_written, usage_error};
 use crate::run::FAULT;
 use anyhow::{Result, anyhow};
 use clap::ArgMatches;
-use document_requests::CommitRule;
+use document_requests::{CommitRule, commands_of};
 use file_paths::{FileId, first_same};
 use file_target::Target;
+use rust_document::Grammar;
 use serde_json::Value;
 use source_rewrites::{
     FileCommands, Rewrite, RewriteFailure, RewriteStop, commands_of_files, plan_rewrites,
@@ -118,6 +119,45 @@ fn names_input(files: &[FileCommands<'_>]) -> bool {
     false
 }
 
+/// Returns the index of the first value that is no command, if there is one.
+fn no_command(
+    rt: &HostRuntime,
+    grammar: Grammar,
+    values: &[Value],
+) -> Result<Option<usize>, AllocError> {
+    for (index, value) in values.iter().enumerate() {
+        let mut one = Vec::new(rt.alloc());
+        one.push(value.clone()?)?;
+        if commands_of(rt.alloc(), grammar, &Value::Array(one))?.is_none() {
+            return Ok(Some(index));
+        }
+    }
+    Ok(None)
+}
+
+/// Returns why a value is no object of lists of commands.
+fn why_no_commands(
+    rt: &HostRuntime,
+    grammar: Grammar,
+    path: &str,
+    value: &Value,
+) -> Result<anyhow::Error, AllocError> {
+    let Some(members) = value.as_object() else {
+        return Ok(anyhow!("{path}: is no object of lists of commands"));
+    };
+    for (name, list) in members.iter() {
+        let Some(values) = list.as_array() else {
+            return Ok(anyhow!("{path}: {name}: is no list of commands"));
+        };
+        if let Some(index) = no_command(rt, grammar, values.as_slice())? {
+            return Ok(anyhow!(
+                "{path}: {name}, command {index}: is no command: its members are wrong, or a kind is"
+            ));
+        }
+    }
+    Ok(anyhow!("{path}: is no object of lists of commands"))
+}
+
 /// Rewrites files by the commands in a file.
 pub(crate) fn rewrite(rt: &HostRuntime, matches: &ArgMatches<'_>) -> Result<u8> {
     let path = matches.get_str("commands").unwrap_or("");
@@ -134,7 +174,7 @@ pub(crate) fn rewrite(rt: &HostRuntime, matches: &ArgMatches<'_>) -> Result<u8> 
     };
     let mut dialects = Dialects::new(rt, matches);
     let Some(files) = commands_of_files(rt.alloc(), dialects.grammar, &value)? else {
-        return Err(anyhow!("{path}: is no object of lists of commands"));
+        return Err(why_no_commands(rt, dialects.grammar, path, &value)?);
     };
     if matches.get_flag("write") && names_input(files.as_slice()) {
         return Ok(usage_error(
