@@ -122,7 +122,7 @@ pub fn rename(
         → LacksRoom ids.old new.now error) }
     ensures kept { IfErr result (λ _. document.new ≡ document.old) }
 {
-    let _text = document.text();
+    let _ = document.text();
     let token = payload(alloc, PayloadEntry::Token, document.edition(), new, ids)?;
     let mut editor = document.editor(alloc)?;
     for element in document.root().descendants_with_tokens(alloc)? {
