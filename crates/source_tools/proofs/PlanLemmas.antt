@@ -59,22 +59,22 @@ default-any (x ∷ xs) zero a b l = refl
 default-any (x ∷ xs) (suc i) a b l = default-any xs i a b (omega arith)
 
 -- The first that is refused: those before it can be changed.
-abbrev pub IsFirstRefused : {S F : Type 0} → (S → Type 0) → (S → F → Type 0) → List S → ℕ → F → Type 0
-IsFirstRefused can refuses ss i e = (i < length ss) × All can (take i ss) × ((d : _) → refuses (get_or ss i d) e)
+abbrev pub IsFirstRefused : (S F : Type 0) → (S → Type 0) → (S → F → Type 0) → List S → ℕ → F → Type 0
+IsFirstRefused S F can refuses ss i e = (i < length ss) × All can (take i ss) × ((d : S) → refuses (get_or ss i d) e)
 
 module _ {S F : Type 0} (can : Files → S → Type 0) (changes : Files → S → List Change) (refuses : Files → S → F → Type 0) (ss : List S) (i : ℕ) (s : S) (within : i < length ss) (at : s ≡ get_or ss i s) (e : F) (made : List FileChange) where
-  refused-at : (files : Files) → All (can files) (take i ss) → refuses files s e → IsFirstRefused (can files) (refuses files) ss i e
+  refused-at : (files : Files) → All (can files) (take i ss) → refuses files s e → IsFirstRefused S F (can files) (refuses files) ss i e
   refused-at files before h = (within, before, λ d. subst (λ (x : S). refuses files x e) (at ∙ default-any ss i s d within) h)
 
   -- a file is refused
   pub plan-refused : (o : Option Files) (r : Result (Option FileChange) F) → r ≡ Err e → IfPlanned can changes o (take i ss) made → IfChange can changes refuses o s r →
-      IfSome o (λ files. IsFirstRefused (can files) (refuses files) ss i e)
+      IfSome o (λ files. IsFirstRefused S F (can files) (refuses files) ss i e)
   plan-refused None r err before is = tt
   plan-refused (Some files) r err before is = refused-at files before.0 (MatchResult-at_err (λ (x : Option FileChange). can files s × (changes_in x ≡ changes files s)) (refuses files s) e err is)
 
   -- a file that can be changed is refused, since there is no room for its change
   pub plan-memory : (o : Option Files) (r : Result (Option FileChange) F) (c : Option FileChange) → r ≡ Ok c → ((files : Files) → can files s → refuses files s e) →
-      IfPlanned can changes o (take i ss) made → IfChange can changes refuses o s r → IfSome o (λ files. IsFirstRefused (can files) (refuses files) ss i e)
+      IfPlanned can changes o (take i ss) made → IfChange can changes refuses o s r → IfSome o (λ files. IsFirstRefused S F (can files) (refuses files) ss i e)
   plan-memory None r c ok memory before is = tt
   plan-memory (Some files) r c ok memory before is =
       refused-at files before.0 (memory files (MatchResult-at_ok (λ (x : Option FileChange). can files s × (changes_in x ≡ changes files s)) (refuses files s) c ok is).0)

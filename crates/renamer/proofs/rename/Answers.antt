@@ -1,4 +1,5 @@
-use Rattle.std.proofs.Common.{rules, ◌≡◌, ◌≤◌, ℕ, List, length, chars, ap, sym, ◌∙◌, subst}
+use Rattle.std.specs.Str.{IsUtf8}
+use Rattle.std.proofs.Common.{rules, ◌≡◌, ◌≤◌, ◌+◌, ℕ, List, length, chars, ap, sym, ◌∙◌, subst}
 use Rattle.syntax_tree.specs.Handle.{element_of, elements_left}
 use Rattle.syntax_tree.specs.Search.{elements}
 use Rattle.syntax_tree.specs.declared.element.SyntaxElement.{SyntaxElement}
@@ -127,7 +128,7 @@ returns-clause-renamed c =
     let held = c.loop-element.invariant in
     let document = c.args.document.now in
     let same =
-    verdict-renamed document c.args.old.now held.text.0 (element_of c.loop-element.token-1) c.text.utf8 c.text.ensures.fits held.text.1 c.loop-element.editor
+    verdict-renamed document c.args.old.now held.text.0 (element_of c.loop-element.token-1) (subst IsUtf8 c.text.ensures.text c.text.utf8) c.text.ensures.fits held.text.1 c.loop-element.editor
     (elements_left c.loop-element.element-iterator) c.in-None.ensures.steps.0 held.own held.rest in
     record { token = held.text.0; is = held.text.3; accepted = sym same ∙ c.in_ok-commit.ensures.accepted }
 
@@ -159,7 +160,7 @@ returns-in_err-commit-clause-refused c =
     let number = c.args.ids.now in
     let why = c.in_err-commit.field-0.0 in
     let same =
-    verdict-renamed document c.args.old.now held.text.0 (element_of c.loop-element.token-1) c.text.utf8 c.text.ensures.fits held.text.1 c.loop-element.editor
+    verdict-renamed document c.args.old.now held.text.0 (element_of c.loop-element.token-1) (subst IsUtf8 c.text.ensures.text c.text.utf8) c.text.ensures.fits held.text.1 c.loop-element.editor
     (elements_left c.loop-element.element-iterator) c.in-None.ensures.steps.0 held.own held.rest in
     let refused = subst (λ (n : ℕ). RefusesCommit (verdict document c.loop-element.editor) n why) c.in_ok-token.ensures.number c.in_err-commit.ensures.refused in
     err-by _ (RefusesRename document c.args.old.now c.args.new.now number) (Refused why) c.from_residual-in_err-commit.ensures.1

@@ -1,4 +1,5 @@
 use Rattle.std.proofs.Common.{◌≡◌, Err}
+use Rattle.source_tools.specs.FileErrors.{file_error_of}
 use Rattle.source_tools.proofs.ReadLemmas.{Answer, when-read, when-refused}
 use Rattle.source_rewrites.specs.Rewrites.{IsRewrittenRead, path_of}
 use Rattle.source_rewrites.specs.declared.rewrite.RewriteFault.TheVariants.{File}
@@ -19,5 +20,5 @@ returns-in-Err g c =
     let e = c.in-Err.error in
     let gives = rw c.as_str.ensures.value at c.read.ensures in
     rw c.from.ensures
-    (when-refused (λ (a : Answer). IsRewrittenRead n r a (Err (File _))) (path_of r) e (own-error n r e) (memory-read n r e) (memory-error n r e)
+    (when-refused (λ (a : Answer). IsRewrittenRead n r a (Err (File (file_error_of e)))) (path_of r) e (own-error n r e) (memory-read n r e) (memory-error n r e)
     (g.T.Target.files c.args.target.now) c.read.result c.in-Err.is gives)

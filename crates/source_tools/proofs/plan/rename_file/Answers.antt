@@ -2,6 +2,7 @@ use Rattle.std.proofs.Common.{◌≡◌, ◌∙◌, Err, string_bytes, subst, sy
 use Rattle.source_tools.specs.Renames.{IsRenamedRead}
 use Rattle.source_tools.specs.declared.renaming.RenameFault.{RenameFault}
 use Rattle.source_tools.specs.declared.renaming.RenameFault.TheVariants.{File}
+use Rattle.source_tools.specs.FileErrors.{file_error_of}
 use Rattle.source_tools.proofs.ReadLemmas.{Answer, when-read, when-refused}
 use Rattle.source_tools.proofs.RenameLemmas.{memory-error, memory-read, own-error}
 use Rattle.source_tools.proofs.plan.rename_file.Goals as goal
@@ -20,5 +21,5 @@ returns-in-Err g c =
     let e = c.in-Err.error in
     let gives = rw c.as_str.ensures.value at c.read.ensures in
     rw c.from.ensures
-    (when-refused (λ (a : Answer). IsRenamedRead n source a (Err (File _))) (string_bytes source.path) e (own-error n source e) (memory-read n source e) (memory-error n source e)
+    (when-refused (λ (a : Answer). IsRenamedRead n source a (Err (File (file_error_of e)))) (string_bytes source.path) e (own-error n source e) (memory-read n source e) (memory-error n source e)
     (g.T.Target.files c.args.target.now) c.read.result c.in-Err.is gives)
