@@ -28,4 +28,4 @@ returns-clause-stopped g c =
     let within = rw c.as_slice.ensures.value at c.in-Err-write_changes.ensures.index in
     let failed = rw c.as_slice.ensures.value at c.in-Err-write_changes.ensures.failed in
     plan-stopped (IsRewritableFile n) (changes_of n) _ c.args.rewrites.now files after c.plan_rewrites.result v fault.index _ c.swap_remove.result fault.error c.in-Ok.is c.plan_rewrites.ensures within front
-    c.swap_remove.ensures.value c.into_path.ensures failed
+    c.swap_remove.ensures.value c.into_path-path.ensures failed
