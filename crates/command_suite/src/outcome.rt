@@ -1,11 +1,12 @@
 //! What became of a renaming or a rewrite of files.
 use crate::failing::Failing;
-use crate::files::{memory, written};
+use crate::files::{FILES, memory, written};
 use anyhow::bail;
 use file_target::{Memory, TargetError};
 use source_rewrites::{RewriteFault, RewriteStop};
 use source_tools::{FileError, RenameFault, RenameStop};
 use std::alloc::Global;
+use std::io::{self, ErrorKind};
 
 /// What became of a call over files.
 #[derive(Drop)]
@@ -136,3 +137,45 @@ pub(crate) fn failing_in_turn(alloc: Global, writing: Writing) -> anyhow::Result
     }
     Ok(out)
 }
+
+/// What the system does not do with a file.
+#[derive(Clone, Copy)]
+enum Denied {
+    Read,
+    Write,
+}
+
+/// Makes the call over files of which the system does not read, or write, the one at `path`.
+fn call_denied(
+    alloc: Global,
+    writing: Writing,
+    path: &str,
+    denied: Denied,
+    out: &mut String,
+) -> anyhow::Result<()> {
+    let error = Some(io::Error::from(ErrorKind::PermissionDenied));
+    let mut memory = memory(alloc)?;
+    match denied {
+        Denied::Read => memory.permit(path, error, None),
+        Denied::Write => memory.permit(path, None, error),
+    };
+    let outcome = call(alloc, writing, &mut memory)?;
+    memory.permit(path, None, None);
+    push_outcome(alloc, &outcome, &memory, out)
+}
+
+/// Makes the call over files of which the system does not read one, each in turn, and then of which it does
+/// not write one.
+pub(crate) fn denied_in_turn(alloc: Global, writing: Writing) -> anyhow::Result<String> {
+    let mut out = String::new(alloc);
+    for denied in [Denied::Read, Denied::Write] {
+        for (path, _, _) in FILES {
+            call_denied(alloc, writing, path, denied, &mut out)?;
+        }
+    }
+    Ok(out)
+}
+
+/// The answer of [`denied_in_turn`]: the second file stays as it is, so it is not written.
+pub(crate) const DENIED: &str = "refused 0 0\nrefused 1 0\nrefused 2 0\nunwritten a.rs 0\n\
+    written 2 2\nunwritten c.rs 1\n";

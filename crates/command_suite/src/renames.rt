@@ -1,6 +1,8 @@
 //! Renamings of files.
 use crate::files::{DIALECT, memory, sources};
-use crate::outcome::{Outcome, Writing, failing_in_turn, of_rename, written_twice};
+use crate::outcome::{
+    DENIED, Outcome, Writing, denied_in_turn, failing_in_turn, of_rename, written_twice,
+};
 use anyhow::bail;
 use file_target::Target;
 use memory_table::row::{Ask, Row};
@@ -12,6 +14,7 @@ use std::alloc::Global;
 pub(crate) enum RenameCall {
     Files,
     Failing,
+    Denied,
     Diffs,
     Bytes,
     Taken,
@@ -66,6 +69,7 @@ impl Ask for RenameCall {
         match self {
             RenameCall::Files => written_twice(alloc, Writing::Rename, refused),
             RenameCall::Failing => failing_in_turn(alloc, Writing::Rename),
+            RenameCall::Denied => denied_in_turn(alloc, Writing::Rename),
             RenameCall::Diffs => diffs(alloc),
             RenameCall::Bytes => bytes(alloc, &RENAMING),
             RenameCall::Taken => bytes(
@@ -96,6 +100,11 @@ pub(crate) const ROWS: &[Row<RenameCall>] = &[
         "source_tools::rename_files over failing files",
         RenameCall::Failing,
         FAILURES,
+    ),
+    (
+        "source_tools::rename_files over files that the system does not read or write",
+        RenameCall::Denied,
+        DENIED,
     ),
     (
         "source_tools::plan_renames, source_tools::write_diffs",

@@ -1,6 +1,8 @@
 //! Rewrites of files by commands.
 use crate::files::source;
-use crate::outcome::{Outcome, Writing, failing_in_turn, of_rewrite, written_twice};
+use crate::outcome::{
+    DENIED, Outcome, Writing, denied_in_turn, failing_in_turn, of_rewrite, written_twice,
+};
 use anyhow::bail;
 use document_requests::CommitRule;
 use file_target::{Memory, Target};
@@ -17,6 +19,7 @@ use std::alloc::Global;
 pub(crate) enum RewriteCall {
     Files,
     Failing,
+    Denied,
     Reason,
 }
 
@@ -76,6 +79,7 @@ impl Ask for RewriteCall {
         match self {
             RewriteCall::Files => written_twice(alloc, Writing::Rewrite, refused),
             RewriteCall::Failing => failing_in_turn(alloc, Writing::Rewrite),
+            RewriteCall::Denied => denied_in_turn(alloc, Writing::Rewrite),
             RewriteCall::Reason => reason(alloc),
         }
     }
@@ -91,6 +95,11 @@ pub(crate) const ROWS: &[Row<RewriteCall>] = &[
         "source_rewrites::rewrite_files over failing files",
         RewriteCall::Failing,
         FAILURES,
+    ),
+    (
+        "source_rewrites::rewrite_files over files that the system does not read or write",
+        RewriteCall::Denied,
+        DENIED,
     ),
     (
         "source_rewrites::plan_rewrites, document_requests::first_difference",

@@ -2,16 +2,18 @@
 use crate::failing::Failing;
 use crate::files::source;
 use anyhow::bail;
-use file_target::Memory;
+use file_target::{Memory, Target};
 use memory_table::row::{Ask, Row};
 use source_tools::{Format, View, show};
 use std::alloc::Global;
+use std::io::{self, ErrorKind};
 
 /// The views.
 #[derive(Clone, Copy)]
 pub(crate) enum ViewCall {
     Shown(View),
     Failing,
+    Denied,
 }
 
 /// The paths of the files that are shown.
@@ -25,15 +27,20 @@ fn files(alloc: Global, number: u32) -> anyhow::Result<Failing> {
     Ok(Failing::new(memory, number))
 }
 
-/// Shows the files, and appends the status. The output has its room before.
+/// Shows the files of which the call with this number fails.
 fn shown(alloc: Global, view: View, number: u32) -> anyhow::Result<String> {
     let files = files(alloc, number)?;
+    shown_of(alloc, view, &files)
+}
+
+/// Shows the files, and appends the status. The output has its room before.
+fn shown_of<T: Target>(alloc: Global, view: View, files: &T) -> anyhow::Result<String> {
     let mut sources = Vec::new(alloc);
     for path in PATHS {
         sources.push(source(alloc, path)?)?;
     }
     let mut output = Vec::with_capacity(alloc, 1024)?;
-    let summary = show(alloc, view, &files, sources.as_slice(), &mut output)?;
+    let summary = show(alloc, view, files, sources.as_slice(), &mut output)?;
     match str::from_utf8(output.as_slice()) {
         Ok(text) => Ok(format!(in alloc; "{text}{}\n", summary.status())?),
         Err(_) => bail!("no text"),
@@ -50,11 +57,25 @@ fn failing(alloc: Global) -> anyhow::Result<String> {
     Ok(out)
 }
 
+/// Shows the messages of the files, of which the system does not read one, each in turn.
+fn denied(alloc: Global) -> anyhow::Result<String> {
+    let mut out = String::new(alloc);
+    for path in PATHS {
+        let mut files = files(alloc, 0)?;
+        let error = Some(io::Error::from(ErrorKind::PermissionDenied));
+        files.memory.permit(path, error, None);
+        let text = shown_of(alloc, View::Messages(Format::Text), &files.memory)?;
+        out.push_str(text.as_str())?;
+    }
+    Ok(out)
+}
+
 impl Ask for ViewCall {
     fn answer(self, alloc: Global, _refused: &mut u32) -> anyhow::Result<String> {
         match self {
             ViewCall::Shown(view) => shown(alloc, view, 0),
             ViewCall::Failing => failing(alloc),
+            ViewCall::Denied => denied(alloc),
         }
     }
 }
@@ -97,5 +118,10 @@ pub(crate) const ROWS: &[Row<ViewCall>] = &[
         "source_tools::show over failing files",
         ViewCall::Failing,
         "b.rs:1:2: expected an item\nx\n ^\n2\n2\nb.rs:1:2: expected an item\nx\n ^\n1\n",
+    ),
+    (
+        "source_tools::show over files that the system does not read",
+        ViewCall::Denied,
+        "b.rs:1:2: expected an item\nx\n ^\n2\n2\n",
     ),
 ];

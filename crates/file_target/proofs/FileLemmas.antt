@@ -1,13 +1,14 @@
 -- Lemmas on files by path.
-use Rattle.std.proofs.Common.{◌≡◌, ℕ, zero, suc, ◌+◌, ◌-◌, ◌<◌, ◌≤◌, Bool, true, false, Option, None, Some, List, [], ◌∷◌, ◌++◌, length, get_or, set, string_bytes, refl, ap, sym, ◌∙◌, arith, inl, inr}
+use Rattle.std.proofs.Common.{◌≡◌, ℕ, zero, suc, ◌+◌, ◌-◌, ◌<◌, ◌≤◌, Bool, true, false, Option, None, Some, List, [], ◌∷◌, ◌++◌, length, get_or, set, string_bytes, Result, Ok, Err, refl, ap, sym, ◌∙◌, arith, inl, inr}
 use Rattle.std.specs.Str.{bytes_eq}
 use Rattle.std.proofs.lemmas.Bool.{cases_Bool, true≢false}
 use Rattle.std.proofs.lemmas.Slice.Eq.{bytes_eq-Decides}
 use Rattle.file_target.specs.declared.memory.Entry.{Entry}
 use Rattle.file_target.specs.declared.version.Version.{Version}
 use Rattle.file_target.specs.declared.error.TargetError.{TargetError}
-use Rattle.file_target.specs.declared.error.TargetError.TheVariants.{Changed, NoMemory}
-use Rattle.file_target.specs.Files.{FileState, Files, files_of, state_of, IsPosition, IsWritten, IsWriteError, IsReadError}
+use Rattle.file_target.specs.declared.error.TargetError.TheVariants.{Changed, NoMemory, Io}
+use Rattle.std.specs.declared.io.Error.{Error}
+use Rattle.file_target.specs.Files.{FileState, Files, files_of, state_of, read_unless, read_of, IsPosition, IsWritten, IsWriteError, IsReadError, Permits}
 
 files-here : (e : Entry) (es : List Entry) (path : List ℕ) → bytes_eq (string_bytes e.path) path ≡ true → files_of (e ∷ es) path ≡ Some (state_of e)
 unfolding files_of
@@ -62,27 +63,65 @@ at-position es path i x p e = files-at es path i x p.0 p.1 (p.2 x) ∙ ap (λ y.
 pub path-position : (es : List Entry) (path : List ℕ) (i : ℕ) (x : Entry) → IsPosition es path (Some i) → x ≡ get_or es i x → string_bytes x.path ≡ path
 path-position es path i x p e = ap (λ y. string_bytes y.path) e ∙ p.2 x
 
+-- the entry at an index is one
+pub same-entry : (es : List Entry) (i : ℕ) (x y : Entry) → i < length es → x ≡ get_or es i x → y ≡ get_or es i y → x ≡ y
+same-entry [] i x y l is-x is-y = absurd (omega arith)
+same-entry (e ∷ es) zero x y l is-x is-y = is-x ∙ sym is-y
+same-entry (e ∷ es) (suc i) x y l is-x is-y = same-entry es i x y (omega arith) is-x is-y
+
+-- the file of an entry, by its parts
+state-is : (e : Entry) (bytes : List ℕ) (v : Version) (r w : Option Error) → e.bytes.items ≡ bytes → e.version ≡ v → e.read_error ≡ r → e.write_error ≡ w →
+    state_of e ≡ record { bytes = bytes; version = v; read_error = r; write_error = w }
+state-is e bytes v r w a b c d = rw (a, b, c, d) refl
+
 -- a write to an entry is a write to its file
-pub written-at : (es : List Entry) (path : List ℕ) (v : Version) (bytes : List ℕ) (i : ℕ) (x y new : Entry) → IsPosition es path (Some i) → x ≡ get_or es i x → y ≡ get_or es i y →
-    x.version ≡ v → string_bytes new.path ≡ string_bytes y.path → new.bytes.items ≡ bytes → IsWritten (files_of es) path v bytes (files_of (set es i new))
-written-at es path v bytes i x y new p is-x is-y same kept put =
+pub written-at : (es : List Entry) (path : List ℕ) (v w : Version) (bytes : List ℕ) (i : ℕ) (x y new : Entry) → IsPosition es path (Some i) → x ≡ get_or es i x → y ≡ get_or es i y →
+    x.version ≡ v → x.write_error ≡ None → string_bytes new.path ≡ string_bytes y.path → new.bytes.items ≡ bytes → new.version ≡ w → new.read_error ≡ y.read_error → new.write_error ≡ y.write_error → (w ≡ v → ⊥) →
+    IsWritten (files_of es) path v bytes (files_of (set es i new))
+written-at es path v w bytes i x y new p is-x is-y same can kept put is reads writes later =
+    let back = same-entry es i y x p.0 is-y is-x in
+    let state = state-is new bytes w x.read_error x.write_error put is (reads ∙ ap (λ z. z.read_error) back) (writes ∙ ap (λ z. z.write_error) back) in
     let new-path = kept ∙ path-position es path i y p is-y in
     record {
       old = state_of x;
       was = at-position es path i x p is-x;
       expected = same;
-      new = state_of new;
-      is = files-set es path i new p.0 p.1 new-path;
-      written = put;
+      writable = can;
+      version = w;
+      is = files-set es path i new p.0 p.1 new-path ∙ ap Some state;
+      later = later;
+      others = λ other ne. files-other es path other i x new p.0 (p.2 x) new-path ne;
+    }
+
+-- errors of an entry are those of its file
+pub permitted-at : (es : List Entry) (path : List ℕ) (read write : Option Error) (i : ℕ) (x new : Entry) → IsPosition es path (Some i) → x ≡ get_or es i x →
+    string_bytes new.path ≡ string_bytes x.path → state_of new ≡ record (state_of x) { read_error = read; write_error = write } → Permits (files_of es) path read write (files_of (set es i new))
+permitted-at es path read write i x new p is-x kept put =
+    let new-path = kept ∙ path-position es path i x p is-x in
+    record {
+      file = state_of x;
+      was = at-position es path i x p is-x;
+      is = files-set es path i new p.0 p.1 new-path ∙ ap Some put;
       others = λ other ne. files-other es path other i x new p.0 (p.2 x) new-path ne;
     }
 
 -- why a write fails
 pub write-changed : (es : List Entry) (path : List ℕ) (v : Version) (i : ℕ) (x : Entry) → IsPosition es path (Some i) → x ≡ get_or es i x → (x.version ≡ v → ⊥) → IsWriteError (files_of es path) v Changed
-write-changed es path v i x p is-x ne = rw (at-position es path i x p is-x) (inl (ne, refl))
+write-changed es path v i x p is-x ne = rw (at-position es path i x p is-x) ne
+
+pub write-refused : (es : List Entry) (path : List ℕ) (v : Version) (i : ℕ) (x y : Entry) (e : Error) → IsPosition es path (Some i) → x ≡ get_or es i x → y ≡ get_or es i y → x.version ≡ v → y.write_error ≡ Some e →
+    IsWriteError (files_of es path) v (Io e)
+write-refused es path v i x y e p is-x is-y same is = rw (at-position es path i x p is-x) (same, ap (λ z. z.write_error) (same-entry es i x y p.0 is-x is-y) ∙ is)
 
 pub write-memory : (es : List Entry) (path : List ℕ) (v : Version) (i : ℕ) (x : Entry) (e : TargetError) → IsPosition es path (Some i) → x ≡ get_or es i x → x.version ≡ v → e ≡ NoMemory → IsWriteError (files_of es path) v e
-write-memory es path v i x e p is-x same is = rw (at-position es path i x p is-x) (inr (same, is))
+write-memory es path v i x e p is-x same is = rw (at-position es path i x p is-x, is) same
+
+-- what a read of an entry answers
+pub read-at : (es : List Entry) (path : List ℕ) (i : ℕ) (x : Entry) → IsPosition es path (Some i) → x ≡ get_or es i x → x.read_error ≡ None → read_of (files_of es path) ≡ Ok (x.bytes.items, x.version)
+read-at es path i x p is-x can = ap read_of (at-position es path i x p is-x) ∙ ap (λ (o : Option Error). read_unless o (state_of x)) can
+
+pub read-refused : (es : List Entry) (path : List ℕ) (i : ℕ) (x : Entry) (e : Error) → IsPosition es path (Some i) → x ≡ get_or es i x → x.read_error ≡ Some e → IsReadError (files_of es path) (Io e)
+read-refused es path i x e p is-x is = inl (ap read_of (at-position es path i x p is-x) ∙ ap (λ (o : Option Error). read_unless o (state_of x)) is)
 
 pub read-memory : (es : List Entry) (path : List ℕ) (i : ℕ) (x : Entry) (e : TargetError) → IsPosition es path (Some i) → x ≡ get_or es i x → e ≡ NoMemory → IsReadError (files_of es path) e
-read-memory es path i x e p is-x is = rw (at-position es path i x p is-x) is
+read-memory es path i x e p is-x is = rw (at-position es path i x p is-x) (inr (is, refl))

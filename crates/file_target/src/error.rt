@@ -44,6 +44,11 @@ impl<T: Drop> From<AllocFailed<T>> for TargetError {
 }
 
 impl From<io::Error> for TargetError {
+    ghost use Rattle.file_target.specs.Errors.{target_error_of};
+    ghost use Rattle.std.specs.Prelude.{◌≡◌};
+
+    ghost from_gives = { λ error gives. gives ≡ target_error_of error };
+
     fn from(error: io::Error) -> TargetError {
         match error.kind() {
             ErrorKind::NotFound => TargetError::NotFound,

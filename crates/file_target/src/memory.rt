@@ -1,12 +1,13 @@
 //! Files in memory.
 
-ghost use Rattle.std.specs.Prelude.{◌≡◌, [], Some, MatchResult};
-ghost use Rattle.file_target.specs.Files.{files_of, IsPosition, IsAdded};
+ghost use Rattle.std.specs.Prelude.{◌≡◌, [], Some, None, MatchBool, MatchResult};
+ghost use Rattle.file_target.specs.Files.{files_of, IsPosition, IsAdded, Permits};
 
 use crate::error::TargetError;
 use crate::target::{Contents, Target};
 use crate::version::Version;
 use std::alloc::{AllocError, Global};
+use std::io;
 
 /// A file in memory.
 #[derive(Drop)]
@@ -14,6 +15,10 @@ struct Entry {
     path: String,
     bytes: Vec<u8>,
     version: Version,
+    /// The error of each read.
+    read_error: Option<io::Error>,
+    /// The error of each write of this version.
+    write_error: Option<io::Error>,
 }
 
 /// Files in memory, by path.
@@ -55,8 +60,28 @@ impl Memory {
             path,
             bytes,
             version,
+            read_error: None,
+            write_error: None,
         })?;
         Ok(())
+    }
+
+    /// From now on each read of the file at `path` fails with `read`, and each write with `write`, as far
+    /// as they are errors. Returns `false` if there is no file; then `self` is unchanged.
+    pub fn permit(&mut self, path: &str, read: Option<io::Error>, write: Option<io::Error>) -> bool
+        ensures { MatchBool result
+            (Permits (files_of self.old.entries.items) path.now read write
+            (files_of self.new.entries.items))
+            ((files_of self.old.entries.items path.now ≡ None)
+            × (self.new.entries.items ≡ self.old.entries.items)) }
+    {
+        let Some(i) = position(self.entries.as_slice(), path) else {
+            return false;
+        };
+        let entry = &mut self.entries[i];
+        entry.read_error = read;
+        entry.write_error = write;
+        true
     }
 }
 
@@ -80,6 +105,9 @@ impl Target for Memory {
             return Err(TargetError::NotFound);
         };
         let entry = &self.entries[i];
+        if let Some(error) = entry.read_error {
+            return Err(TargetError::Io(error));
+        }
         let bytes = Vec::from_slice(alloc, entry.bytes.as_slice())?;
         Ok(Contents {
             bytes,
@@ -97,14 +125,18 @@ impl Target for Memory {
         let Some(i) = position(self.entries.as_slice(), path) else {
             return Err(TargetError::NotFound);
         };
-        let present = self.entries[i].version;
+        let entry = &self.entries[i];
+        let present = entry.version;
         if !present.is(version) {
             return Err(TargetError::Changed);
         }
+        if let Some(error) = entry.write_error {
+            return Err(TargetError::Io(error));
+        }
         let bytes = Vec::from_slice(alloc, bytes)?;
+        let len = bytes.len() as u64;
         let entry = &mut self.entries[i];
-        entry.version.len = bytes.len() as u64;
-        entry.version.nanoseconds = present.nanoseconds.wrapping_add(1);
+        entry.version = present.later(len);
         entry.bytes = bytes;
         Ok(())
     }

@@ -1,6 +1,6 @@
 //! Versions of a file.
 
-ghost use Rattle.std.specs.Prelude.{◌≡◌, ◌↔◌, IsTrue};
+ghost use Rattle.std.specs.Prelude.{◌≡◌, ◌≢◌, ◌↔◌, IsTrue};
 
 use std::fs::Metadata;
 use std::os::unix::fs::MetadataExt;
@@ -34,6 +34,17 @@ impl Version {
         ensures { IsTrue result ↔ self ≡ other }
     {
         self == other
+    }
+
+    /// Returns another version, of a file with `len` bytes.
+    pub(crate) fn later(self, len: u64) -> Version
+        ensures { result ≢ self }
+    {
+        Version {
+            len,
+            nanoseconds: self.nanoseconds.wrapping_add(1),
+            ..self
+        }
     }
 
     /// Returns the version of a file with this metadata.

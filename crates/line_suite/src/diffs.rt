@@ -58,6 +58,27 @@ fn diffs_are_as_worked_by_hand(rt: HostRuntime) -> Result<(), Fail> {
     Ok(())
 }
 
+/// Paths, and the first line of their diffs.
+const NAMES: [(&str, &str); 5] = [
+    ("a/b.rs", "--- a/a/b.rs\t\n"),
+    ("caf\u{e9}.rs", "--- a/caf\u{e9}.rs\t\n"),
+    ("a\nb.rs", "--- \"a/a\\012b.rs\"\t\n"),
+    ("q\".rs", "--- \"a/q\\\".rs\"\t\n"),
+    ("b\\\u{7f}.rs", "--- \"a/b\\\\\\177.rs\"\t\n"),
+];
+
+#[test]
+fn names_are_quoted_as_git_does(rt: HostRuntime) -> Result<(), Fail> {
+    for (path, line) in NAMES {
+        let text = match unified_diff(rt.alloc(), path, b"a\n", b"b\n") {
+            Ok(text) => text,
+            Err(AllocError) => unified_diff(rt.alloc(), path, b"a\n", b"b\n")?,
+        };
+        assert!(rt; text.as_slice().starts_with(line.as_bytes()), "{path:?}");
+    }
+    Ok(())
+}
+
 #[test]
 fn changes_are_by_line(rt: HostRuntime) -> Result<(), Fail> {
     let changes = match line_changes(rt.alloc(), b"a\nb\nc\n", b"a\nx\ny\nc\n") {

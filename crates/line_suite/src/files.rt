@@ -3,6 +3,7 @@
 use file_target::{Disk, Memory, Target, TargetError};
 use std::alloc::Global;
 use std::fs;
+use std::io::{self, ErrorKind};
 use std::test::Fail;
 
 /// Replaces `old` with `new` in the file at `path`, if it has that text.
@@ -102,5 +103,41 @@ fn a_failed_write_changes_nothing(rt: HostRuntime) -> Result<(), Fail> {
         answer => answer,
     };
     assert!(rt; written.is_ok());
+    Ok(())
+}
+
+/// Returns `true` if a read or write failed with the system's error.
+fn is_denied<T>(made: &Result<T, TargetError>) -> bool {
+    match made {
+        Err(TargetError::Io(error)) => error.kind() == ErrorKind::PermissionDenied,
+        _ => false,
+    }
+}
+
+/// A file that the system does not read, or does not write, in memory.
+fn denied(alloc: Global) -> Result<bool, TargetError> {
+    let error = Some(io::Error::from(ErrorKind::PermissionDenied));
+    let mut memory = Memory::new(alloc);
+    memory.add(alloc, "a.rs", b"old")?;
+    memory.add(alloc, "b.rs", b"other")?;
+    let version = memory.read(alloc, "a.rs")?.version;
+    let is_missing = !memory.permit("c.rs", error, error);
+    let is_there = memory.permit("a.rs", error, None);
+    let is_unread = is_denied(&memory.read(alloc, "a.rs"));
+    let is_again = memory.permit("a.rs", None, error);
+    let is_unwritten = is_denied(&memory.write(alloc, "a.rs", version, b"new"));
+    let a = memory.read(alloc, "a.rs")?.bytes;
+    let b = memory.read(alloc, "b.rs")?.bytes;
+    let are_kept = (a.as_slice() == b"old".as_slice()) & (b.as_slice() == b"other".as_slice());
+    Ok(is_missing & is_there & is_unread & is_again & is_unwritten & are_kept)
+}
+
+#[test]
+fn memory_may_deny_a_file(rt: HostRuntime) -> Result<(), Fail> {
+    let is_right = match denied(rt.alloc()) {
+        Err(TargetError::NoMemory) => denied(rt.alloc())?,
+        answer => answer?,
+    };
+    assert!(rt; is_right);
     Ok(())
 }

@@ -8,4 +8,6 @@ mod diffs;
 #[cfg(test)]
 mod files;
 #[cfg(test)]
+mod folders;
+#[cfg(test)]
 mod lines;

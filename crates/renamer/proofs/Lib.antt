@@ -4,4 +4,5 @@ pub mod RawKinds
 pub mod NewLeaves
 pub mod SingleNames
 pub mod PlainRenames
+pub mod Verdicts
 pub mod Undone

@@ -27,6 +27,7 @@ use Rattle.rust_document.specs.declared.error.PayloadError.{PayloadError}
 use Rattle.rust_document.specs.declared.error.PayloadError.TheVariants as payloads
 use Rattle.renamer.specs.Plain.{IsPlain, LacksRoom}
 use Rattle.renamer.specs.Renamed.{identifier, renamed_text}
+use Rattle.renamer.specs.Verdict.{RefusesRename}
 use Rattle.rust_document.specs.Commit.{RefusesCommit}
 use Rattle.rust_document.specs.Step as step
 use Rattle.rust_document.specs.declared.error.CommitError.{CommitError}
@@ -158,6 +159,12 @@ record-refused r cs number new records.Foreign is h = absurd (let z : Recorded c
 record-refused r cs number new records.BadRange is h = absurd (let z : Recorded cs ≡ recording.BadRange = sym is ∙ h in cc)
 record-refused r cs number new records.BadTarget is h = absurd (let z : Recorded cs ≡ recording.BadTarget = sym is ∙ h in cc)
 record-refused r cs number new records.NoMemory is h = tt
+
+pub record-memory : (d : State) (old new : List ℕ) (r : Recording) (cs : List Change) (number : ℕ) (e : RecordError) → r ≡ Recorded cs → RefusesRecord r e → RefusesRename d old new number (NotRecorded e)
+record-memory d old new r cs number records.Foreign is h = absurd (let z : Recorded cs ≡ recording.Foreign = sym is ∙ h in cc)
+record-memory d old new r cs number records.BadRange is h = absurd (let z : Recorded cs ≡ recording.BadRange = sym is ∙ h in cc)
+record-memory d old new r cs number records.BadTarget is h = absurd (let z : Recorded cs ≡ recording.BadTarget = sym is ∙ h in cc)
+record-memory d old new r cs number records.NoMemory is h = tt
 
 -- an accepted commit is refused only if out of memory, or if no number is left after the new name's
 pub commit-refused : (number next : ℕ) (new : List ℕ) (e : CommitError) → next ≡ number + 1 → RefusesCommit step.Accepted next e → LacksRoom number new (Refused e)

@@ -1,8 +1,8 @@
 -- The walk through a tree enters each of its leaves, so the new text has all of them renamed.
-use Rattle.std.proofs.Common.{◌≡◌, ℕ, zero, suc, ◌+◌, List, [], ◌∷◌, ◌++◌, drop, map, Bool, true, false, not, ◌&&◌, nat_eq, Option, Some, slice_get, refl, ap, sym, ◌∙◌, arith, subst, inl, inr, if◌then◌else◌}
+use Rattle.std.proofs.Common.{◌≡◌, ℕ, zero, suc, ◌+◌, List, [], ◌∷◌, ◌++◌, drop, map, Bool, true, false, not, ◌&&◌, nat_eq, Option, Some, is_some, slice_get, refl, ap, sym, ◌∙◌, arith, subst, inl, inr, if◌then◌else◌}
 use Rattle.std.proofs.lemmas.Bool.{cases_Bool, eq-eqb, false≢true}
 use Rattle.rowan_green.specs.Leaf.{Leaf, same_leaf}
-use Rattle.rowan_green.specs.Forest.{Forest, empty, node, leaf, Tree, forest_text, tree_text}
+use Rattle.rowan_green.specs.Forest.{Forest, empty, node, leaf, Tree, forest_text, tree_text, tree_count}
 use Rattle.rowan_green.specs.Term.{Term, terms, forest_of, terms-forest_of, forest_of-terms}
 use Rattle.rowan_green.specs.declared.utility_types.NodeOrToken.TheVariants.{Node, Token}
 use Rattle.rowan.specs.Place.{Place, term_by, term_at, children_in, kind_in, text_in, kind_at, text_at}
@@ -17,15 +17,16 @@ use Rattle.syntax_tree.specs.declared.element.SyntaxElement.TheVariants as handl
 use Rattle.tree_rewrite.specs.Change.{Change, has_collision}
 use Rattle.tree_rewrite.specs.Marked.{forest_in}
 use Rattle.tree_rewrite.specs.Moved.{same_kind}
-use Rattle.tree_rewrite.specs.Rewrite.{rewrite}
+use Rattle.tree_rewrite.specs.Rewrite.{jobs, rewrite}
 use Rattle.plain_names.specs.Replacements.{with_leaves}
-use Rattle.plain_changes.specs.LeafChanges.{change_of, replacement_of}
+use Rattle.plain_changes.specs.LeafChanges.{LeafChange, change_of, replacement_of, whole}
+use Rattle.plain_changes.proofs.Fits.{keeps-counts}
 use Rattle.plain_changes.proofs.Orders.{leaves-replaced}
 use Rattle.syntax_editor.specs.Editing.{Editing, untouched, with_changes}
 use Rattle.syntax_editor.specs.Recording.{BadTarget, Foreign, Recorded, is_one_node, is_root, is_target, replacing, with_single}
 use Rattle.rust_document.specs.Reading.{root_of}
 use Rattle.rust_document.specs.Rewrite.{rewritten}
-use Rattle.renamer.specs.Renamed.{identifier, is_named, renamed_leaves, renamed_text}
+use Rattle.renamer.specs.Renamed.{identifier, is_named, renamed_forest, renamed_leaves, renamed_text, renamed_tree}
 use Rattle.renamer.proofs.Changes.{changes_after, ways_after, changes-are, no-collision, with_way, has_way, Covered, covered, AreNamed, named-with, named-at, leaf_change, changes-of, all-replace, leaf-after}
 use Rattle.rowan_green.specs.Same.{same_leaf-Decides}
 
@@ -174,25 +175,25 @@ module _ (old : List ℕ) (n : ℕ) (ws : List Way) where
   each-back (Enter (Token p) ∷ v) w h = each-back v w h.1
   each-back (Leave c ∷ v) w h = each-back v w h
 
-  -- the text of a leaf afterwards
-  new-text : (t : Tree) (new l : Leaf) (u : Way) → AreNamed old t ws → term_by t u ≡ Some (Token l)
+  -- a leaf afterwards
+  new-leaf : (t : Tree) (new l : Leaf) (u : Way) → AreNamed old t ws → term_by t u ≡ Some (Token l)
       → (is_named old (handles.Token (with_number n (at t u))) ≡ true → has_way ws u ≡ true)
-      → (if has_way ws u then new else l).text ≡ (if same_leaf l (identifier old) then new.text else l.text)
-  new-text t new l u a here each = elim (cases_Bool (has_way ws u)) [
+      → (if has_way ws u then new else l) ≡ (if same_leaf l (identifier old) then new else l)
+  new-leaf t new l u a here each = elim (cases_Bool (has_way ws u)) [
     | inl y ↦
         let one : Some (Token l) ≡ Some (Token (identifier old)) = sym here ∙ named-at old t ws u a y in
         let same : l ≡ identifier old = cc in
-        ap (λ (b : Bool). (if b then new else l).text) y
-        ∙ sym (ap (λ (b : Bool). if b then new.text else l.text) (ap (λ (m : Leaf). same_leaf m (identifier old)) same ∙ (same_leaf-Decides (identifier old) (identifier old)).1 refl))
-    | inr y ↦ ap (λ (b : Bool). (if b then new else l).text) y ∙ elim (cases_Bool (same_leaf l (identifier old))) [
+        ap (λ (b : Bool). if b then new else l) y
+        ∙ sym (ap (λ (b : Bool). if b then new else l) (ap (λ (m : Leaf). same_leaf m (identifier old)) same ∙ (same_leaf-Decides (identifier old) (identifier old)).1 refl))
+    | inr y ↦ ap (λ (b : Bool). if b then new else l) y ∙ elim (cases_Bool (same_leaf l (identifier old))) [
       | inl z ↦ absurd (false≢true (sym y ∙ each (leaf-is old (at t u) l here ∙ z)))
-      | inr z ↦ sym (ap (λ (b : Bool). if b then new.text else l.text) z)
+      | inr z ↦ sym (ap (λ (b : Bool). if b then new else l) z)
     ]
   ]
 
   renamed : (t : Tree) (new : Leaf) (e : Element) (w : Way) (i : ℕ) (f : Forest) → AreNamed old t ws
       → drop i (children_in (term_by t w)) ≡ terms f → HasEach (walk_forest (at t w) i f)
-      → forest_text (with_leaves (map replacement_of (map (leaf_change old new e) ws)) w i f) ≡ renamed_leaves old new.text f
+      → with_leaves (map replacement_of (map (leaf_change old new e) ws)) w i f ≡ renamed_forest old new f
   renamed t new e w i empty a h c = refl
   renamed t new e w i (node k f r) a h c =
       let found = there (children_in (term_by t w)) i (Node (record { kind = k; forest = f })) (terms r) h in
@@ -200,41 +201,85 @@ module _ (old : List ℕ) (n : ℕ) (ws : List Way) where
       let x = Leave (Node (at t (i ∷ w))) ∷ walk_forest (at t w) (i + 1) r in
       let low = renamed t new e (i ∷ w) 0 f a (ap children_in found.0) (each-front v x c) in
       let rest = renamed t new e w (i + 1) r a found.1 (each-back v x c) in
-      λ j. low j ++ rest j
+      λ j. node k (low j) (rest j)
   renamed t new e w i (leaf l r) a h c =
       let found = there (children_in (term_by t w)) i (Token l) (terms r) h in
-      let own = ap (λ (m : Leaf). m.text) (leaf-after old new e ws (i ∷ w) l) ∙ new-text t new l (i ∷ w) a found.0 c.0 in
+      let own = leaf-after old new e ws (i ∷ w) l ∙ new-leaf t new l (i ∷ w) a found.0 c.0 in
       let rest = renamed t new e w (i + 1) r a found.1 c.1 in
-      λ j. own j ++ rest j
+      λ j. leaf (own j) (rest j)
 
 -- ---- the whole tree
 
--- the new text, if all elements of a tree were taken in turn
-pub renamed-tree : (old : List ℕ) (n : ℕ) (t : Tree) (new : Leaf) (e : Element) (ms : Mapping) → term_of e ≡ Some (Token new)
-    → let top = element_at n t [] in
-    tree_text (root_of (forest_in (rewrite top (changes_after old e [] (elements top)) ms))) ≡ renamed_text old new.text t
-renamed-tree old n t new e ms is =
+-- the changes, if all elements of a tree were taken in turn
+abbrev pub all_changes : List ℕ → Leaf → Element → Element → List LeafChange
+all_changes old new e top = map (leaf_change old new e) (ways_after old [] (elements top))
+
+pub changes-all : (old : List ℕ) (new : Leaf) (e : Element) (top : Element) → changes_after old e [] (elements top) ≡ map change_of (all_changes old new e top)
+changes-all old new e top = changes-are old e [] (elements top) ∙ sym (changes-of old new e (ways_after old [] (elements top)))
+
+pub changes-apart : (old : List ℕ) (new : Leaf) (e : Element) (top : Element) → has_collision (map change_of (all_changes old new e top)) ≡ false
+changes-apart old new e top = ap has_collision (changes-of old new e (ways_after old [] (elements top))) ∙ no-collision old e (elements top)
+
+-- What they make of the tree: each has its place, and the new tree is the renamed one.
+pub record Rewritten (old : List ℕ) (new : Leaf) (cs : List Change) (top : Element) (ms : Mapping) : Type 0 where
+  pub placed : is_some (jobs top cs ms) ≡ true
+  pub is : forest_in (rewrite top cs ms) ≡ whole (renamed_tree old new top.place.root)
+  pub count : tree_count (renamed_tree old new top.place.root) ≡ tree_count top.place.root
+
+pub rewritten-tree : (old : List ℕ) (n : ℕ) (t : Tree) (new : Leaf) (e : Element) (ms : Mapping) → term_of e ≡ Some (Token new)
+    → Rewritten old new (changes_after old e [] (elements (element_at n t []))) (element_at n t []) ms
+rewritten-tree old n t new e ms is =
     let top = element_at n t [] in
     let ws = ways_after old [] (elements top) in
-    let gs = map (leaf_change old new e) ws in
+    let gs = all_changes old new e top in
     let f = forest_of (terms t.forest) in
     let v = walk_forest (at t []) 0 f ++ Leave (Node (at t [])) ∷ [] in
     let named : AreNamed old t ws = named-tree old n t in
     let each : HasEach old n ws (walk_forest (at t []) 0 f) =
     each-front old n ws (walk_forest (at t []) 0 f) (Leave (Node (at t [])) ∷ []) (has-each old n ws (Enter (Node (at t [])) ∷ v) (covered old [] (elements top))) in
-    let are : changes_after old e [] (elements top) ≡ map change_of gs = changes-are old e [] (elements top) ∙ sym (changes-of old new e ws) in
-    let apart : has_collision (map change_of gs) ≡ false = ap has_collision (changes-of old new e ws) ∙ no-collision old e (elements top) in
-    let made = leaves-replaced top gs ms refl (all-replace old new e t ws named is) apart in
-    ap (λ (cs : List Change). tree_text (root_of (forest_in (rewrite top cs ms)))) are
-    ∙ ap (λ (g : Forest). tree_text (root_of g)) made.1
-    ∙ renamed old n ws t new e [] 0 t.forest named refl (subst (λ (g : Forest). HasEach old n ws (walk_forest (at t []) 0 g)) (forest_of-terms t.forest) each)
+    let are = changes-all old new e top in
+    let made = leaves-replaced top gs ms refl (all-replace old new e t ws named is) (changes-apart old new e top) in
+    let all = renamed old n ws t new e [] 0 t.forest named refl (subst (λ (g : Forest). HasEach old n ws (walk_forest (at t []) 0 g)) (forest_of-terms t.forest) each) in
+    record {
+      placed = ap (λ (cs : List Change). is_some (jobs top cs ms)) are ∙ made.0;
+      is = ap (λ (cs : List Change). forest_in (rewrite top cs ms)) are ∙ made.1 ∙ ap (λ (g : Forest). whole (record { kind = t.kind; forest = g })) all;
+      count = ap (λ (g : Forest). tree_count (record { kind = t.kind; forest = g })) (sym all) ∙ keeps-counts gs t;
+    }
 
--- the new text of an editor that took all elements of its tree
-pub renamed-editor :
-    (old : List ℕ) (n : ℕ) (t : Tree) (new : Leaf) (e : Element) (editor : Editing) (left : List SyntaxElement) → term_of e ≡ Some (Token new) → left ≡ []
-    → editor ≡ with_changes (untouched (element_at n t [])) editor.changes → changes_after old e editor.changes left ≡ changes_after old e [] (elements (element_at n t []))
-    → tree_text (rewritten editor) ≡ renamed_text old new.text t
-renamed-editor old n t new e editor left is none own rest =
-    let top = element_at n t [] in
-    let cs : editor.changes ≡ changes_after old e [] (elements top) = sym (ap (λ (xs : List SyntaxElement). changes_after old e editor.changes xs) none) ∙ rest in
-    ap (λ (x : Editing). tree_text (rewritten x)) (own ∙ ap (λ (xs : List Change). with_changes (untouched top) xs) cs) ∙ renamed-tree old n t new e [] is
+-- ---- the new text
+
+forest-renamed : (old : List ℕ) (new : Leaf) (f : Forest) → forest_text (renamed_forest old new f) ≡ renamed_leaves old new.text f
+forest-renamed old new empty = refl
+forest-renamed old new (node k f r) =
+    let low = forest-renamed old new f in
+    let rest = forest-renamed old new r in
+    λ j. low j ++ rest j
+forest-renamed old new (leaf l r) =
+    ap (λ (xs : List ℕ). (if same_leaf l (identifier old) then new else l).text ++ xs) (forest-renamed old new r)
+    ∙ ap (λ (xs : List ℕ). xs ++ renamed_leaves old new.text r) (by_test (same_leaf l (identifier old)))
+  where
+    by_test : (b : Bool) → (if b then new else l).text ≡ (if b then new.text else l.text)
+    by_test true = refl
+    by_test false = refl
+
+pub text-renamed : (old : List ℕ) (new : Leaf) (t : Tree) → tree_text (renamed_tree old new t) ≡ renamed_text old new.text t
+text-renamed old new t = forest-renamed old new t.forest
+
+pub renamed-tree : (old : List ℕ) (n : ℕ) (t : Tree) (new : Leaf) (e : Element) (ms : Mapping) → term_of e ≡ Some (Token new)
+    → let top = element_at n t [] in
+    tree_text (root_of (forest_in (rewrite top (changes_after old e [] (elements top)) ms))) ≡ renamed_text old new.text t
+renamed-tree old n t new e ms is = ap (λ (g : Forest). tree_text (root_of g)) (rewritten-tree old n t new e ms is).is ∙ text-renamed old new t
+
+-- ---- an editor that took all elements of its tree
+
+module _ (old : List ℕ) (n : ℕ) (t : Tree) (new : Leaf) (e : Element) (editor : Editing) (left : List SyntaxElement) (is : term_of e ≡ Some (Token new)) (none : left ≡ []) (own : editor ≡ with_changes (untouched (element_at n t [])) editor.changes)
+    (rest : changes_after old e editor.changes left ≡ changes_after old e [] (elements (element_at n t []))) where
+  editor-changes : editor.changes ≡ changes_after old e [] (elements (element_at n t []))
+  editor-changes = sym (ap (λ (xs : List SyntaxElement). changes_after old e editor.changes xs) none) ∙ rest
+
+  pub editor-is : editor ≡ with_changes (untouched (element_at n t [])) (changes_after old e [] (elements (element_at n t [])))
+  editor-is = own ∙ ap (λ (xs : List Change). with_changes (untouched (element_at n t [])) xs) editor-changes
+
+  -- the new text
+  pub renamed-editor : tree_text (rewritten editor) ≡ renamed_text old new.text t
+  renamed-editor = ap (λ (x : Editing). tree_text (rewritten x)) editor-is ∙ renamed-tree old n t new e [] is

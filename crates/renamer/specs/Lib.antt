@@ -1,3 +1,4 @@
 pub mod Renamed
 pub mod Plain
+pub mod Verdict
 pub mod Undone

@@ -27,3 +27,13 @@ renamed_leaves old new (leaf l r) =
 -- the text of a tree with the identifiers `old` renamed to `new`
 abbrev pub renamed_text : (old new : List ℕ) → Tree → List ℕ
 renamed_text old new t = renamed_leaves old new t.forest
+
+-- the elements with the leaf `new` for each identifier `old`
+abbrev pub renamed_forest : List ℕ → Leaf → Forest → Forest
+renamed_forest old new empty = empty
+renamed_forest old new (node k f r) = node k (renamed_forest old new f) (renamed_forest old new r)
+renamed_forest old new (leaf l r) = leaf (if same_leaf l (identifier old) then new else l) (renamed_forest old new r)
+
+-- the tree with the leaf `new` for each identifier `old`
+abbrev pub renamed_tree : List ℕ → Leaf → Tree → Tree
+renamed_tree old new t = record { kind = t.kind; forest = renamed_forest old new t.forest }

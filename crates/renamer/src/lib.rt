@@ -5,6 +5,7 @@ ghost use Rattle.std.specs.Prelude.{◌≡◌, ◌≤◌, ◌+◌, length, IfErr
 ghost use Rattle.rust_document.specs.Step.{MAX_TEXT, present};
 ghost use Rattle.renamer.specs.Plain.{IsPlain, LacksRoom};
 ghost use Rattle.renamer.specs.Renamed.{is_named, renamed_text};
+ghost use Rattle.renamer.specs.Verdict.{IsRenamed, RefusesRename, number_after};
 
 pub mod laws;
 
@@ -86,10 +87,19 @@ fn is_named(element: &SyntaxElement, name: &str) -> bool
 }
 
 /// Renames the identifiers `old` to `new`, all at once, in macro calls too. Nothing else in the text
-/// changes. On error, `document` is unchanged.
+/// changes, and the new text reads as the renamed tree.
 ///
 /// If both names are plain and no identifier `old` is the prefix of a literal, only memory, tree
 /// numbers and the length of the new text can refuse it.
+///
+/// # Errors
+///
+/// - [`RenameError::NoToken`] if `new` is not one token, or no tree number is left for it.
+/// - [`RenameError::Refused`] if the new text is too long or does not read as the renamed tree, or no
+///   tree number is left for it.
+/// - [`RenameError::NoMemory`], or a variant with such an error, if an allocation fails.
+///
+/// On error, `document` is unchanged, and one tree number is used up, or none if `new` is refused.
 pub fn rename(
     alloc: Global,
     document: &mut Document,
@@ -99,16 +109,20 @@ pub fn rename(
 ) -> Result<(), RenameError>
     ensures text { OnOk result (document.new.text
         ≡ renamed_text old.now new.now (present document.old)) }
+    ensures renamed { OnOk result (IsRenamed document.old old.now new.now) }
     ensures edition { OnOk result (document.new.edition ≡ document.old.edition) }
     ensures grammar { OnOk result (document.new.grammar ≡ document.old.grammar) }
     ensures tree { OnOk result (document.new.number ≡ ids.old + 1) }
     ensures number { OnOk result (ids.new ≡ ids.old + 2) }
+    ensures refused { IfErr result (RefusesRename document.old old.now new.now ids.old) }
     ensures numbers { IfErr result (λ _. (ids.old ≤ ids.new) × (ids.new ≤ ids.old + 1)) }
+    ensures spent { IfErr result (λ error. ids.new ≡ number_after error ids.old) }
     ensures plain { IfErr result (λ error. IsPlain document.old old.now new.now
         → length (renamed_text old.now new.now (present document.old)) ≤ MAX_TEXT
         → LacksRoom ids.old new.now error) }
     ensures kept { IfErr result (λ _. document.new ≡ document.old) }
 {
+    let _ = document.text();
     let token = payload(alloc, PayloadEntry::Token, document.edition(), new, ids)?;
     let mut editor = document.editor(alloc)?;
     for element in document.root().descendants_with_tokens(alloc)? {

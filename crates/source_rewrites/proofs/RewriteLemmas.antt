@@ -1,10 +1,14 @@
 -- Rewrites of files: out of memory comes at any point.
-use Rattle.std.proofs.Common.{◌≡◌, ℕ, Option, Some, None, List, refl, sym, subst, inr}
-use Rattle.file_target.specs.Files.{Files, FileState}
+use Rattle.std.proofs.Common.{◌≡◌, ℕ, Option, Some, None, Result, Ok, Err, List, refl, ap, inl, inr}
+use Rattle.std.specs.declared.io.Error.{Error}
+use Rattle.file_target.specs.declared.error.TargetError.{TargetError}
+use Rattle.file_target.specs.declared.error.TargetError.TheVariants as targets
+use Rattle.file_target.specs.declared.version.Version.{Version}
 use Rattle.source_tools.specs.Decoded.{decoded}
+use Rattle.source_tools.specs.FileErrors.{file_error_of}
 use Rattle.source_tools.specs.declared.source.FileError.TheVariants as errors
 use Rattle.document_requests.specs.declared.rule.CommitRule.{CommitRule}
-use Rattle.source_rewrites.specs.Rewrites.{RefusesIfAny, RefusesState, RefusesFile, path_of}
+use Rattle.source_rewrites.specs.Rewrites.{IsRewritableRead, RefusesIfAny, RefusesRead}
 use Rattle.source_rewrites.specs.declared.rewrite.Rewrite.{Rewrite}
 use Rattle.source_rewrites.specs.declared.rewrite.RewriteFault.TheVariants.{File}
 
@@ -12,6 +16,21 @@ memory-text : (n : CommitRule) (s : Rewrite) (o : Option (List ℕ)) → Refuses
 memory-text n s None = inr refl
 memory-text n s (Some text) = tt
 
--- a file that is there may be refused if memory is exhausted
-pub memory-file : (n : CommitRule) (s : Rewrite) (files : Files) (f : FileState) → files (path_of s) ≡ Some f → RefusesFile n files s (File errors.NoMemory)
-memory-file n s files f is = subst (λ (o : Option FileState). RefusesState n s o (File errors.NoMemory)) (sym is) (memory-text n s (decoded f.bytes))
+-- a file that is read may be refused if memory is exhausted
+pub memory-read : (n : CommitRule) (s : Rewrite) (e : TargetError) → e ≡ targets.NoMemory → (read : List ℕ × Version) → RefusesRead n s (Ok read) (File (file_error_of e))
+memory-read n s e m read = rw m (memory-text n s (decoded read.0))
+
+pub memory-error : (n : CommitRule) (s : Rewrite) (e : TargetError) → e ≡ targets.NoMemory → (x : Error) → RefusesRead n s (Err (targets.Io x)) (File (file_error_of e))
+memory-error n s e m x = inr (ap (λ (d : TargetError). File (file_error_of d)) m)
+
+-- a file that can be rewritten, too
+pub memory-can : (n : CommitRule) (s : Rewrite) (a : Result (List ℕ × Version) TargetError) → IsRewritableRead n s a → RefusesRead n s a (File errors.NoMemory)
+memory-can n s (Ok read) can = memory-text n s (decoded read.0)
+memory-can n s (Err e) can = absurd can
+
+-- the error of a read
+pub own-error : (n : CommitRule) (s : Rewrite) (e : TargetError) → RefusesRead n s (Err e) (File (file_error_of e))
+own-error n s targets.NotFound = refl
+own-error n s targets.Changed = inl refl
+own-error n s targets.NoMemory = inl refl
+own-error n s (targets.Io x) = inl refl

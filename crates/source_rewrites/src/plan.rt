@@ -1,14 +1,14 @@
 //! Rewrites of files are planned.
 
-ghost use Rattle.std.specs.Prelude.{◌≡◌, ◌++◌, IfErr, IfSome, OnOk};
+ghost use Rattle.std.specs.Prelude.{◌≡◌, ◌++◌, IfErr, IfSome, Ok, OnOk};
 ghost use Rattle.std.specs.Option.{option_to_list};
 ghost use Rattle.source_tools.specs.declared.source.FileError.TheVariants.{NoMemory};
 ghost use Rattle.source_rewrites.specs.declared.rewrite.RewriteFault.TheVariants.{File};
-ghost use Rattle.source_rewrites.specs.Rewrites.{IsPlan, IsRewrittenBytes, IsRewrittenFile};
+ghost use Rattle.source_rewrites.specs.Rewrites.{IsPlan, IsRewrittenFile, IsRewrittenRead};
 
 use crate::rewrite::{Rewrite, RewriteFault, rewrite_bytes};
 use document_requests::CommitRule;
-use file_target::{Contents, Target, TargetError};
+use file_target::{Contents, Target};
 use source_tools::{FileChange, FileError};
 use std::alloc::Global;
 
@@ -28,7 +28,8 @@ fn change_of(
     rewrite: &Rewrite<'_>,
     contents: Contents,
 ) -> Result<Option<FileChange>, RewriteFault>
-    ensures { IsRewrittenBytes rule rewrite.now contents.bytes.items result }
+    ensures { IsRewrittenRead rule rewrite.now (Ok (contents.bytes.items, contents.version))
+        result }
 {
     let Contents {
         bytes: old,
@@ -64,10 +65,7 @@ fn rewrite_file<T: Target>(
 {
     match target.read(alloc, rewrite.source.path.as_str()) {
         Ok(contents) => change_of(alloc, rule, rewrite, contents),
-        Err(TargetError::NotFound) => Err(RewriteFault::File(FileError::NotFound)),
-        Err(TargetError::Changed) => Err(RewriteFault::File(FileError::Changed)),
-        Err(TargetError::NoMemory) => Err(RewriteFault::File(FileError::NoMemory)),
-        Err(TargetError::Io(error)) => Err(RewriteFault::File(FileError::Io(error))),
+        Err(error) => Err(RewriteFault::File(FileError::from(error))),
     }
 }
 
@@ -92,7 +90,7 @@ fn push_change(
 ///
 /// # Errors
 ///
-/// The first file that cannot be rewritten.
+/// The first file that the target does not read, or that cannot be rewritten.
 pub fn plan_rewrites<T: Target>(
     alloc: Global,
     rule: CommitRule,

@@ -1,7 +1,7 @@
 //! Files are rewritten and written.
 
-ghost use Rattle.std.specs.Prelude.{IfErr, OnOk};
-ghost use Rattle.source_rewrites.specs.Rewrites.{Rewrites, StopsRewrite};
+ghost use Rattle.std.specs.Prelude.{IfErr, IfOk};
+ghost use Rattle.source_rewrites.specs.Rewrites.{RefusesRewrite, Rewrites, StopsRewrite};
 
 use crate::plan::{RewriteFailure, plan_rewrites};
 use crate::rewrite::Rewrite;
@@ -24,18 +24,20 @@ pub enum RewriteStop {
 ///
 /// # Errors
 ///
-/// - [`RewriteStop::RefusedFile`] if a file cannot be rewritten; then no file is written.
-/// - [`RewriteStop::Unwritten`] if a file cannot be written; those before it, if there are any, are written.
+/// - [`RewriteStop::RefusedFile`] for the first file that cannot be rewritten; then no file is written.
+/// - [`RewriteStop::Unwritten`] for the first file that cannot be written; those before it, if there are
+///   any, are written.
 pub fn rewrite_files<T: Target>(
     alloc: Global,
     rule: CommitRule,
     target: &mut T,
     rewrites: &[Rewrite<'_>],
 ) -> Result<usize, RewriteStop>
-    ensures rewritten { OnOk result
+    ensures rewritten { IfOk result
         (Rewrites rule rewrites.now (T.files target.old) (T.files target.new)) }
     ensures stopped { IfErr result
         (StopsRewrite rule rewrites.now T.files target.old target.new) }
+    ensures refused { IfErr result (RefusesRewrite rule rewrites.now (T.files target.old)) }
 {
     let mut changes = match plan_rewrites(alloc, rule, &*target, rewrites) {
         Ok(changes) => changes,

@@ -7,3 +7,4 @@ pub mod PlanLemmas
 pub mod RenameLemmas
 pub mod DiffLemmas
 pub mod WordLemmas
+pub mod ReadLemmas

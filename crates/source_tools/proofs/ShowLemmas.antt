@@ -14,7 +14,7 @@ use Rattle.source_tools.specs.declared.source.FileError.TheVariants.{NotFound, C
 use Rattle.source_tools.specs.declared.source.FileFault.{FileFault}
 use Rattle.source_tools.specs.declared.view.View.{View}
 use Rattle.source_tools.specs.declared.view.FileView.{FileView}
-use Rattle.source_tools.specs.Outcomes.{Outcome, Viewed, Missing, NotText, Long, Unknown, IsOutcome, outcome_in, rows_in, rows_of_all, failed, says_something, is_fault, faults_from, fault_in}
+use Rattle.source_tools.specs.Outcomes.{Outcome, Viewed, Missing, NotText, Long, Unreadable, Unknown, IsOutcome, outcome_in, rows_in, rows_of_all, failed, says_something, is_fault, faults_from, fault_in}
 
 -- ---- whether there are messages
 
@@ -45,6 +45,7 @@ faults-cons i (Viewed r h) os = refl
 faults-cons i Missing os = refl
 faults-cons i NotText os = refl
 faults-cons i Long os = refl
+faults-cons i (Unreadable e) os = refl
 faults-cons i Unknown os = refl
 
 faults-more : (i : ℕ) (os : List Outcome) (o : Outcome) (n : ℕ) → n ≡ i + length os → faults_from i (os ++ o ∷ []) ≡ faults_from i os ++ fault_at n o

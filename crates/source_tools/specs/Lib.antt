@@ -3,6 +3,7 @@ pub mod Rows
 pub mod Words
 pub mod Json
 pub mod Texts
+pub mod FileErrors
 pub mod Outcomes
 pub mod Writes
 pub mod Renames

@@ -1,10 +1,14 @@
 -- The outcomes of files that are shown one after another.
-use Rattle.std.specs.Prelude.{◌≡◌, ◌⊎◌, ℕ, suc, ◌==◌, Bool, false, true, not, nat_lt, List, [], ◌∷◌, map, length, chars, Option, Some, None, Result, MatchResult, string_bytes, if◌then◌else◌}
+use Rattle.std.specs.Prelude.{◌≡◌, ◌⊎◌, ℕ, suc, ◌==◌, Bool, false, true, not, nat_lt, List, [], ◌∷◌, map, length, chars, Option, Some, None, Result, Ok, Err, MatchResult, string_bytes, if◌then◌else◌}
 use Rattle.std.specs.List.{flat_map, list_any}
-use Rattle.file_target.specs.Files.{Files, FileState}
+use Rattle.std.specs.declared.io.Error.{Error}
+use Rattle.file_target.specs.Files.{Files, read_of}
+use Rattle.file_target.specs.declared.error.TargetError.{TargetError}
+use Rattle.file_target.specs.declared.version.Version.{Version}
 use Rattle.rust_document.specs.Reading.{messages_in}
 use Rattle.rust_document.specs.Step.{MAX_TEXT}
 use Rattle.source_tools.specs.Decoded.{decoded}
+use Rattle.source_tools.specs.FileErrors.{file_error_of}
 use Rattle.source_tools.specs.Texts.{rows_of}
 use Rattle.source_tools.specs.declared.source.Dialect.{Dialect}
 use Rattle.source_tools.specs.declared.source.Source.{Source}
@@ -16,13 +20,14 @@ use Rattle.source_tools.specs.declared.view.View.TheVariants.{Messages, Tokens, 
 use Rattle.source_tools.specs.declared.view.FileView.{FileView}
 use Rattle.source_tools.specs.declared.summary.Summary.{Summary}
 
--- The rows of a file, and whether its reading has messages; or why it has none. Of files that are
--- not known more can go wrong.
+-- The rows of a file, and whether its reading has messages; or why it has none: there is no file, it is no text or too long, or the
+-- system does not read it. Of files that are not known more can go wrong.
 pub data Outcome : Type 0 where
   Viewed : List ℕ → Bool → Outcome
   Missing : Outcome
   NotText : Outcome
   Long : Outcome
+  Unreadable : Error → Outcome
   Unknown : Outcome
 
 -- Messages count where they are shown.
@@ -45,13 +50,21 @@ viewed_if_any view path dialect (Some text) = viewed view path dialect text
 abbrev pub outcome_of : View → Source → List ℕ → Outcome
 outcome_of view s bytes = viewed_if_any view (string_bytes s.path) s.dialect (decoded bytes)
 
--- the outcome of a file, if there is one
-abbrev pub outcome_if_any : View → Source → Option FileState → Outcome
-outcome_if_any view s None = Missing
-outcome_if_any view s (Some f) = outcome_of view s f.bytes
+abbrev pub failed : FileError → Outcome
+failed NotFound = Missing
+failed NotUtf8 = NotText
+failed TooLong = Long
+failed Changed = Unknown
+failed NoMemory = Unknown
+failed (Io e) = Unreadable e
+
+-- the outcome of a file, by what a read of it answers
+abbrev pub outcome_read : View → Source → Result (List ℕ × Version) TargetError → Outcome
+outcome_read view s (Ok read) = outcome_of view s read.0
+outcome_read view s (Err e) = failed (file_error_of e)
 
 abbrev pub outcome_in : View → Files → Source → Outcome
-outcome_in view files s = outcome_if_any view s (files (string_bytes s.path))
+outcome_in view files s = outcome_read view s (read_of (files (string_bytes s.path)))
 
 abbrev pub rows_in : Outcome → List ℕ
 rows_in (Viewed rows has) = rows
@@ -62,14 +75,6 @@ abbrev pub rows_of_all : View → Files → List Source → List ℕ
 rows_of_all view files sources = flat_map (λ s. rows_in (outcome_in view files s)) sources
 
 -- ---- outcomes in code
-
-abbrev pub failed : FileError → Outcome
-failed NotFound = Missing
-failed NotUtf8 = NotText
-failed TooLong = Long
-failed Changed = Unknown
-failed NoMemory = Unknown
-failed (Io e) = Unknown
 
 -- Out of memory comes at any point.
 abbrev pub IsOutcome : Outcome → Result FileView FileError → Type 0

@@ -1,17 +1,24 @@
 -- Files in which identifiers are renamed.
-use Rattle.std.specs.Prelude.{◌≡◌, ◌⊎◌, ◌≤◌, ◌<◌, ◌==◌, ◌&&◌, ◌||◌, ℕ, Bool, true, false, not, List, [], ◌∷◌, All, IfSome, map, take, chars, length, slice_range, slice_index_or, Option, Some, None, option_map, Result, MatchResult, Vec, string_bytes, if◌then◌else◌}
+use Rattle.std.specs.Prelude.{◌≡◌, ◌⊎◌, ◌≤◌, ◌<◌, ◌==◌, ◌&&◌, ◌||◌, ℕ, Bool, true, false, not, List, [], ◌∷◌, All, IfSome, map, take, chars, length, slice_range, slice_index_or, Option, Some, None, option_map, Result, Ok, Err, MatchResult, Vec, string_bytes, if◌then◌else◌}
 use Rattle.std.specs.List.{flat_map, list_any}
 use Rattle.std.specs.Global.{Global}
 use Rattle.std.specs.Str.{bytes_eq}
 use Rattle.parser_input.specs.Kinds.{IDENT}
-use Rattle.file_target.specs.Files.{Files, FileState}
+use Rattle.file_target.specs.Files.{Files, read_of}
+use Rattle.file_target.specs.declared.error.TargetError.{TargetError}
+use Rattle.file_target.specs.declared.error.TargetError.TheVariants as targets
+use Rattle.file_target.specs.declared.version.Version.{Version}
 use Rattle.renamer.specs.Plain.{IsPlain, LacksRoom}
+use Rattle.renamer.specs.Verdict as renamer
+use Rattle.renamer.specs.Verdict.{IsRenamed}
+use Rattle.renamer.specs.declared.RenameError.{RenameError}
 use Rattle.renamer.specs.Renamed.{renamed_text}
 use Rattle.rust_document.specs.Reading.{tree_in}
 use Rattle.rust_document.specs.Step.{MAX_TEXT, State}
 use Rattle.rust_document.specs.Tokens.{Span, tokens_of}
 use Rattle.source_tools.specs.Decoded.{decoded, encoded}
-use Rattle.source_tools.specs.Writes.{Change, HasChanges, change_in}
+use Rattle.source_tools.specs.FileErrors.{file_error_of}
+use Rattle.source_tools.specs.Writes.{Change, HasChanges, IsUnwritten, change_in}
 use Rattle.source_tools.specs.declared.source.Dialect.{Dialect}
 use Rattle.source_tools.specs.declared.source.Source.{Source}
 use Rattle.source_tools.specs.declared.source.FileError.TheVariants as errors
@@ -43,26 +50,30 @@ renamed n dialect text = renamed_text n.old.now n.new.now (tree_in dialect.gramm
 abbrev pub renamed_bytes : Renaming → Dialect → List ℕ → Option (List ℕ)
 renamed_bytes n dialect bytes = option_map (λ text. encoded bytes (renamed n dialect text)) (decoded bytes)
 
--- The bytes are text, and the new name is free in it.
-pub record IsRenamable (n : Renaming) (dialect : Dialect) (bytes : List ℕ) : Type 0 where
-  pub text : List ℕ
-  pub decodes : decoded bytes ≡ Some text
-  pub free : is_free n dialect text ≡ true
-
 -- a document as it is opened
 abbrev pub opened : Dialect → List ℕ → State
 opened dialect text =
     record { edition = dialect.edition; grammar = dialect.grammar; text = text; number = 1 }
 
--- Why a text is not renamed in: the name is taken, or the renamer's error. Where both names are
--- plain and the new text is not too long, that error is one of `LacksRoom`.
+-- The bytes are text, the new name is free in it, and is a token with which it reads as the renamed tree.
+pub record IsRenamable (n : Renaming) (dialect : Dialect) (bytes : List ℕ) : Type 0 where
+  pub text : List ℕ
+  pub decodes : decoded bytes ≡ Some text
+  pub free : is_free n dialect text ≡ true
+  pub is_renamed : IsRenamed (opened dialect text) n.old.now n.new.now
+
+-- The renamer's error tells which case fits. Where both names are plain and the new text is not too long, it is one of `LacksRoom`.
+pub record RefusesRenamed (n : Renaming) (dialect : Dialect) (text : List ℕ) (e : RenameError) : Type 0 where
+  pub exact : renamer.RefusesRename (opened dialect text) n.old.now n.new.now 2 e
+  pub plain : IsPlain (opened dialect text) n.old.now n.new.now → length (renamed n dialect text) ≤ MAX_TEXT → LacksRoom 2 n.new.now e
+
+-- Why a text is not renamed in: it is too long, the name is taken, or the renamer's error.
 abbrev pub RefusesText : Renaming → Dialect → List ℕ → RenameFault → Type 0
 RefusesText n dialect text (File errors.TooLong) = MAX_TEXT < length text
 RefusesText n dialect text (File errors.NoMemory) = Unit {0}
 RefusesText n dialect text (File e) = ⊥
 RefusesText n dialect text NameTaken = is_free n dialect text ≡ false
-RefusesText n dialect text (Refused e) =
-    IsPlain (opened dialect text) n.old.now n.new.now → length (renamed n dialect text) ≤ MAX_TEXT → LacksRoom 2 n.new.now e
+RefusesText n dialect text (Refused e) = RefusesRenamed n dialect text e
 
 abbrev pub RefusesIfAny : Renaming → Dialect → Option (List ℕ) → RenameFault → Type 0
 RefusesIfAny n dialect None e = (e ≡ File errors.NotUtf8) ⊎ (e ≡ File errors.NoMemory)
@@ -75,30 +86,37 @@ RefusesBytes n dialect bytes e = RefusesIfAny n dialect (decoded bytes) e
 -- ---- files
 
 -- A file whose bytes stay is not written.
-abbrev pub change_to : List ℕ → List ℕ → Option (List ℕ) → List Change
-change_to path old None = []
-change_to path old (Some new) = if bytes_eq new old then [] else record { path = path; old = old; bytes = new } ∷ []
+abbrev pub change_to : List ℕ → Version → List ℕ → Option (List ℕ) → List Change
+change_to path version old None = []
+change_to path version old (Some new) =
+    if bytes_eq new old then [] else record { path = path; version = version; old = old; bytes = new } ∷ []
 
-abbrev pub change_if_any : Renaming → Source → Option FileState → List Change
-change_if_any n s None = []
-change_if_any n s (Some f) = change_to (string_bytes s.path) f.bytes (renamed_bytes n s.dialect f.bytes)
+-- the change of a file, if its bytes change, by what a read of it answers
+abbrev pub changes_read : Renaming → Source → Result (List ℕ × Version) TargetError → List Change
+changes_read n s (Ok read) = change_to (string_bytes s.path) read.1 read.0 (renamed_bytes n s.dialect read.0)
+changes_read n s (Err e) = []
 
--- the change of a file, if its bytes change
 abbrev pub changes_of : Renaming → Files → Source → List Change
-changes_of n files s = change_if_any n s (files (string_bytes s.path))
+changes_of n files s = changes_read n s (read_of (files (string_bytes s.path)))
 
--- There is a file, and it can be renamed in.
+-- A read answers bytes that can be renamed in.
+abbrev pub IsRenamableRead : Renaming → Source → Result (List ℕ × Version) TargetError → Type 0
+IsRenamableRead n s (Ok read) = IsRenamable n s.dialect read.0
+IsRenamableRead n s (Err e) = ⊥
+
+-- There is a file, the system reads it, and it can be renamed in.
 abbrev pub IsRenamableFile : Renaming → Files → Source → Type 0
-IsRenamableFile n files s =
-    (f : FileState) × (files (string_bytes s.path) ≡ Some f) × IsRenamable n s.dialect f.bytes
+IsRenamableFile n files s = IsRenamableRead n s (read_of (files (string_bytes s.path)))
 
-abbrev pub RefusesState : Renaming → Source → Option FileState → RenameFault → Type 0
-RefusesState n s None e = e ≡ File errors.NotFound
-RefusesState n s (Some f) e = RefusesBytes n s.dialect f.bytes e
+-- Why a file is not renamed in, by what a read of it answers. If there is a file, out of memory comes at any point.
+abbrev pub RefusesRead : Renaming → Source → Result (List ℕ × Version) TargetError → RenameFault → Type 0
+RefusesRead n s (Ok read) e = RefusesBytes n s.dialect read.0 e
+RefusesRead n s (Err targets.NotFound) e = e ≡ File errors.NotFound
+RefusesRead n s (Err d) e = (e ≡ File (file_error_of d)) ⊎ (e ≡ File errors.NoMemory)
 
 -- why a file is not renamed in
 abbrev pub RefusesFile : Renaming → Files → Source → RenameFault → Type 0
-RefusesFile n files s e = RefusesState n s (files (string_bytes s.path)) e
+RefusesFile n files s e = RefusesRead n s (read_of (files (string_bytes s.path))) e
 
 -- ---- renames in code
 
@@ -106,35 +124,37 @@ abbrev pub changes_in : Option FileChange → List Change
 changes_in None = []
 changes_in (Some c) = change_in c ∷ []
 
--- the result of renaming in bytes that were read
-abbrev pub IsRenamedBytes : Renaming → Source → List ℕ → Result (Option FileChange) RenameFault → Type 0
-IsRenamedBytes n s bytes r =
-    MatchResult r
-    (λ c. IsRenamable n s.dialect bytes × (changes_in c ≡ change_to (string_bytes s.path) bytes (renamed_bytes n s.dialect bytes)))
-    (RefusesBytes n s.dialect bytes)
+-- the result of renaming in a file, by what a read of it answers
+abbrev pub IsRenamedRead : Renaming → Source → Result (List ℕ × Version) TargetError → Result (Option FileChange) RenameFault → Type 0
+IsRenamedRead n s read r =
+    MatchResult r (λ c. IsRenamableRead n s read × (changes_in c ≡ changes_read n s read)) (RefusesRead n s read)
 
--- the result of renaming in a file
 abbrev pub IsRenamedFile : Renaming → Files → Source → Result (Option FileChange) RenameFault → Type 0
-IsRenamedFile n files s r =
-    MatchResult r (λ c. IsRenamableFile n files s × (changes_in c ≡ changes_of n files s)) (RefusesFile n files s)
+IsRenamedFile n files s r = IsRenamedRead n s (read_of (files (string_bytes s.path))) r
 
--- what is planned for files
+-- What is planned for files: the changes of all of them; or the first that is refused, and why.
 abbrev pub IsPlan : Renaming → Files → List Source → Result (Vec FileChange Global) RenameFailure → Type 0
 IsPlan n files sources r =
     MatchResult r
     (λ cs. All (IsRenamableFile n files) sources × (map change_in cs.items ≡ flat_map (changes_of n files) sources))
-    (λ f. (f.index < length sources) × ((d : Source) → RefusesFile n files (slice_index_or sources f.index d) f.fault))
+    (λ f. (f.index < length sources) × All (IsRenamableFile n files) (take f.index sources)
+    × ((d : Source) → RefusesFile n files (slice_index_or sources f.index d) f.fault))
 
--- What a renaming that stopped has done: nothing, if a file was refused; else it has written some of
--- the files, in order.
+-- What a renaming that stopped has done: nothing, if a file was refused; else the write of the change of this path failed with this
+-- error, and the changes before it are made.
 abbrev pub StopsRename : {T : Type 0} → Renaming → List Source → (T → Option Files) → T → T → RenameStop → Type 0
 StopsRename n sources files_of before after (RefusedFile f) = after ≡ before
 StopsRename n sources files_of before after (Unwritten path e) =
-    IfSome (files_of before) (λ files.
-    (k : ℕ) × HasChanges (take k (flat_map (changes_of n files) sources)) (Some files) (files_of after))
+    IfSome (files_of before) (λ files. IsUnwritten (flat_map (changes_of n files) sources) files (files_of after) (string_bytes path) e)
 
--- what a renaming has done
-abbrev pub Renames : Renaming → List Source → Option Files → Option Files → Type 0
-Renames n sources before after =
+-- why a renaming stopped, where a file was refused
+abbrev pub RefusesRename : Renaming → List Source → Option Files → RenameStop → Type 0
+RefusesRename n sources before (RefusedFile f) = IfSome before (λ files. IsPlan n files sources (Err f))
+RefusesRename n sources before (Unwritten path e) = Unit {0}
+
+-- what a renaming has done: the changes of all files are made, so many
+abbrev pub Renames : Renaming → List Source → Option Files → Option Files → ℕ → Type 0
+Renames n sources before after count =
     IfSome before (λ files.
-    All (IsRenamableFile n files) sources × HasChanges (flat_map (changes_of n files) sources) (Some files) after)
+    All (IsRenamableFile n files) sources × HasChanges (flat_map (changes_of n files) sources) (Some files) after
+    × (count ≡ length (flat_map (changes_of n files) sources)))

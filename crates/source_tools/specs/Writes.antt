@@ -1,7 +1,9 @@
 -- Files that are written one after another.
-use Rattle.std.specs.Prelude.{◌≡◌, ℕ, List, [], ◌∷◌, Option, Some, None, string_bytes, if◌then◌else◌}
+use Rattle.std.specs.Prelude.{◌≡◌, ◌<◌, ℕ, List, [], ◌∷◌, IfSome, length, take, slice_index_or, Option, Some, None, string_bytes, if◌then◌else◌}
 use Rattle.std.specs.Str.{bytes_eq}
-use Rattle.file_target.specs.Files.{Files, FileState}
+use Rattle.file_target.specs.Files.{Files, FileState, IsWriteError}
+use Rattle.file_target.specs.declared.error.TargetError.{TargetError}
+use Rattle.file_target.specs.declared.version.Version.{Version}
 use Rattle.source_tools.specs.declared.writes.FileChange.{FileChange}
 
 -- the bytes at each path
@@ -15,9 +17,10 @@ bytes_in (Some f) = Some f.bytes
 abbrev pub texts_of : Files → Texts
 texts_of files path = bytes_in (files path)
 
--- A path, the bytes of its file, and those that it gets.
+-- A path, the version and the bytes of its file, and the bytes that it gets.
 pub record Change : Type 0 where
   pub path : List ℕ
+  pub version : Version
   pub old : List ℕ
   pub bytes : List ℕ
 
@@ -39,4 +42,21 @@ HasChanges cs (Some before) (Some after) =
 
 -- a change in code
 abbrev pub change_in : FileChange → Change
-change_in c = record { path = string_bytes c.path; old = c.old.items; bytes = c.new.items }
+change_in c = record { path = string_bytes c.path; version = c.version; old = c.old.items; bytes = c.new.items }
+
+-- A write of the change fails with this error.
+abbrev pub FailsWrite : Files → Change → TargetError → Type 0
+FailsWrite files c e = IsWriteError (files c.path) c.version e
+
+-- Of files that were known, the write of the change fails with this error.
+abbrev pub FailsIfKnown : Option Files → Option Files → Change → TargetError → Type 0
+FailsIfKnown before after c e = IfSome before (λ old. IfSome after (λ files. FailsWrite files c e))
+
+-- The change with a number is that of this path, and its write failed with this error, where the changes before it are made, and no
+-- other.
+pub record IsUnwritten (cs : List Change) (before : Files) (after : Option Files) (path : List ℕ) (e : TargetError) : Type 0 where
+  pub number : ℕ
+  pub within : number < length cs
+  pub made : HasChanges (take number cs) (Some before) after
+  pub at : (d : Change) → path ≡ (slice_index_or cs number d).path
+  pub failed : (d : Change) → IfSome after (λ files. FailsWrite files (slice_index_or cs number d) e)

@@ -1,15 +1,15 @@
 //! Renamings of files are planned.
 
-ghost use Rattle.std.specs.Prelude.{◌≡◌, ◌++◌, IfErr, IfSome, OnOk};
+ghost use Rattle.std.specs.Prelude.{◌≡◌, ◌++◌, IfErr, IfSome, Ok, OnOk};
 ghost use Rattle.std.specs.Option.{option_to_list};
 ghost use Rattle.source_tools.specs.declared.source.FileError.TheVariants.{NoMemory};
 ghost use Rattle.source_tools.specs.declared.renaming.RenameFault.TheVariants.{File};
-ghost use Rattle.source_tools.specs.Renames.{IsPlan, IsRenamedBytes, IsRenamedFile};
+ghost use Rattle.source_tools.specs.Renames.{IsPlan, IsRenamedFile, IsRenamedRead};
 
 use crate::renaming::{RenameFault, Renaming, rename_bytes};
 use crate::source::{FileError, Source};
 use crate::writes::FileChange;
-use file_target::{Contents, Target, TargetError};
+use file_target::{Contents, Target};
 use std::alloc::Global;
 
 /// A file that is not renamed in, and why.
@@ -28,7 +28,8 @@ fn change_of(
     source: &Source,
     contents: Contents,
 ) -> Result<Option<FileChange>, RenameFault>
-    ensures { IsRenamedBytes renaming.now source.now contents.bytes.items result }
+    ensures { IsRenamedRead renaming.now source.now (Ok (contents.bytes.items, contents.version))
+        result }
 {
     let Contents {
         bytes: old,
@@ -64,10 +65,7 @@ fn rename_file<T: Target>(
 {
     match target.read(alloc, source.path.as_str()) {
         Ok(contents) => change_of(alloc, renaming, source, contents),
-        Err(TargetError::NotFound) => Err(RenameFault::File(FileError::NotFound)),
-        Err(TargetError::Changed) => Err(RenameFault::File(FileError::Changed)),
-        Err(TargetError::NoMemory) => Err(RenameFault::File(FileError::NoMemory)),
-        Err(TargetError::Io(error)) => Err(RenameFault::File(FileError::Io(error))),
+        Err(error) => Err(RenameFault::File(FileError::from(error))),
     }
 }
 
@@ -89,7 +87,7 @@ fn push_change(change: Option<FileChange>, changes: &mut Vec<FileChange>) -> Res
 ///
 /// # Errors
 ///
-/// The first file that cannot be renamed in.
+/// The first file that the target does not read, or that cannot be renamed in.
 pub fn plan_renames<T: Target>(
     alloc: Global,
     renaming: &Renaming<'_>,

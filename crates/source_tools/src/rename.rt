@@ -1,7 +1,7 @@
 //! Files are renamed in and written.
 
-ghost use Rattle.std.specs.Prelude.{IfErr, OnOk};
-ghost use Rattle.source_tools.specs.Renames.{Renames, StopsRename};
+ghost use Rattle.std.specs.Prelude.{IfErr, IfOk};
+ghost use Rattle.source_tools.specs.Renames.{RefusesRename, Renames, StopsRename};
 
 use crate::plan::{RenameFailure, plan_renames};
 use crate::renaming::Renaming;
@@ -24,18 +24,20 @@ pub enum RenameStop {
 ///
 /// # Errors
 ///
-/// - [`RenameStop::RefusedFile`] if a file cannot be renamed in; then no file is written.
-/// - [`RenameStop::Unwritten`] if a file cannot be written; those before it, if there are any, are written.
+/// - [`RenameStop::RefusedFile`] for the first file that cannot be renamed in; then no file is written.
+/// - [`RenameStop::Unwritten`] for the first file that cannot be written; those before it, if there are
+///   any, are written.
 pub fn rename_files<T: Target>(
     alloc: Global,
     renaming: &Renaming<'_>,
     target: &mut T,
     sources: &[Source],
 ) -> Result<usize, RenameStop>
-    ensures renamed { OnOk result
+    ensures renamed { IfOk result
         (Renames renaming.now sources.now (T.files target.old) (T.files target.new)) }
     ensures stopped { IfErr result
         (StopsRename renaming.now sources.now T.files target.old target.new) }
+    ensures refused { IfErr result (RefusesRename renaming.now sources.now (T.files target.old)) }
 {
     let mut changes = match plan_renames(alloc, renaming, &*target, sources) {
         Ok(changes) => changes,

@@ -25,18 +25,33 @@ pub enum Stop {
 }
 
 impl From<AllocError> for Stop {
+    ghost use Rattle.source_tools.specs.declared.show_files.Stop.TheVariants.{NoMemory as no_memory};
+    ghost use Rattle.std.specs.Prelude.{◌≡◌};
+
+    ghost from_gives = { λ _ stop. stop ≡ no_memory };
+
     fn from(_error: AllocError) -> Stop {
         Stop::NoMemory
     }
 }
 
 impl<T: Drop> From<AllocFailed<T>> for Stop {
+    ghost use Rattle.source_tools.specs.declared.show_files.Stop.TheVariants.{NoMemory as no_memory};
+    ghost use Rattle.std.specs.Prelude.{◌≡◌};
+
+    ghost from_gives = { λ _ stop. stop ≡ no_memory };
+
     fn from(_error: AllocFailed<T>) -> Stop {
         Stop::NoMemory
     }
 }
 
 impl From<io::Error> for Stop {
+    ghost use Rattle.source_tools.specs.declared.show_files.Stop.TheVariants.{Output};
+    ghost use Rattle.std.specs.Prelude.{◌≡◌};
+
+    ghost from_gives = { λ error stop. stop ≡ Output error };
+
     fn from(error: io::Error) -> Stop {
         Stop::Output(error)
     }

@@ -66,6 +66,22 @@ impl<T: Drop> From<AllocFailed<T>> for FileError {
     }
 }
 
+impl From<TargetError> for FileError {
+    ghost use Rattle.source_tools.specs.FileErrors.{file_error_of};
+    ghost use Rattle.std.specs.Prelude.{◌≡◌};
+
+    ghost from_gives = { λ error gives. gives ≡ file_error_of error };
+
+    fn from(error: TargetError) -> FileError {
+        match error {
+            TargetError::NotFound => FileError::NotFound,
+            TargetError::Changed => FileError::Changed,
+            TargetError::NoMemory => FileError::NoMemory,
+            TargetError::Io(error) => FileError::Io(error),
+        }
+    }
+}
+
 /// A file that is left out.
 #[derive(Debug, Drop)]
 pub struct FileFault {

@@ -9,7 +9,7 @@ use crate::messages::{push_message_list, push_messages};
 use crate::source::{Dialect, FileError, Source};
 use crate::tokens::{push_token_list, push_tokens};
 use crate::tree::{push_tree, push_tree_list};
-use file_target::{Target, TargetError};
+use file_target::Target;
 use parser_input::Edition;
 use rust_document::{Document, OpenError};
 use std::alloc::{AllocError, Global};
@@ -164,7 +164,8 @@ pub fn view_bytes(
 /// - [`FileError::NotUtf8`] if the bytes are not UTF-8.
 /// - [`FileError::TooLong`] if the text has more than 16,777,216 bytes.
 /// - [`FileError::NoMemory`] if an allocation fails.
-/// - [`FileError::Changed`] and [`FileError::Io`] of a target whose files are not known.
+/// - [`FileError::Io`] if the system does not read the file.
+/// - [`FileError::Changed`] of a target whose files are not known.
 pub fn view_file<T: Target>(
     alloc: Global,
     view: View,
@@ -174,12 +175,8 @@ pub fn view_file<T: Target>(
     ensures { IfSome (T.files target.now)
         (λ files. IsOutcome (outcome_in view files source.now) result) }
 {
-    let contents = match target.read(alloc, source.path.as_str()) {
-        Ok(contents) => contents,
-        Err(TargetError::NotFound) => return Err(FileError::NotFound),
-        Err(TargetError::Changed) => return Err(FileError::Changed),
-        Err(TargetError::NoMemory) => return Err(FileError::NoMemory),
-        Err(TargetError::Io(error)) => return Err(FileError::Io(error)),
-    };
-    view_bytes(alloc, view, source, contents.bytes.as_slice())
+    match target.read(alloc, source.path.as_str()) {
+        Ok(contents) => view_bytes(alloc, view, source, contents.bytes.as_slice()),
+        Err(error) => Err(FileError::from(error)),
+    }
 }

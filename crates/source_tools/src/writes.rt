@@ -1,7 +1,8 @@
 //! Files are written.
 
-ghost use Rattle.std.specs.Prelude.{◌≡◌, ◌≤◌, ◌<◌, IfErr, OnOk, length, map, take};
-ghost use Rattle.source_tools.specs.Writes.{HasChanges, change_in};
+ghost use Rattle.std.specs.Prelude.{◌≡◌, ◌≤◌, ◌<◌, IfErr, OnOk, length, map, slice_index_or, take};
+ghost use Rattle.source_tools.specs.Writes.{FailsIfKnown, HasChanges, change_in};
+ghost use Rattle.source_tools.specs.declared.writes.FileChange.{FileChange};
 
 use file_target::{Target, TargetError, Version};
 use std::alloc::Global;
@@ -68,6 +69,9 @@ pub fn write_changes<T: Target>(
         (map change_in (take fault.index changes.now))
         (T.files target.old) (T.files target.new)) }
     ensures index { IfErr result (λ fault. fault.index < length changes.now) }
+    ensures failed { IfErr result (λ fault. (d : FileChange)
+        → FailsIfKnown (T.files target.old) (T.files target.new)
+        (change_in (slice_index_or changes.now fault.index d)) fault.error) }
 {
     for (index, change) in changes.iter().enumerate() {
         let written = target.write(

@@ -8,14 +8,20 @@ const ABOUT: &str =
 
 const AFTER: &str = "\
 A FILE is a path, `-` for standard input, or a directory for the `.rs` files in it, in order of name; \
-links in it are not followed. A file's edition is that of `--edition`, or else of the nearest \
-`Cargo.toml`, or else 2021. Its grammar is the whole language, or with `--grammar profile` the part \
-of it that a request is read by if it names no grammar.
+links in it are not followed, and in it directories that are hidden or named `target` are left out. A \
+file that several paths lead to is taken once. A file's edition is that \
+of `--edition`, or else of the nearest `Cargo.toml`, or else 2021; a `Cargo.toml` that cannot be read \
+or names no edition of Rust is named on standard error. Its grammar is the whole language, or with \
+`--grammar profile` the part of it that a request is read by if it names no grammar.
 
-The exit status is 0, or 1 if `check` prints messages, or 2 after a fault: a file that cannot be read \
-is named on standard error, and the others are still read.";
+The exit status is 0; or 1 if `check` prints messages, if `rename` finds no identifier OLD, if with \
+`--check` a file would change, or if there is no file; or 2 after a fault: a file that cannot be read is named on standard error, and `check`, \
+`tokens` and `tree` still read the others.";
 
 const JSON: &str = "Prints an object in JSON for each file, on a line of its own";
+
+const CHECK: &str =
+    "Prints the paths of the files that would change; the exit status is 1 if there are any";
 
 const REWRITE: &str = "\
 Rewrites files by the commands in COMMANDS, a file in JSON or `-` for standard input:
@@ -24,10 +30,10 @@ Rewrites files by the commands in COMMANDS, a file in JSON or `-` for standard i
 
 The commands of a file are those of a request: they are done one after another, each on the text that \
 those before it left. The files are done in order of path, whatever their order in COMMANDS; of a \
-path that is named twice the last list counts.
+path that is named twice the last list counts, and of several paths that lead to one file all lists are \
+done, in order of path.
 
-Without `--write` nothing is written, and a diff is printed that `patch -p1` and `git apply` read. \
-No file is written unless all commands of all files are accepted; the first one that is refused is \
+Without `--write` nothing is written, and a diff is printed, as by `rename`. No file is written unless all commands of all files are accepted; the first one that is refused is \
 named with its file, line, column and number, which counts from 0, and where a commit is unfaithful, \
 with the first difference. A commit is refused if the text has \
 messages before or after it, unless `--allow-messages` is given.";
@@ -51,7 +57,10 @@ const RENAME: &str = "\
 Renames each identifier OLD to NEW, in macro calls too. These are tokens: scopes, names in format \
 strings and names that macros make are not followed.
 
-Without `--write` nothing is written, and a diff is printed that `patch -p1` and `git apply` read. \
+Without `--write` nothing is written, and a diff is printed that `patch -p1` and `git apply` take in the \
+current folder; if a file is outside of it, in the folder that is named on standard error. Of standard \
+input, `-`, the new text is printed; no other FILE and no `--write` goes with it.
+
 No file is written unless all of them can be renamed in. A file in which NEW is an identifier \
 already is refused unless `--merge` is given, and so is one whose new text would read as another \
 tree.";
@@ -117,7 +126,10 @@ fn word<'a>(alloc: Global, name: &'a str, shown: &'a str, help: &'a str) -> Arg<
 fn with_flags<'a>(alloc: Global, command: Command<'a>) -> Result<Command<'a>, AllocError> {
     let write = flag(alloc, "write", "Writes the files").short('w');
     let diff = flag(alloc, "diff", "Prints a diff, as without --write").conflicts_with("write")?;
-    command.arg(write)?.arg(diff)
+    let check = flag(alloc, "check", CHECK).conflicts_with("write")?;
+    let check = check.conflicts_with("diff")?;
+    let quiet = flag(alloc, "quiet", "Says nothing on standard error but faults").short('q');
+    command.arg(write)?.arg(diff)?.arg(check)?.arg(quiet)
 }
 
 /// Adds the names of a renaming.

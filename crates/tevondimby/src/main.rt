@@ -2,10 +2,16 @@
 //! them, and answers to requests.
 #![tactic(auto)]
 
+mod advice;
 mod command_line;
-mod dialect_options;
-mod edition_of;
+mod dialects;
+mod diffs;
+mod editions;
+mod file_ids;
 mod inputs;
+mod output;
+mod rename;
+mod report;
 mod rewrite;
 mod run;
 mod source_list;

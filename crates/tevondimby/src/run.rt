@@ -1,18 +1,16 @@
 //! A command is run.
 
 use crate::command_line::command;
-use crate::dialect_options::DialectOptions;
-use crate::inputs::Inputs;
+use crate::dialects::Dialects;
+use crate::output::is_closed;
+use crate::rename::rename;
 use crate::rewrite::rewrite;
 use crate::source_list::{SourceList, source_list};
 use crate::view::view;
 use anyhow::{Context, Result};
 use clap::ArgMatches;
 use document_requests::{Watched, serve_lines};
-use source_tools::{
-    Format, RenameFailure, RenameStop, Renaming, Source, View, plan_renames, rename_files,
-    write_diffs,
-};
+use source_tools::{Format, Source, View};
 use std::alloc::AllocError;
 use std::env;
 
@@ -24,11 +22,9 @@ pub(crate) fn files_of(
     rt: &HostRuntime,
     matches: &ArgMatches<'_>,
 ) -> Result<SourceList, AllocError> {
-    let options = DialectOptions::new(matches);
-    let Some(paths) = matches.get_strs("files") else {
-        return source_list(rt, [].as_slice(), options);
-    };
-    source_list(rt, paths, options)
+    let mut dialects = Dialects::new(rt, matches);
+    let paths = matches.get_strs("files").unwrap_or([].as_slice());
+    source_list(rt, paths, &mut dialects)
 }
 
 /// Returns the path of the source with this index.
@@ -36,57 +32,6 @@ pub(crate) fn path_of(sources: &[Source], index: usize) -> &str {
     match sources.get(index) {
         Some(source) => source.path.as_str(),
         None => "",
-    }
-}
-
-/// Names the file that stopped a renaming.
-fn report_stop(rt: &HostRuntime, sources: &[Source], stop: &RenameStop) {
-    match stop {
-        RenameStop::RefusedFile(RenameFailure { index, fault }) => {
-            let path = path_of(sources, *index);
-            let _ = eprintln!(rt; "tevondimby: {path}: {fault}; no file is written");
-        }
-        RenameStop::Unwritten(path, error) => {
-            let _ = eprintln!(rt;
-                "tevondimby: {path}: {error}; files before it, if any, are written"
-            );
-        }
-    }
-}
-
-/// Renames in files, and writes them or prints a diff.
-fn rename(rt: &HostRuntime, matches: &ArgMatches<'_>) -> Result<u8> {
-    let list = files_of(rt, matches)?;
-    if list.has_faults {
-        return Ok(FAULT);
-    }
-    let renaming = Renaming {
-        old: matches.get_str("old").unwrap_or(""),
-        new: matches.get_str("new").unwrap_or(""),
-        merge: matches.get_flag("merge"),
-    };
-    let sources = list.sources.as_slice();
-    let mut inputs = Inputs::new(rt);
-    if matches.get_flag("write") {
-        return Ok(
-            match rename_files(rt.alloc(), &renaming, &mut inputs, sources) {
-                Ok(_) => 0,
-                Err(stop) => {
-                    report_stop(rt, sources, &stop);
-                    FAULT
-                }
-            },
-        );
-    }
-    match plan_renames(rt.alloc(), &renaming, &inputs, sources) {
-        Ok(changes) => {
-            write_diffs(rt.alloc(), changes.as_slice(), &mut rt.stdout())?;
-            Ok(0)
-        }
-        Err(failure) => {
-            report_stop(rt, sources, &RenameStop::RefusedFile(failure));
-            Ok(FAULT)
-        }
     }
 }
 
@@ -119,8 +64,12 @@ pub(crate) fn run(rt: &HostRuntime) -> Result<u8> {
     let matches = match command(alloc)?.try_get_matches_from(words.as_slice()) {
         Ok(matches) => matches,
         Err(error) => {
-            error.print(rt)?;
-            return Ok(if error.exit_code() == 0 { 0 } else { FAULT });
+            let status = if error.exit_code() == 0 { 0 } else { FAULT };
+            return match error.print(rt) {
+                Ok(()) => Ok(status),
+                Err(error) if is_closed(&error) => Ok(status),
+                Err(error) => Err(anyhow::Error::from(error)),
+            };
         }
     };
     match matches.subcommand() {

@@ -1,17 +1,33 @@
 //! The files that a command reads.
 
-use crate::dialect_options::DialectOptions;
+use crate::dialects::Dialects;
+use crate::file_ids::file_id;
 use crate::inputs::STANDARD_INPUT;
+use file_paths::{FileId, first_same};
 use source_tools::Source;
 use std::alloc::{AllocError, Global};
+use std::io::ErrorKind;
 use std::{fs, io};
 
-/// The files of a command, and whether a path was left out.
+/// The files of a command, each of them once, and whether a path was left out.
 #[derive(Drop)]
 pub(crate) struct SourceList {
     pub(crate) sources: Vec<Source>,
     pub(crate) has_faults: bool,
 }
+
+/// The paths of a command.
+#[derive(Drop)]
+struct PathList<'a> {
+    rt: &'a HostRuntime,
+    paths: Vec<String>,
+    /// The identity of the file at each path, if it is known.
+    ids: Vec<Option<FileId>>,
+    has_faults: bool,
+}
+
+/// The folder that `cargo` builds in.
+const BUILD_FOLDER: &str = "target";
 
 /// What is at a path of the list.
 #[derive(Drop)]
@@ -21,8 +37,19 @@ enum PathKind {
     Other,
 }
 
+/// Says that a file of a directory cannot be named.
+fn report_entry(rt: &HostRuntime, directory: &str, error: &io::Error) {
+    if error.kind() == ErrorKind::InvalidFilename {
+        let _ = eprintln!(rt;
+            "tevondimby: {directory}: a name in it is not UTF-8; that file is left out"
+        );
+    } else {
+        let _ = eprintln!(rt; "tevondimby: {directory}: {error}");
+    }
+}
+
 /// Returns the paths of the files and directories in a directory that are read, by name, the last
-/// one first.
+/// one first. Hidden directories and those that `cargo` builds in are left out.
 fn entries(rt: &HostRuntime, directory: &str, faults: &mut bool) -> io::Result<Vec<String>> {
     let alloc: Global = rt.alloc();
     let mut paths = Vec::new(alloc);
@@ -30,14 +57,16 @@ fn entries(rt: &HostRuntime, directory: &str, faults: &mut bool) -> io::Result<V
         let entry = match entry {
             Ok(entry) => entry,
             Err(error) => {
-                let _ = eprintln!(rt; "tevondimby: {directory}: {error}");
+                report_entry(rt, directory, &error);
                 *faults = true;
                 continue;
             }
         };
         let kind = entry.file_type()?;
-        let is_source = kind.is_file() && entry.file_name().ends_with(".rs");
-        if kind.is_dir() || is_source {
+        let name = entry.file_name();
+        let is_source = kind.is_file() && name.ends_with(".rs");
+        let is_walked = kind.is_dir() && !name.starts_with('.') && name != BUILD_FOLDER;
+        if is_walked || is_source {
             paths.push(String::from_str(alloc, entry.path().as_str())?)?;
         }
     }
@@ -65,27 +94,17 @@ fn kind_of(rt: &HostRuntime, path: &str, is_given: bool) -> io::Result<PathKind>
     })
 }
 
-impl SourceList {
-    /// Adds a file.
-    fn push(
-        &mut self,
-        rt: &HostRuntime,
-        path: String,
-        options: DialectOptions,
-    ) -> Result<(), AllocError> {
-        let dialect = options.dialect(rt, path.as_str());
-        self.sources.push(Source { path, dialect })?;
+impl<'a> PathList<'a> {
+    /// Adds the path of a file.
+    fn push(&mut self, path: String) -> Result<(), AllocError> {
+        self.ids.push(file_id(self.rt, path.as_str()))?;
+        self.paths.push(path)?;
         Ok(())
     }
 
-    /// Adds the file at `given`, or the files in that directory.
-    fn add(
-        &mut self,
-        rt: &HostRuntime,
-        given: &str,
-        options: DialectOptions,
-    ) -> Result<(), AllocError> {
-        let alloc: Global = rt.alloc();
+    /// Adds the path `given`, or the paths of the files in that directory.
+    fn add(&mut self, given: &str) -> Result<(), AllocError> {
+        let alloc: Global = self.rt.alloc();
         let mut rest = Vec::new(alloc);
         rest.push(String::from_str(alloc, given)?)?;
         let mut is_given = true;
@@ -93,14 +112,16 @@ impl SourceList {
             let Some(path) = rest.pop() else {
                 break;
             };
-            match kind_of(rt, path.as_str(), is_given) {
-                Ok(PathKind::Directory) => match entries(rt, path.as_str(), &mut self.has_faults) {
-                    Ok(mut paths) => rest.append(&mut paths)?,
-                    Err(error) => self.report(rt, path.as_str(), &error),
-                },
-                Ok(PathKind::File) => self.push(rt, path, options)?,
+            match kind_of(self.rt, path.as_str(), is_given) {
+                Ok(PathKind::Directory) => {
+                    match entries(self.rt, path.as_str(), &mut self.has_faults) {
+                        Ok(mut paths) => rest.append(&mut paths)?,
+                        Err(error) => self.report(path.as_str(), &error),
+                    }
+                }
+                Ok(PathKind::File) => self.push(path)?,
                 Ok(PathKind::Other) => {}
-                Err(error) => self.report(rt, path.as_str(), &error),
+                Err(error) => self.report(path.as_str(), &error),
             }
             is_given = false;
         }
@@ -108,24 +129,48 @@ impl SourceList {
     }
 
     /// Names a path that is left out.
-    fn report(&mut self, rt: &HostRuntime, path: &str, error: &io::Error) {
-        let _ = eprintln!(rt; "tevondimby: {path}: {error}");
+    fn report(&mut self, path: &str, error: &io::Error) {
+        let _ = eprintln!(self.rt; "tevondimby: {path}: {error}");
         self.has_faults = true;
+    }
+
+    /// Returns the files, each of them once: by the first path that leads to it.
+    fn into_sources(self, dialects: &mut Dialects<'_>) -> Result<SourceList, AllocError> {
+        let PathList {
+            rt,
+            paths,
+            ids,
+            has_faults,
+        } = self;
+        let mut sources = Vec::new(rt.alloc());
+        for (index, path) in paths.into_iter().enumerate() {
+            let is_new = index >= ids.len() || first_same(ids.as_slice(), index) == index;
+            if is_new {
+                let dialect = dialects.dialect(path.as_str())?;
+                sources.push(Source { path, dialect })?;
+            }
+        }
+        Ok(SourceList {
+            sources,
+            has_faults,
+        })
     }
 }
 
-/// Returns the files at the given paths, in order.
+/// Returns the files at the given paths, in order, each of them once.
 pub(crate) fn source_list(
     rt: &HostRuntime,
     paths: &[&str],
-    options: DialectOptions,
+    dialects: &mut Dialects<'_>,
 ) -> Result<SourceList, AllocError> {
-    let mut list = SourceList {
-        sources: Vec::new(rt.alloc()),
+    let mut list = PathList {
+        rt,
+        paths: Vec::new(rt.alloc()),
+        ids: Vec::new(rt.alloc()),
         has_faults: false,
     };
     for path in paths {
-        list.add(rt, path, options)?;
+        list.add(path)?;
     }
-    Ok(list)
+    list.into_sources(dialects)
 }

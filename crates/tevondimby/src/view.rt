@@ -1,6 +1,7 @@
 //! Files are shown.
 
 use crate::inputs::Inputs;
+use crate::output::unless_closed;
 use crate::run::{FAULT, files_of, path_of};
 use anyhow::Result;
 use clap::ArgMatches;
@@ -9,6 +10,9 @@ use std::io::IsTerminal;
 
 /// How many files are shown before the line of progress is written again.
 const STEP: usize = 100;
+
+/// The exit status if there is no file.
+const NO_FILE: u8 = 1;
 
 /// Names the files that are left out.
 fn report(rt: &HostRuntime, sources: &[Source], faults: &[FileFault]) {
@@ -31,12 +35,19 @@ pub(crate) fn view(rt: &HostRuntime, view: View, matches: &ArgMatches<'_>) -> Re
     let sources = list.sources.as_slice();
     let has_progress = sources.len() > STEP && rt.stderr().is_terminal();
     let mut status = if list.has_faults { FAULT } else { 0 };
+    if sources.is_empty() && !list.has_faults {
+        let _ = eprintln!(rt; "tevondimby: no file");
+        return Ok(NO_FILE);
+    }
     let mut shown: usize = 0;
     for part in sources.chunks(STEP) {
         if has_progress {
             write_progress(rt, shown, sources.len());
         }
-        let summary = show(rt.alloc(), view, &inputs, part, &mut rt.stdout())?;
+        let shown_part = show(rt.alloc(), view, &inputs, part, &mut rt.stdout());
+        let Some(summary) = unless_closed(shown_part)? else {
+            return Ok(status);
+        };
         report(rt, part, summary.faults.as_slice());
         status = status.max(summary.status());
         shown = shown.saturating_add(part.len());

@@ -7,7 +7,8 @@ use Rattle.text_diff.specs.Lines.{Line}
 use Rattle.text_diff.specs.Script.{AreSame, IsChange, IsRun, IsScript}
 use Rattle.text_diff.specs.Hunks.{Row, Hunk, is_near, near_len, group_len, groups, rows_in, last_end, last_new, hunk_from, hunk_to, hunk_new_from, hunk_new_to, hunk_of, hunks, IsGroup}
 use Rattle.text_diff.specs.Patch.{old_count, new_count}
-use Rattle.text_diff.specs.Unified.{header_text, row_text, hunk_text, names_text, unified_text}
+use Rattle.text_diff.specs.Unified.{header_text, row_text, hunk_text, unified_text}
+use Rattle.text_diff.specs.Names.{names_text}
 use Rattle.text_diff.proofs.RunLemmas.{same-lengths}
 use Rattle.text_diff.proofs.PatchLemmas.{counts-run}
 use Rattle.text_diff.proofs.GroupLemmas.{near_len-nil, near_len-near, near_len-far, groups-nil, groups-first, first-hunk, far-next}

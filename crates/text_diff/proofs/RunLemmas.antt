@@ -1,6 +1,6 @@
 -- Lemmas on runs of changes.
 use Rattle.std.proofs.Common.{◌≡◌, ℕ, zero, suc, ◌+◌, ◌-◌, ◌<◌, ◌≤◌, min, Bool, true, false, List, [], ◌∷◌, ◌++◌, length, get_or, take, drop, refl, ap, ap₂, sym, subst, add-one, ◌∙◌, arith, inl, inr, length-take, length-drop, append_assoc}
-use Rattle.std.specs.Prelude.{slice_range}
+use Rattle.std.specs.Prelude.{All, slice_range}
 use Rattle.std.proofs.lemmas.List.{take_more, drop-drop, get_or-drop, take-append-drop, take_all}
 use Rattle.text_diff.specs.declared.change.Change.{Change}
 use Rattle.text_diff.specs.Lines.{Line}
@@ -106,3 +106,8 @@ same-cut old new i j m p q s a b =
         let tail : us ++ cs ≡ vs ++ ds = cc in
         let r = parts us vs cs ds (omega arith) tail in
         (ap₂ (λ (x : Line) (xs : List Line). x ∷ xs) head r.0, r.1)
+
+-- what holds of the only element
+pub all-one : {A : Type 0} (P : A → Type 0) (x : A) → P x → All P (x ∷ [])
+all-one P x p zero d l = p
+all-one P x p (suc k) d l = absurd (omega arith)

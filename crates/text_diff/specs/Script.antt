@@ -1,5 +1,5 @@
 -- Edit scripts: changes that lead from old lines to new ones.
-use Rattle.std.specs.Prelude.{◌≡◌, ◌≤◌, ◌<◌, ◌+◌, ℕ, List, [], ◌∷◌, length, slice_range}
+use Rattle.std.specs.Prelude.{◌≡◌, ◌≤◌, ◌<◌, ◌+◌, ℕ, List, [], ◌∷◌, All, length, slice_index_or, slice_range}
 use Rattle.text_diff.specs.declared.change.Change.{Change}
 use Rattle.text_diff.specs.Lines.{Line}
 
@@ -29,6 +29,14 @@ IsRun old new i j (c ∷ cs) p q =
 -- The changes lead from the old lines to the new ones.
 abbrev pub IsScript : List Line → List Line → List Change → Type 0
 IsScript old new cs = IsRun old new 0 0 cs (length old) (length new)
+
+-- Where a change replaces lines by lines, the first ones differ.
+abbrev pub StartDiffers : List Line → List Line → Change → Type 0
+StartDiffers old new c =
+    c.old_start < length old → c.new_start < length new → slice_index_or old c.old_start [] ≡ slice_index_or new c.new_start [] → ⊥
+
+abbrev pub StartsDiffer : List Line → List Line → List Change → Type 0
+StartsDiffer old new cs = All (StartDiffers old new) cs
 
 -- Old line p and new line q are ahead of i and j; there are `old` and `new` lines.
 pub record IsAhead (old new i j p q : ℕ) : Type 0 where

@@ -4,6 +4,7 @@ use Rattle.std.specs.List.{flat_map, list_any}
 use Rattle.std.specs.Fmt.{decimal}
 use Rattle.text_diff.specs.Lines.{Line, line_feed}
 use Rattle.text_diff.specs.Hunks.{Row, context, removed, added, Hunk}
+use Rattle.text_diff.specs.Names.{names_text}
 use Rattle.text_diff.specs.Patch.{old_count, new_count}
 
 -- Returns true if the line has a line feed, which is its last byte.
@@ -30,10 +31,6 @@ header_text old_start old_count new_start new_count =
 
 unfoldable pub hunk_text : Hunk → List ℕ
 hunk_text h = header_text h.old_start (old_count h.rows) h.new_start (new_count h.rows) ++ flat_map row_text h.rows
-
--- the lines that name the texts; a tab ends a name, so that it may have spaces
-abbrev pub names_text : List ℕ → List ℕ
-names_text path = codes "--- a/" ++ (path ++ (codes "\t\n+++ b/" ++ (path ++ codes "\t\n")))
 
 -- No hunks are no text.
 abbrev pub unified_text : List ℕ → List Hunk → List ℕ

@@ -7,6 +7,7 @@
 mod change;
 pub mod laws;
 mod lines;
+mod names;
 mod rows;
 mod script;
 mod unified;

@@ -2,7 +2,7 @@
 
 ghost use Rattle.std.specs.Prelude.{◌≡◌, ◌≤◌, ◌<◌, ◌+◌, ◌↔◌, [], IsTrue, IfOk, IfSome, length, get_or, map};
 ghost use Rattle.text_diff.specs.Lines.{lines};
-ghost use Rattle.text_diff.specs.Script.{IsAhead, IsScript};
+ghost use Rattle.text_diff.specs.Script.{IsAhead, IsScript, StartsDiffer};
 
 use crate::change::Change;
 use crate::lines::lines;
@@ -76,6 +76,8 @@ fn change_end(old: &[&[u8]], new: &[&[u8]], i: usize, j: usize) -> (usize, usize
 pub(crate) fn script(alloc: Global, old: &[&[u8]], new: &[&[u8]]) -> Result<Vec<Change>, AllocError>
     ensures script { IfOk result (λ changes.
         IsScript (map (λ l. l.now) old.now) (map (λ l. l.now) new.now) changes.items) }
+    ensures differ { IfOk result (λ changes.
+        StartsDiffer (map (λ l. l.now) old.now) (map (λ l. l.now) new.now) changes.items) }
     ensures same { IfOk result (λ changes.
         map (λ l. l.now) old.now ≡ map (λ l. l.now) new.now → changes.items ≡ []) }
 {
@@ -110,6 +112,8 @@ pub(crate) fn script(alloc: Global, old: &[&[u8]], new: &[&[u8]]) -> Result<Vec<
 pub fn line_changes(alloc: Global, old: &[u8], new: &[u8]) -> Result<Vec<Change>, AllocError>
     ensures script { IfOk result (λ changes.
         IsScript (lines old.now) (lines new.now) changes.items) }
+    ensures differ { IfOk result (λ changes.
+        StartsDiffer (lines old.now) (lines new.now) changes.items) }
     ensures same { IfOk result (λ changes. old.now ≡ new.now → changes.items ≡ []) }
 {
     let old = lines(alloc, old)?;

@@ -3,13 +3,15 @@
 ghost use Rattle.std.specs.Prelude.{◌≡◌, ◌≤◌, ◌<◌, ◌+◌, ◌-◌, ◌^◌, ◌++◌, List, [], Some, OnOk, IfOk, length, map};
 ghost use Rattle.std.specs.List.{flat_map};
 ghost use Rattle.text_diff.specs.Lines.{lines};
-ghost use Rattle.text_diff.specs.Script.{IsScript};
+ghost use Rattle.text_diff.specs.Script.{IsScript, StartsDiffer};
+ghost use Rattle.text_diff.specs.declared.change.Change.{Change};
 ghost use Rattle.text_diff.specs.Hunks.{Hunk, is_near, group_len, IsGroup, hunk_of, hunks};
 ghost use Rattle.text_diff.specs.Patch.{patched};
-ghost use Rattle.text_diff.specs.Unified.{range_text, header_text, hunk_text, names_text, unified_text};
+ghost use Rattle.text_diff.specs.Unified.{range_text, header_text, hunk_text, unified_text};
 
 use crate::change::Change;
 use crate::lines::lines;
+use crate::names::push_names;
 use crate::rows::push_group;
 use crate::script::script;
 use std::alloc::{AllocError, Global};
@@ -118,18 +120,6 @@ fn push_hunks(
     Ok(())
 }
 
-/// Appends the lines that name the texts.
-fn push_names(path: &str, text: &mut Vec<u8>) -> Result<(), AllocError>
-    ensures { OnOk result (text.new.items ≡ text.old.items ++ names_text path.now) }
-{
-    text.extend_from_slice(b"--- a/")?;
-    text.extend_from_slice(path.as_bytes())?;
-    text.extend_from_slice(b"\t\n+++ b/")?;
-    text.extend_from_slice(path.as_bytes())?;
-    text.extend_from_slice(b"\t\n")?;
-    Ok(())
-}
-
 /// Returns the text of the hunks of `changes`.
 fn diff_text(
     alloc: Global,
@@ -153,7 +143,8 @@ fn diff_text(
 
 /// Returns a unified diff that makes `new` of `old`, or nothing if the texts are the same.
 ///
-/// `path` names both texts, after `a/` and `b/`, as it is. `patch -p1` and `git apply` read it.
+/// `path` names both texts, after `a/` and `b/`; in quotes, as `git` has them, if it has a control
+/// character, a quote or a backslash. `patch -p1` and `git apply` read it.
 ///
 /// # Errors
 ///
@@ -167,6 +158,11 @@ pub fn unified_diff(
     ensures patches { IfOk result (λ text. (hs : List Hunk)
         × (text.items ≡ unified_text path.now hs)
         × (patched hs (lines old.now) ≡ Some (lines new.now))) }
+    ensures hunks { IfOk result (λ text. (changes : List Change)
+        × IsScript (lines old.now) (lines new.now) changes
+        × StartsDiffer (lines old.now) (lines new.now) changes
+        × (text.items ≡ unified_text path.now
+        (hunks (lines old.now) (lines new.now) changes))) }
     ensures same { IfOk result (λ text. old.now ≡ new.now → text.items ≡ []) }
 {
     let old = lines(alloc, old)?;

@@ -1,4 +1,5 @@
-use Rattle.std.proofs.Common.{rules, ◌≡◌, ◌≤◌, ℕ, List, length, chars, ap, sym, ◌∙◌, subst}
+use Rattle.std.specs.Str.{IsUtf8}
+use Rattle.std.proofs.Common.{rules, ◌≡◌, ◌≤◌, ◌+◌, ℕ, List, length, chars, ap, sym, ◌∙◌, subst}
 use Rattle.syntax_tree.specs.Handle.{element_of, elements_left}
 use Rattle.syntax_tree.specs.Search.{elements}
 use Rattle.syntax_tree.specs.declared.element.SyntaxElement.{SyntaxElement}
@@ -7,14 +8,17 @@ use Rattle.parser_input.specs.declared.edition.Edition.{Edition}
 use Rattle.rust_document.specs.Payload.{RefusesPayload, token_payload}
 use Rattle.rust_document.specs.Renames.{is_plain_name}
 use Rattle.rust_document.specs.Rewrite.{rewritten}
-use Rattle.rust_document.specs.Step.{MAX_TEXT, State, present, root_element}
+use Rattle.rust_document.specs.Commit.{RefusesCommit}
+use Rattle.rust_document.specs.Step.{MAX_TEXT, State, Verdict, present, root_element, verdict}
 use Rattle.rowan_green.specs.Forest.{tree_text}
 use Rattle.renamer.specs.Renamed.{renamed_text}
+use Rattle.renamer.specs.Verdict.{IsRenamed, RefusesRename, rename_verdict, number_after}
 use Rattle.renamer.specs.declared.RenameError.TheVariants.{NoToken, NotRecorded, Refused}
 use Rattle.renamer.proofs.Changes.{changes_after, named-next, other-next}
-use Rattle.renamer.proofs.NewLeaves.{has-text}
-use Rattle.renamer.proofs.PlainRenames.{IfPlain, commit-refused, err-by, plain-renaming, plain-token, record-refused, token-refused}
+use Rattle.renamer.proofs.NewLeaves.{HasText, has-text}
+use Rattle.renamer.proofs.PlainRenames.{IfPlain, commit-refused, err-by, plain-renaming, plain-token, record-memory, record-refused, token-refused}
 use Rattle.renamer.proofs.Walked.{AreOfTree, named-recorded, named-tree, of-tree-rest, renamed-editor, tree-elements}
+use Rattle.renamer.proofs.Verdicts.{verdict-renamed}
 use Rattle.renamer.proofs.rename.Goals.{then-is_named+in_ok-replace, else-is_named}
 use Rattle.renamer.proofs.rename.Goals as goal
 
@@ -23,7 +27,9 @@ loop-element-init c =
     record {
       own = search rules;
       rest = search rules;
-      text = has-text c.edition.result c.args.new.now _ (element_of c.in_ok-token.token) c.utf8.new c.in_ok-token.ensures.given;
+      text =
+          subst (λ (edition : Edition). HasText edition c.args.new.now (element_of c.in_ok-token.token)) c.edition.ensures
+          (has-text c.edition.result c.args.new.now _ (element_of c.in_ok-token.token) c.utf8.new c.in_ok-token.ensures.given);
       leaf = λ h. plain-token c.edition.result c.args.new.now _ (element_of c.in_ok-token.token) (ap (λ (edition : Edition). is_plain_name edition (chars c.args.new.now)) c.edition.ensures ∙ h) c.in_ok-token.ensures.given;
       leaves =
           let all : elements (root_element c.args.document.now) ≡ elements_left c.into_iter-element-iterator.result = search rules in
@@ -116,3 +122,46 @@ returns-in_err-commit-clause-plain c =
     let renaming = plain-renaming document old new token editor (elements (root_element document)) left c.utf8.old c.utf8.new plain (held.leaf plain.new_plain) (named-tree old document.number (present document)) none held.own held.rest in
     let short = subst (λ (text : List ℕ). length text ≤ MAX_TEXT) (sym same) fits in
     commit-refused number _ new why c.in_ok-token.ensures.number (c.in_err-commit.ensures.renames renaming short))
+
+pub returns-clause-renamed : goal.returns-clause-renamed
+returns-clause-renamed c =
+    let held = c.loop-element.invariant in
+    let document = c.args.document.now in
+    let same =
+    verdict-renamed document c.args.old.now held.text.0 (element_of c.loop-element.token-1) (subst IsUtf8 c.text.ensures.text c.text.utf8) c.text.ensures.fits held.text.1 c.loop-element.editor
+    (elements_left c.loop-element.element-iterator) c.in-None.ensures.steps.0 held.own held.rest in
+    record { token = held.text.0; is = held.text.3; accepted = sym same ∙ c.in_ok-commit.ensures.accepted }
+
+pub returns-in_err-token-clause-refused : goal.returns-in_err-token-clause-refused
+returns-in_err-token-clause-refused c =
+    let number = c.args.ids.now in
+    let why = c.in_err-token.field-0.0 in
+    err-by _ (RefusesRename c.args.document.now c.args.old.now c.args.new.now number) (NoToken why) c.from_residual.ensures.1
+    (subst (λ (edition : Edition). RefusesPayload number (token_payload edition c.args.new.now) why) c.edition.ensures c.in_err-token.ensures.refused)
+
+pub returns-in_err-replace-clause-refused : goal.returns-in_err-replace-clause-refused
+returns-in_err-replace-clause-refused c =
+    let document = c.args.document.now in
+    let number = c.args.ids.now in
+    let token = element_of c.loop-element.token-1 in
+    let left = elements_left c.loop-element.element-iterator in
+    let entered = rw c.in_ok-element.was at c.in-Some.ensures.steps in
+    let why = c.in_err-replace.field-0.0 in
+    let recorded =
+    named-recorded c.args.old.now document.number (present document) token c.loop-element.editor c.in_ok-element.element left (elements_left c.next.new.self) entered c.loop-element.invariant.leaves
+    (sym c.is_named.ensures ∙ c.if-is_named.true) (ap (λ (x : Editing). x.top) c.loop-element.invariant.own) in
+    err-by _ (RefusesRename document c.args.old.now c.args.new.now number) (NotRecorded why) c.from_residual-in_err-replace.ensures.1
+    (record-memory document c.args.old.now c.args.new.now _ _ number why recorded c.in_err-replace.ensures.refused)
+
+pub returns-in_err-commit-clause-refused : goal.returns-in_err-commit-clause-refused
+returns-in_err-commit-clause-refused c =
+    let held = c.loop-element.invariant in
+    let document = c.args.document.now in
+    let number = c.args.ids.now in
+    let why = c.in_err-commit.field-0.0 in
+    let same =
+    verdict-renamed document c.args.old.now held.text.0 (element_of c.loop-element.token-1) (subst IsUtf8 c.text.ensures.text c.text.utf8) c.text.ensures.fits held.text.1 c.loop-element.editor
+    (elements_left c.loop-element.element-iterator) c.in-None.ensures.steps.0 held.own held.rest in
+    let refused = subst (λ (n : ℕ). RefusesCommit (verdict document c.loop-element.editor) n why) c.in_ok-token.ensures.number c.in_err-commit.ensures.refused in
+    err-by _ (RefusesRename document c.args.old.now c.args.new.now number) (Refused why) c.from_residual-in_err-commit.ensures.1
+    (held.text.0, held.text.3, subst (λ (v : Verdict). RefusesCommit v (number + 1) why) same refused)

@@ -19,7 +19,7 @@ invariant-loop-element l = record {
   own : l.editor ≡ with_changes (untouched (root_element l.document)) l.editor.changes;
   rest : changes_after l.old (element_of l.token) l.editor.changes (elements_left l.element-iterator)
       ≡ changes_after l.old (element_of l.token) [] (elements (root_element l.document));
-  text : HasText l.new (element_of l.token);
+  text : HasText l.document.edition l.new (element_of l.token);
   leaf : is_plain_name l.document.edition (chars l.new) ≡ true → term_of (element_of l.token) ≡ Some (Token (leaf_of IDENT (encodes (chars l.new))));
   leaves : AreOfTree l.document.number (present l.document) (elements_left l.element-iterator);
 }

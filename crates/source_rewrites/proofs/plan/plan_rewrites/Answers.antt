@@ -1,12 +1,12 @@
 use Rattle.std.proofs.Common.{◌≡◌, ◌∙◌, ◌+◌, ◌++◌, ◌∷◌, [], List, take, ap, sym, subst}
 use Rattle.std.proofs.lemmas.List.{take_more, take_all}
 use Rattle.std.specs.Option.{option_to_list}
-use Rattle.file_target.specs.Files.{Files}
-use Rattle.source_rewrites.specs.Rewrites.{IsRewritableFile, RefusesFile, changes_of}
+use Rattle.file_target.specs.Files.{Files, read_of}
+use Rattle.source_rewrites.specs.Rewrites.{IsRewritableFile, RefusesFile, changes_of, path_of}
 use Rattle.source_rewrites.specs.declared.rewrite.Rewrite.{Rewrite}
 use Rattle.source_rewrites.specs.declared.rewrite.RewriteFault.{RewriteFault}
 use Rattle.source_tools.proofs.PlanLemmas.{IfPlanned, planned-more, plan-memory, plan-refused}
-use Rattle.source_rewrites.proofs.RewriteLemmas.{memory-file}
+use Rattle.source_rewrites.proofs.RewriteLemmas.{memory-can}
 use Rattle.source_rewrites.proofs.plan.plan_rewrites.Goals as goal
 
 pub loop-index-preserved : goal.loop-index-preserved
@@ -25,15 +25,16 @@ pub returns-in-Err : goal.returns-in-Err
 returns-in-Err g c =
     let n = c.args.rule in
     plan-refused (IsRewritableFile n) (changes_of n) (RefusesFile n) c.args.rewrites.now c.loop-index.index c.index-rewrites-index.result c.loop-index-test.true c.index-rewrites-index.is c.in-Err.fault
-    (g.T.Target.files c.args.target.now) c.rewrite_file.result c.in-Err.is c.rewrite_file.ensures
+    c.loop-index.changes.items (g.T.Target.files c.args.target.now) c.rewrite_file.result c.in-Err.is c.loop-index.invariant c.rewrite_file.ensures
 
 pub returns-in-Err-push_change : goal.returns-in-Err-push_change
 returns-in-Err-push_change g c =
     let n = c.args.rule in
     let s = c.index-rewrites-index.result in
     plan-memory (IsRewritableFile n) (changes_of n) (RefusesFile n) c.args.rewrites.now c.loop-index.index s c.loop-index-test.true c.index-rewrites-index.is c.in-Err-push_change.fault
-    (g.T.Target.files c.args.target.now) c.rewrite_file.result c.in-Ok.change c.in-Ok.is
-    (λ (files : Files) (can : IsRewritableFile n files s). subst (λ (e : RewriteFault). RefusesFile n files s e) (sym c.in-Err-push_change.ensures.memory) (memory-file n s files can.0 can.1)) c.rewrite_file.ensures
+    c.loop-index.changes.items (g.T.Target.files c.args.target.now) c.rewrite_file.result c.in-Ok.change c.in-Ok.is
+    (λ (files : Files) (can : IsRewritableFile n files s). subst (λ (e : RewriteFault). RefusesFile n files s e) (sym c.in-Err-push_change.ensures.memory) (memory-can n s (read_of (files (path_of s))) can))
+    c.loop-index.invariant c.rewrite_file.ensures
 
 pub returns : goal.returns
 returns g c =

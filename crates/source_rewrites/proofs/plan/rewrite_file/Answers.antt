@@ -1,16 +1,24 @@
-use Rattle.std.proofs.Common.{◌∙◌, ap, Err}
-use Rattle.file_target.specs.Files.{Files}
-use Rattle.source_rewrites.specs.Rewrites.{RefusesFile, path_of}
-use Rattle.source_tools.specs.declared.source.FileError.TheVariants as errors
+use Rattle.std.proofs.Common.{◌≡◌, Err}
+use Rattle.source_tools.specs.FileErrors.{file_error_of}
+use Rattle.source_tools.proofs.ReadLemmas.{Answer, when-read, when-refused}
+use Rattle.source_rewrites.specs.Rewrites.{IsRewrittenRead, path_of}
 use Rattle.source_rewrites.specs.declared.rewrite.RewriteFault.TheVariants.{File}
-use Rattle.source_tools.proofs.PlanLemmas.{memory-read}
-use Rattle.source_rewrites.proofs.RewriteLemmas.{memory-file}
+use Rattle.source_rewrites.proofs.RewriteLemmas.{memory-error, memory-read, own-error}
 use Rattle.source_rewrites.proofs.plan.rewrite_file.Goals as goal
 
-pub returns-in-Err-NoMemory : goal.returns-in-Err-NoMemory
-returns-in-Err-NoMemory g c =
+pub returns-in-Ok : goal.returns-in-Ok
+returns-in-Ok g c =
     let n = c.args.rule in
-    let rewrite = c.args.rewrite.now in
+    let r = c.args.rewrite.now in
     let gives = rw c.as_str.ensures.value at c.read.ensures in
-    memory-read (λ (files : Files). RefusesFile n files rewrite (File errors.NoMemory)) (path_of rewrite) (memory-file n rewrite)
-    (g.T.Target.files c.args.target.now) c.read.result (c.in-Err-NoMemory.is ∙ ap Err c.in-Err-NoMemory.field-0-is) gives
+    when-read (λ (a : Answer). IsRewrittenRead n r a c.change_of.result) (path_of r) c.in-Ok.contents c.change_of.ensures (g.T.Target.files c.args.target.now) c.read.result c.in-Ok.is gives
+
+pub returns-in-Err : goal.returns-in-Err
+returns-in-Err g c =
+    let n = c.args.rule in
+    let r = c.args.rewrite.now in
+    let e = c.in-Err.error in
+    let gives = rw c.as_str.ensures.value at c.read.ensures in
+    rw c.from.ensures
+    (when-refused (λ (a : Answer). IsRewrittenRead n r a (Err (File (file_error_of e)))) (path_of r) e (own-error n r e) (memory-read n r e) (memory-error n r e)
+    (g.T.Target.files c.args.target.now) c.read.result c.in-Err.is gives)

@@ -1,10 +1,31 @@
+use Rattle.std.proofs.Common.{◌∙◌, ap, length, sym}
 use Rattle.source_rewrites.specs.Rewrites.{IsRewritableFile, changes_of}
-use Rattle.source_tools.proofs.PlanLemmas.{plan-stopped}
+use Rattle.source_tools.proofs.PlanLemmas.{plan-count, plan-failed, plan-stopped}
 use Rattle.source_rewrites.proofs.write.rewrite_files.Goals as goal
+
+pub returns-in-Err-clause-refused : goal.returns-in-Err-clause-refused
+returns-in-Err-clause-refused g c =
+    let n = c.args.rule in
+    plan-failed (IsRewritableFile n) (changes_of n) _ c.args.rewrites.now (g.T.Target.files c.args.target.now) c.plan_rewrites.result c.in-Err.failure c.in-Err.is c.plan_rewrites.ensures
+
+pub returns-in-Ok-write_changes-clause-rewritten : goal.returns-in-Ok-write_changes-clause-rewritten
+returns-in-Ok-write_changes-clause-rewritten g c =
+    let n = c.args.rule in
+    let files = g.T.Target.files c.args.target.now in
+    let after = g.T.Target.files c.write_changes.new.target in
+    let written = rw c.as_slice.ensures.value at c.in-Ok-write_changes.ensures.written in
+    let count = c.len.ensures ∙ sym c.as_slice.ensures.len ∙ ap length c.as_slice.ensures.value in
+    plan-count (IsRewritableFile n) (changes_of n) _ c.args.rewrites.now files after c.plan_rewrites.result c.in-Ok.changes c.len.result c.in-Ok.is c.plan_rewrites.ensures written count
 
 pub returns-clause-stopped : goal.returns-clause-stopped
 returns-clause-stopped g c =
     let n = c.args.rule in
+    let files = g.T.Target.files c.args.target.now in
+    let after = g.T.Target.files c.write_changes.new.target in
+    let v = c.in-Ok.changes in
+    let fault = c.in-Err-write_changes.field-0 in
     let front = rw c.as_slice.ensures.value at c.in-Err-write_changes.ensures.front in
-    plan-stopped (IsRewritableFile n) (changes_of n) _ c.args.rewrites.now (g.T.Target.files c.args.target.now) (g.T.Target.files c.write_changes.new.target) c.plan_rewrites.result c.in-Ok.changes
-    c.in-Err-write_changes.field-0.index c.in-Ok.is c.plan_rewrites.ensures front
+    let within = rw c.as_slice.ensures.value at c.in-Err-write_changes.ensures.index in
+    let failed = rw c.as_slice.ensures.value at c.in-Err-write_changes.ensures.failed in
+    plan-stopped (IsRewritableFile n) (changes_of n) _ c.args.rewrites.now files after c.plan_rewrites.result v fault.index _ c.swap_remove.result fault.error c.in-Ok.is c.plan_rewrites.ensures within front
+    c.swap_remove.ensures.value c.into_path-path.ensures failed

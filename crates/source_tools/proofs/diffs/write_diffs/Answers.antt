@@ -17,10 +17,11 @@ loop-change-preserved g c =
     let text = c.loop-change.invariant.0 in
     let diff = c.in_ok-diff.diff.items in
     let is = rw (c.as_str.ensures.value, c.as_slice.ensures.value, c.as_slice-in-loop-change.ensures.value) at c.in_ok-diff.ensures.patches in
+    let script = rw (c.as_str.ensures.value, c.as_slice.ensures.value, c.as_slice-in-loop-change.ensures.value) at c.in_ok-diff.ensures.hunks in
     let wrote = rw c.as_slice-in-loop-change-2.ensures.value at c.in_ok-write_all.ensures.bytes in
     let before = g.W.Write.contents c.args.writer.now in
     let after = g.W.Write.contents c.write_all.new.self in
     let are : AreDiffs (map change_in (take (c.loop-change.change-index + 1) c.args.changes.now)) (text ++ diff) =
     subst (λ (cs : List Change). AreDiffs cs (text ++ diff)) (sym (ap (λ (cs : List FileChange). map change_in cs) more ∙ map-more change_in done change))
-    (diffs-more (map change_in done) (change_in change) text diff c.loop-change.invariant.1 is) in
+    (diffs-more (map change_in done) (change_in change) text diff c.loop-change.invariant.1 (is, script)) in
     (text ++ diff, are, appends-more before (g.W.Write.contents c.loop-change.writer) after text diff c.loop-change.invariant.2 wrote)

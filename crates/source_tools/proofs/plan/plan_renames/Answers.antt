@@ -1,12 +1,12 @@
-use Rattle.std.proofs.Common.{◌≡◌, ◌∙◌, ◌+◌, ◌++◌, ◌∷◌, [], List, take, ap, sym, subst}
+use Rattle.std.proofs.Common.{◌≡◌, ◌∙◌, ◌+◌, ◌++◌, ◌∷◌, [], List, take, string_bytes, ap, sym, subst}
 use Rattle.std.proofs.lemmas.List.{take_more, take_all}
 use Rattle.std.specs.Option.{option_to_list}
-use Rattle.file_target.specs.Files.{Files}
+use Rattle.file_target.specs.Files.{Files, read_of}
 use Rattle.source_tools.specs.Renames.{IsRenamableFile, RefusesFile, changes_of}
 use Rattle.source_tools.specs.declared.source.Source.{Source}
 use Rattle.source_tools.specs.declared.renaming.RenameFault.{RenameFault}
 use Rattle.source_tools.proofs.PlanLemmas.{IfPlanned, planned-more, plan-memory, plan-refused}
-use Rattle.source_tools.proofs.RenameLemmas.{memory-file}
+use Rattle.source_tools.proofs.RenameLemmas.{memory-can}
 use Rattle.source_tools.proofs.plan.plan_renames.Goals as goal
 
 pub loop-index-preserved : goal.loop-index-preserved
@@ -25,15 +25,16 @@ pub returns-in-Err : goal.returns-in-Err
 returns-in-Err g c =
     let n = c.args.renaming.now in
     plan-refused (IsRenamableFile n) (changes_of n) (RefusesFile n) c.args.sources.now c.loop-index.index c.index-sources-index.result c.loop-index-test.true c.index-sources-index.is c.in-Err.fault
-    (g.T.Target.files c.args.target.now) c.rename_file.result c.in-Err.is c.rename_file.ensures
+    c.loop-index.changes.items (g.T.Target.files c.args.target.now) c.rename_file.result c.in-Err.is c.loop-index.invariant c.rename_file.ensures
 
 pub returns-in-Err-push_change : goal.returns-in-Err-push_change
 returns-in-Err-push_change g c =
     let n = c.args.renaming.now in
     let s = c.index-sources-index.result in
     plan-memory (IsRenamableFile n) (changes_of n) (RefusesFile n) c.args.sources.now c.loop-index.index s c.loop-index-test.true c.index-sources-index.is c.in-Err-push_change.fault
-    (g.T.Target.files c.args.target.now) c.rename_file.result c.in-Ok.change c.in-Ok.is
-    (λ (files : Files) (can : IsRenamableFile n files s). subst (λ (e : RenameFault). RefusesFile n files s e) (sym c.in-Err-push_change.ensures.memory) (memory-file n s files can.0 can.1)) c.rename_file.ensures
+    c.loop-index.changes.items (g.T.Target.files c.args.target.now) c.rename_file.result c.in-Ok.change c.in-Ok.is
+    (λ (files : Files) (can : IsRenamableFile n files s). subst (λ (e : RenameFault). RefusesFile n files s e) (sym c.in-Err-push_change.ensures.memory) (memory-can n s (read_of (files (string_bytes s.path))) can))
+    c.loop-index.invariant c.rename_file.ensures
 
 pub returns : goal.returns
 returns g c =

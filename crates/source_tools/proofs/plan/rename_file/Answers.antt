@@ -1,16 +1,25 @@
-use Rattle.std.proofs.Common.{◌∙◌, ap, Err, string_bytes}
-use Rattle.file_target.specs.Files.{Files}
-use Rattle.source_tools.specs.Renames.{RefusesFile}
-use Rattle.source_tools.specs.declared.source.FileError.TheVariants as errors
+use Rattle.std.proofs.Common.{◌≡◌, ◌∙◌, Err, string_bytes, subst, sym}
+use Rattle.source_tools.specs.Renames.{IsRenamedRead}
+use Rattle.source_tools.specs.declared.renaming.RenameFault.{RenameFault}
 use Rattle.source_tools.specs.declared.renaming.RenameFault.TheVariants.{File}
-use Rattle.source_tools.proofs.PlanLemmas.{memory-read}
-use Rattle.source_tools.proofs.RenameLemmas.{memory-file}
+use Rattle.source_tools.specs.FileErrors.{file_error_of}
+use Rattle.source_tools.proofs.ReadLemmas.{Answer, when-read, when-refused}
+use Rattle.source_tools.proofs.RenameLemmas.{memory-error, memory-read, own-error}
 use Rattle.source_tools.proofs.plan.rename_file.Goals as goal
 
-pub returns-in-Err-NoMemory : goal.returns-in-Err-NoMemory
-returns-in-Err-NoMemory g c =
+pub returns-in-Ok : goal.returns-in-Ok
+returns-in-Ok g c =
     let n = c.args.renaming.now in
     let source = c.args.source.now in
     let gives = rw c.as_str.ensures.value at c.read.ensures in
-    memory-read (λ (files : Files). RefusesFile n files source (File errors.NoMemory)) (string_bytes source.path) (memory-file n source)
-    (g.T.Target.files c.args.target.now) c.read.result (c.in-Err-NoMemory.is ∙ ap Err c.in-Err-NoMemory.field-0-is) gives
+    when-read (λ (a : Answer). IsRenamedRead n source a c.change_of.result) (string_bytes source.path) c.in-Ok.contents c.change_of.ensures (g.T.Target.files c.args.target.now) c.read.result c.in-Ok.is gives
+
+pub returns-in-Err : goal.returns-in-Err
+returns-in-Err g c =
+    let n = c.args.renaming.now in
+    let source = c.args.source.now in
+    let e = c.in-Err.error in
+    let gives = rw c.as_str.ensures.value at c.read.ensures in
+    rw c.from.ensures
+    (when-refused (λ (a : Answer). IsRenamedRead n source a (Err (File (file_error_of e)))) (string_bytes source.path) e (own-error n source e) (memory-read n source e) (memory-error n source e)
+    (g.T.Target.files c.args.target.now) c.read.result c.in-Err.is gives)

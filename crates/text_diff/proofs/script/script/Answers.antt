@@ -1,8 +1,10 @@
 use Rattle.std.proofs.Common.{◌≡◌, ◌+◌, ◌≤◌, ◌<◌, ℕ, List, [], ◌∷◌, map, length, get_or, ap, sym, ◌∙◌, arith}
 use Rattle.std.proofs.lemmas.List.{length-map}
 use Rattle.text_diff.specs.Lines.{Line}
-use Rattle.text_diff.proofs.RunLemmas.{run-extend, run-push, same-step}
+use Rattle.text_diff.proofs.RunLemmas.{all-one, run-extend, run-push, same-step}
 use Rattle.std.proofs.lemmas.Bool.{both_ways}
+use Rattle.std.proofs.lemmas.List.Elements.{All-append}
+use Rattle.text_diff.specs.Script.{StartDiffers}
 use Rattle.text_diff.proofs.script.script.Goals as goal
 use Rattle.text_diff.proofs.script.script.Goals.{then-i-old, else-i-old+then-j-new}
 
@@ -18,6 +20,7 @@ loop-i-preserved-then-is_same c =
       old_line = omega (arith, same.0);
       new_line = omega (arith, same.1);
       run = run-extend old new 0 0 c.loop-i.changes.items c.loop-i.i c.loop-i.j (c.loop-i.i + 1) (c.loop-i.j + 1) c.loop-i.invariant.run step;
+      differ = c.loop-i.invariant.differ;
       same = λ e. let both = c.loop-i.invariant.same e in (both.0, omega (arith, both.1));
     }
 
@@ -35,6 +38,11 @@ loop-i-preserved c =
           rw c.in_ok-push.ensures.items
           (run-push old new 0 0 c.loop-i.changes.items _ c.loop-i.invariant.run
           (record { old_order = ahead.old_order; new_order = ahead.new_order; old_end = omega (arith, ahead.old_end); new_end = omega (arith, ahead.new_end) }));
+      differ =
+          rw c.in_ok-push.ensures.items
+          (All-append (StartDiffers old new) c.loop-i.changes.items _ c.loop-i.invariant.differ
+          (all-one (StartDiffers old new) _
+          (λ within_old within_new equal. both_ways c.is_same.result c.if-is_same.false (c.is_same.ensures.1 (omega (arith, old_len, within_old), omega (arith, new_len, within_new), equal)))));
       same = λ e. absurd (both_ways c.is_same.result c.if-is_same.false (c.is_same.ensures.1 (
           let at = c.loop-i.invariant.same e in
           let size : length c.args.old.now ≡ length c.args.new.now = sym old_len ∙ ap length e ∙ new_len in

@@ -14,7 +14,9 @@ returns c =
     let old-again = ap (λ v. map (λ l. l.now) v) c.as_slice-3.ensures.value ∙ c.in_ok-old.ensures in
     let new-again = ap (λ v. map (λ l. l.now) v) c.as_slice-4.ensures.value ∙ c.in_ok-new.ensures in
     let text = rw (old-again, new-again, c.as_slice-5.ensures.value) at c.in_ok-text.ensures in
+    let differ = rw (old, new) at c.in_ok-changes.ensures.differ in
     record {
+      hunks = (c.in_ok-changes.changes.items, run, differ, text);
       patches = (
         hunks (lines c.args.old.now) (lines c.args.new.now) c.in_ok-changes.changes.items,
         text,

@@ -1,7 +1,12 @@
-use Rattle.std.proofs.Common.{◌≡◌, ◌∙◌, ap, sym, refl, Some}
+use Rattle.std.proofs.Common.{◌≡◌, ◌∙◌, ap, sym, refl, rules, Ok}
 use Rattle.std.proofs.lemmas.Result.{err_from_is_err_and}
-use Rattle.file_target.proofs.FileLemmas.{at-position, read-memory}
+use Rattle.file_target.proofs.FileLemmas.{read-at, read-memory, read-refused}
 use Rattle.file_target.proofs.memory.MemoryTarget.read.Goals as goal
+
+pub returns-in-Some-read_error : goal.returns-in-Some-read_error
+returns-in-Some-read_error c =
+    let p = rw c.as_slice.ensures.value at c.in-Some.ensures in
+    read-refused c.args.self.now.entries.items c.args.path.now c.in-Some.i c.index-entry.result.now c.in-Some-read_error.error p c.index-entry.ensures c.in-Some-read_error.is
 
 pub returns-in_err-bytes : goal.returns-in_err-bytes
 returns-in_err-bytes c =
@@ -12,5 +17,5 @@ returns-in_err-bytes c =
 pub returns : goal.returns
 returns c =
     let p = rw c.as_slice.ensures.value at c.in-Some.ensures in
-    at-position c.args.self.now.entries.items c.args.path.now c.in-Some.i c.index-entry.result.now p c.index-entry.ensures
-    ∙ ap (λ b. Some (record { bytes = b; version = c.index-entry.result.now.version })) (sym (c.in_ok-bytes.ensures.items ∙ c.as_slice-2.ensures.value))
+    read-at c.args.self.now.entries.items c.args.path.now c.in-Some.i c.index-entry.result.now p c.index-entry.ensures (search rules)
+    ∙ ap (λ b. Ok (b, c.index-entry.result.now.version)) (sym (c.in_ok-bytes.ensures.items ∙ c.as_slice-2.ensures.value))
