@@ -48,7 +48,10 @@ class Report:
         begin = time.monotonic()
         with self.lock:
             self.running.append(name)
-        why = call(*arguments)
+        try:
+            why = call(*arguments)
+        except subprocess.TimeoutExpired as error:
+            why = f"it did not end in {error.timeout:.0f} s"
         with self.lock:
             self.running.remove(name)
             if why:
