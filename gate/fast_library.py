@@ -64,9 +64,9 @@ def compile_library(bitcode, folder, root):
 
 
 class LibraryTry(Try):
-    """A run of 'rt try' whose bitcode becomes a library."""
+    """A run of 'rt try' whose bitcode becomes a library. The bitcode stays for seconds, while it is compiled."""
 
-    compiler_file = os.path.realpath(__file__)
+    compiler_file, pause = os.path.realpath(__file__), 0.1
 
 
 def keep(lib):
