@@ -39,6 +39,7 @@ int main(void) {
     printf("rename: %u\n", tevondimby_rename(&document, TEXT("twice"), TEXT("double")));
     print_text();
     print_tree();
-    printf("free: %u, again: %u\n", tevondimby_free(&document), tevondimby_free(&document));
+    printf("free: %u\n", tevondimby_free(&document));
+    printf("free again: %u\n", tevondimby_free(&document));
     return 0;
 }

@@ -32,40 +32,51 @@ static char *text_of(int kind, size_t depth) {
     return text;
 }
 
-/* Opens a text; if it is read, edits it and reads its tree. Returns the code of the opening. */
-static uint32_t read_text(int kind, size_t depth, uint32_t grammar) {
-    tevondimby_handle document = {0};
-    size_t count = 0;
-    tevondimby_element row;
+static uint32_t open_text(tevondimby_handle *document, int kind, size_t depth) {
     char *text = text_of(kind, depth);
-    uint32_t code = tevondimby_open(&document, (const uint8_t *)text, strlen(text), TEV_EDITION_2021, grammar);
-    if (code == TEV_OK) {
-        tevondimby_edit(&document, strlen(KINDS[kind].before), strlen(KINDS[kind].before), (const uint8_t *)" ", 1);
-        tevondimby_tree(&document, &row, 0, &count);
-        tevondimby_rename(&document, (const uint8_t *)"f", 1, (const uint8_t *)"g", 1);
-        tevondimby_free(&document);
-    }
+    uint32_t code = tevondimby_open(document, (const uint8_t *)text, strlen(text), TEV_EDITION_2021, TEV_WHOLE);
     free(text);
     return code;
 }
 
+/* Opens a text of a kind, and returns its code. Nothing stays open. */
+static uint32_t try_open(int kind, size_t depth) {
+    tevondimby_handle document = {0};
+    uint32_t code = open_text(&document, kind, depth);
+    tevondimby_free(&document);
+    return code;
+}
+
+/* Edits a text and reads its tree. Returns how many of the calls fail. */
+static long use_text(int kind, size_t depth) {
+    tevondimby_handle document = {0};
+    tevondimby_element row;
+    size_t count, at = strlen(KINDS[kind].before);
+    long wrong = open_text(&document, kind, depth) != TEV_OK;
+    wrong += tevondimby_edit(&document, at, at, (const uint8_t *)" ", 1) != TEV_OK;
+    wrong += tevondimby_tree(&document, &row, 1, &count) != TEV_SHORT;
+    tevondimby_rename(&document, (const uint8_t *)"f", 1, (const uint8_t *)"g", 1);
+    return wrong + (tevondimby_free(&document) != TEV_OK);
+}
+
 static void *work(void *given) {
     long *wrong = given;
-    for (int kind = 0; kind < COUNT; kind++)
-        for (uint32_t grammar = 0; grammar < 2; grammar++) {
-            size_t least = 1, most = LIMIT;
-            *wrong += read_text(kind, least, grammar) != TEV_OK || read_text(kind, most, grammar) != TEV_TOO_DEEP;
-            while (most - least > 1) {
-                size_t middle = (least + most) / 2;
-                if (read_text(kind, middle, grammar) == TEV_OK)
-                    least = middle;
-                else
-                    most = middle;
-            }
-            if (grammar)
-                printf("%s%s: %zu levels\n", KINDS[kind].open, KINDS[kind].close, least);
-            fflush(stdout);
+    for (int kind = 0; kind < COUNT; kind++) {
+        size_t least = 1, most = LIMIT;
+        *wrong += try_open(kind, least) != TEV_OK || try_open(kind, most) != TEV_TOO_DEEP;
+        while (most - least > 1) {
+            size_t middle = (least + most) / 2;
+            uint32_t code = try_open(kind, middle);
+            *wrong += code != TEV_OK && code != TEV_TOO_DEEP;
+            if (code == TEV_OK)
+                least = middle;
+            else
+                most = middle;
         }
+        *wrong += use_text(kind, least);
+        printf("%s%s: %zu levels\n", KINDS[kind].open, KINDS[kind].close, least);
+        fflush(stdout);
+    }
     return NULL;
 }
 
