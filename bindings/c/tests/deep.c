@@ -55,7 +55,7 @@ static long use_text(int kind, size_t depth) {
     long wrong = open_text(&document, kind, depth) != TEV_OK;
     wrong += tevondimby_edit(&document, at, at, (const uint8_t *)" ", 1) != TEV_OK;
     wrong += tevondimby_tree(&document, &row, 1, &count) != TEV_SHORT;
-    tevondimby_rename(&document, (const uint8_t *)"f", 1, (const uint8_t *)"g", 1);
+    tevondimby_rename(&document, (const uint8_t *)"none", 4, (const uint8_t *)"g", 1);
     return wrong + (tevondimby_free(&document) != TEV_OK);
 }
 

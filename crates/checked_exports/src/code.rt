@@ -1,26 +1,44 @@
 //! The codes that the exports return, as in `bindings/c/tevondimby.h`.
 use document_requests::Refusal;
-use rust_document::{CommitError, EditError, OpenError, PayloadError, RecordError};
 use renamer::RenameError;
+use rust_document::{CommitError, EditError, OpenError, PayloadError, RecordError};
 
 pub const DONE: u32 = 0;
+
 pub const SHORT: u32 = 1;
+
 pub const NOT_UTF8: u32 = 2;
+
 pub const NO_MEMORY: u32 = 3;
+
 pub const NO_SUCH: u32 = 4;
+
 pub const TOO_LONG: u32 = 5;
+
 pub const RANGE: u32 = 6;
+
 pub const NOT_OPEN: u32 = 7;
+
 pub const IS_OPEN: u32 = 8;
+
 pub const NO_NUMBER: u32 = 9;
+
 pub const NO_COMMAND: u32 = 10;
+
 pub const UNFAITHFUL: u32 = 11;
+
 pub const NO_TARGET: u32 = 12;
+
 pub const PAYLOAD: u32 = 13;
+
 pub const NO_PARENT: u32 = 14;
+
 pub const BAD_TARGET: u32 = 15;
+
 pub const INTERSECTING: u32 = 16;
+
 pub const MISSING_MAPPING: u32 = 17;
+
 pub const TOO_DEEP: u32 = 18;
 
 /// Returns the code of an error of an opening.

@@ -171,7 +171,13 @@ impl Kept {
             return Ok(code::TOO_DEEP);
         }
         let mut replies = Vec::new(alloc);
-        apply(alloc, &mut self.document, &commands, &mut replies, &mut self.ids)?;
+        apply(
+            alloc,
+            &mut self.document,
+            &commands,
+            &mut replies,
+            &mut self.ids,
+        )?;
         // The document may have changed: nothing is allocated from here on.
         match replies.pop() {
             Some(Reply::Commit { changed }) => {

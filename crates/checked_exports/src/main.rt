@@ -14,8 +14,10 @@ use document_requests::run::run;
 use handle::Handle;
 use kept::Kept;
 use parser_input::SyntaxKind;
-use rows::{ElementRow, MessageRow, RangeRow, TokenRow};
-use rows::{put_bytes, put_errors, put_ranges, put_tokens, put_tree};
+use rows::{
+    ElementRow, MessageRow, RangeRow, TokenRow, put_bytes, put_errors, put_ranges, put_tokens,
+    put_tree,
+};
 use std::alloc::Global;
 use std::io;
 
@@ -224,7 +226,12 @@ pub extern "C" fn tevondimby_errors(
         return code::NOT_OPEN;
     }
     let kept = handle.take(alloc);
-    let done = put_errors(alloc, &kept.document, (out, written), (words, words_written));
+    let done = put_errors(
+        alloc,
+        &kept.document,
+        (out, written),
+        (words, words_written),
+    );
     handle.fill(kept);
     done
 }

@@ -77,7 +77,10 @@ fn element_row(element: &GreenElementRef<'_>, depth: usize, start: u32) -> Eleme
 }
 
 /// Appends the rows of the elements below the nodes of `levels`, the innermost last, in preorder.
-fn push_below(levels: &mut Vec<Children<'_>>, rows: &mut Vec<ElementRow>) -> Result<(), AllocError> {
+fn push_below(
+    levels: &mut Vec<Children<'_>>,
+    rows: &mut Vec<ElementRow>,
+) -> Result<(), AllocError> {
     let mut offset = 0u32;
     for _ in 0..u64::MAX {
         let depth = levels.len();

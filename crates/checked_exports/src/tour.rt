@@ -4,6 +4,7 @@ use crate::rows::{ElementRow, MessageRow, RangeRow, TokenRow};
 use std::io;
 
 const TEXT: &[u8] = b"fn f() { 1 + ; }";
+
 const COMMIT: &[u8] = b"[{\"do\":\"commit\",\"changes\":[]}]";
 
 /// Writes the codes that the exports return, a call after another.
@@ -11,9 +12,22 @@ pub fn codes(rt: HostRuntime) -> io::Result<()> {
     let alloc = rt.alloc();
     let (mut status, mut n, mut m) = (0u8, 0usize, 0usize);
     let mut out = [0u8; 256];
-    let mut tokens = [TokenRow { kind: 0, start: 0, end: 0 }; 40];
-    let mut elements = [ElementRow { kind: 0, depth: 0, start: 0, end: 0 }; 40];
-    let mut messages = [MessageRow { offset: 0, words_start: 0, words_end: 0 }; 4];
+    let mut tokens = [TokenRow {
+        kind: 0,
+        start: 0,
+        end: 0,
+    }; 40];
+    let mut elements = [ElementRow {
+        kind: 0,
+        depth: 0,
+        start: 0,
+        end: 0,
+    }; 40];
+    let mut messages = [MessageRow {
+        offset: 0,
+        words_start: 0,
+        words_end: 0,
+    }; 4];
     let mut ranges = [RangeRow { start: 0, end: 0 }; 4];
     let mut handle = Handle::closed();
     let run = crate::tevondimby_run(alloc, b"{}", &mut out, &mut n, &mut status);
@@ -28,7 +42,14 @@ pub fn codes(rt: HostRuntime) -> io::Result<()> {
     let of_tokens = crate::tevondimby_tokens(alloc, &mut handle, &mut tokens, &mut n);
     let tree = crate::tevondimby_tree(alloc, &mut handle, &mut elements, &mut n);
     println!(rt; "text {text}, tokens {of_tokens}, tree {tree}")?;
-    let errors = crate::tevondimby_errors(alloc, &mut handle, &mut messages, &mut n, &mut out, &mut m);
+    let errors = crate::tevondimby_errors(
+        alloc,
+        &mut handle,
+        &mut messages,
+        &mut n,
+        &mut out,
+        &mut m,
+    );
     let commit = crate::tevondimby_commit(alloc, &mut handle, COMMIT);
     let changed = crate::tevondimby_changed(alloc, &mut handle, &mut ranges, &mut n);
     println!(rt; "errors {errors}, commit {commit}, changed {changed}")?;
