@@ -6,7 +6,7 @@
  *
  * A handle whose bytes are all 0 is closed. It belongs to one call at a time, is not copied while it is open, and its members are
  * neither read nor written. Each thread may use handles of its own at any time. At a code other than TEV_OK the document is as before.
- * Offsets are in bytes. Reading takes at most 2 MiB of stack. The numbers of kinds are those of this version. */
+ * Offsets are in bytes. 2 MiB of stack suffice for what is not TEV_TOO_DEEP: tried, not proved. The numbers of kinds are those of this version. */
 #ifndef TEVONDIMBY_H
 #define TEVONDIMBY_H
 #include <stddef.h>
@@ -47,7 +47,7 @@ typedef struct { uint32_t kind, depth, start, end; } tevondimby_element;
 /* `words_start` and `words_end` are a range of the bytes of all words. */
 typedef struct { uint32_t offset, words_start, words_end; } tevondimby_message;
 
-/* Answers a request as the program document_tool does; `status` gets its exit status. It has no bound on levels: 8 MiB of stack. */
+/* Answers a request as the program document_tool does; `status` gets its exit status. It has no bound on levels: a deep request may overflow the stack. */
 uint32_t tevondimby_run(const uint8_t *request, size_t request_len, uint8_t *out, size_t out_len, size_t *written, uint8_t *status);
 /* Counts the messages of a text. */
 uint32_t tevondimby_check(const uint8_t *text, size_t text_len, uint32_t edition, uint32_t grammar, size_t *count);
