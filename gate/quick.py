@@ -29,6 +29,8 @@ EXIT_CODE = re.compile(rb"fn main\(.*\) -> ExitCode\b")
 LIMITS = ("--steps", "1", "--seconds", "3600")
 ENDED = re.compile(r"run=ended status=(\d+) .*proved=no")
 REQUESTS, ANSWERING = 300, "document_tool"
+# The last lines of a failure that are shown.
+SHOWN = 20
 
 
 class Report:
@@ -148,12 +150,20 @@ class Quick:
                 part.result()
 
 
+def error_of_bindings():
+    """Returns what fails of the library for C, Rust and Python, or nothing."""
+    ran = subprocess.run([sys.executable, f"{repository.TOP}/gate/bindings.py"], capture_output=True, text=True, errors="replace")
+    return "\n".join((ran.stdout + ran.stderr).splitlines()[-SHOWN:]) if ran.returncode else None
+
+
 def main():
     report = Report()
     thread = threading.Thread(target=report.beat, daemon=True)
     thread.start()
     with tempfile.TemporaryDirectory(prefix="gate-") as room:
         Quick(repository.copy_in(room), room, report).run_all()
+    if os.path.isdir(f"{repository.TOP}/bindings"):
+        report.perform("bindings", error_of_bindings)
     report.ended.set()
     thread.join()
     if report.failed:

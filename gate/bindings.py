@@ -1,0 +1,110 @@
+"""The checks of the library for C, Rust and Python (bindings/), in a folder with lib/ and bindings/ alone.
+
+    python3 gate/bindings.py [--valgrind]
+
+It makes the checked library if lib/ has none that is as new as the sources, and runs the examples and tests of each language whose
+compiler is there. REQUESTS of the requests of requests_suite are answered by each. ./test --quick runs this at its end.
+"""
+import json
+import os
+import shutil
+import struct
+import subprocess
+import sys
+import tempfile
+
+sys.dont_write_bytecode = True
+import fast_library
+from fast_build import is_current_since, stored
+from repository import TOP
+
+REQUESTS = 2000
+EDITS, KIB = 1000, 2048
+# The seconds of a run.
+LIMIT = 900
+EXPORTED = f"{TOP}/lib/BUILD"
+
+
+def cases():
+    """Returns REQUESTS stored requests with their answers, in the form of bindings/c/tests/requests.c."""
+    lines = map(json.loads, stored(f"{TOP}/crates/requests_suite", "stdin").splitlines())
+    found = [(case["request"].encode(), case["output"].encode(), case["status"]) for case in lines if "request" in case]
+    return b"".join(struct.pack("<IIB", len(request), len(output), status) + request + output for request, output, status in found[:REQUESTS])
+
+
+class Checks:
+    """The runs in a folder `room` with copies of lib/ and bindings/, and the failed ones."""
+
+    def __init__(self, room):
+        self.room, self.failed, self.passed = room, [], 0
+        for name in ("lib", "bindings"):
+            shutil.copytree(f"{TOP}/{name}", f"{room}/{name}", ignore=shutil.ignore_patterns("target", "__pycache__"))
+
+    def run(self, name, *words, given=b"", folder="", **more):
+        """Runs a command, and writes its last line. A status other than 0 is a failure."""
+        ran = subprocess.run(words, cwd=f"{self.room}/{folder}", input=given, capture_output=True, timeout=LIMIT, env={**os.environ, **more})
+        lines = (ran.stdout + ran.stderr if ran.returncode else ran.stdout).decode(errors="replace").splitlines() or [""]
+        if ran.returncode:
+            self.failed.append(name)
+            print(f"bindings: {name} FAILED, status {ran.returncode}:", *lines[-12:], sep="\n", flush=True)
+        else:
+            self.passed += 1
+            print(f"bindings: {name}: {lines[-1]}", flush=True)
+        return ran
+
+    def compile(self, source):
+        """Compiles a program of C. Returns its path."""
+        program = f"{self.room}/{os.path.basename(source).removesuffix('.c')}"
+        self.run(f"cc {source}", "cc", "-O1", "-Wall", "-Ibindings/c", f"bindings/c/{source}", "lib/libtevondimby.a", "-lpthread", "-o", program)
+        return program
+
+    def c(self, uses_valgrind):
+        """Runs the example and the tests of C."""
+        self.run("example.c", self.compile("example.c"))
+        self.run("handles.c", self.compile("tests/handles.c"))
+        self.run("refused.c", self.compile("tests/refused.c"))
+        self.run("deep.c", self.compile("tests/deep.c"), str(KIB))
+        edits = self.compile("tests/edits.c")
+        self.run("edits.c", edits, str(EDITS), "8", str(KIB))
+        self.run("requests.c", self.compile("tests/requests.c"), given=cases())
+        if uses_valgrind:
+            words = ("valgrind", "-q", "--error-exitcode=9", "--leak-check=full")
+            self.run("edits.c, valgrind", *words, edits, "100", "2", str(KIB))
+            self.run("handles.c, valgrind", *words, f"{self.room}/handles")
+
+    def rust(self):
+        """Runs the examples and tests of Rust."""
+        folder = "bindings/rust/tevondimby"
+        self.run("cargo test", "cargo", "test", "--offline", "--quiet", folder=folder)
+        self.run("tour.rs", "cargo", "run", "--offline", "--quiet", "--example", "tour", folder=folder)
+        self.run("requests.rs", "cargo", "run", "--offline", "--quiet", "--example", "requests", folder=folder, given=cases())
+
+    def python(self):
+        """Installs the package of Python and runs its example and tests."""
+        packages = f"{self.room}/packages"
+        words = ("-m", "pip", "install", "--no-index", "--quiet", "--target", packages, "./bindings/python")
+        self.run("pip install", sys.executable, *words)
+        for name in ("example", "requests"):
+            given = cases() if name == "requests" else b""
+            self.run(f"{name}.py", sys.executable, f"bindings/python/tests/{name}.py", given=given, PYTHONPATH=packages)
+
+
+def main(words):
+    if not all(map(shutil.which, ("cc", "ar", "objcopy"))):
+        print("bindings: there is no C compiler, so the library is not tried\n0 passed, 0 failed")
+        return 0
+    if not is_current_since(EXPORTED, TOP) and not fast_library.keep(f"{TOP}/lib"):
+        print("0 passed, 1 failed")
+        return 1
+    with tempfile.TemporaryDirectory(prefix="bindings-") as room:
+        checks = Checks(room)
+        checks.c("--valgrind" in words and shutil.which("valgrind"))
+        if shutil.which("cargo"):
+            checks.rust()
+        checks.python()
+    print(f"bindings: {checks.passed} passed, {len(checks.failed)} failed")
+    return int(bool(checks.failed))
+
+
+if __name__ == "__main__":
+    sys.exit(main(sys.argv[1:]))
