@@ -149,8 +149,7 @@ def main(words):
         fail(f"./test takes --quick, --all, --edits or --list, and not {' '.join(words)}")
     with tempfile.TemporaryDirectory(prefix="gate-") as room:
         copied = repository.copy_in(room)
-        if mode != "--all":
-            repository.remove_unproved(copied)
+        repository.remove_unproved(copied, proves_all=mode == "--all")
         selection = select(copied, mode)
         for line in selection.lines():
             write(line)
