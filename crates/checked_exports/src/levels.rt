@@ -13,8 +13,8 @@ pub const LEVELS: usize = 5000;
 struct Frame {
     /// What closes the bracket.
     closing: SyntaxKind,
-    /// Operators, keywords and brackets that were closed: they end at `;`, or at a `,` that stands
-    /// in no generic arguments and no parameters of a closure.
+    /// Operators, keywords and brackets that were closed: they end at `;`, or at a `,` outside
+    /// of generic arguments and of the parameters of a closure.
     pending: usize,
     /// The `<` without a `>`.
     angles: usize,

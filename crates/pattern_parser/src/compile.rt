@@ -12,7 +12,7 @@ use tree_patterns::bones::is_bone;
 use tree_patterns::kinds::{LISTS, is_among};
 use tree_patterns::place::Place;
 
-/// Returns the leaf that stands for a place, with the name of its metavariable.
+/// Returns the leaf of a place in a pattern's tree, with the name of its metavariable.
 fn place_leaf(alloc: Global, place: Place, name: &str) -> Result<GreenElement, PatternError> {
     let kind = rowan_green::SyntaxKind(place.to_raw());
     match GreenToken::new(alloc, kind, name) {

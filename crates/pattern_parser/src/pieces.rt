@@ -38,8 +38,8 @@ fn is_word(leaf: &GreenTokenRef<'_>) -> bool {
     }
 }
 
-/// Adds what so many `$` before a leaf that is none are, and the leaf. Returns `false` if they begin no
-/// metavariable.
+/// Appends a leaf with the `dollars` before it: one or three of them before a name make a metavariable.
+/// Returns `false` if they begin no metavariable.
 fn push_leaf<'a>(
     dollars: u8,
     leaf: GreenTokenRef<'a>,

@@ -1,4 +1,4 @@
-//! Stand-ins: identifiers in the place of metavariables, and texts with them.
+//! Stand-ins: identifiers in place of metavariables, and texts with them.
 
 use crate::pieces::Piece;
 use std::alloc::{AllocError, Global};
@@ -16,7 +16,7 @@ pub enum Spelling {
     Item,
 }
 
-/// A metavariable with the identifier that stands for it.
+/// A metavariable with the identifier in its place.
 #[derive(Drop)]
 pub struct StandIn {
     pub word: String,
@@ -86,7 +86,7 @@ fn push_spelled(text: &mut String, word: &str, spelling: Spelling) -> Result<(),
     Ok(())
 }
 
-/// Returns the text with stand-ins in the place of metavariables, spelled by number.
+/// Returns the text with stand-ins in place of metavariables, spelled by number.
 pub fn spelled_text(
     alloc: Global,
     pieces: &[Piece<'_>],

@@ -47,7 +47,7 @@ fn write_range(out: &mut String, element: &SyntaxElement) -> anyhow::Result<()> 
     Ok(())
 }
 
-/// Writes a match as it stands in a case.
+/// Writes a match in the form that cases have.
 fn write_match(
     alloc: Global,
     out: &mut String,

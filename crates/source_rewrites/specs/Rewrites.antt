@@ -125,7 +125,7 @@ abbrev pub RefusesRewrite : CommitRule → List Rewrite → Option Files → Rew
 RefusesRewrite rule rewrites before (RefusedFile f) = IfSome before (λ files. IsPlan rule files rewrites (Err f))
 RefusesRewrite rule rewrites before (Unwritten path e) = Unit {0}
 
--- what a rewriting has done: the changes of all files are made, so many
+-- what a rewriting has done: the changes of all files are made, and counted
 abbrev pub Rewrites : CommitRule → List Rewrite → Option Files → Option Files → ℕ → Type 0
 Rewrites rule rewrites before after count =
     IfSome before (λ files.

@@ -152,7 +152,7 @@ abbrev pub RefusesRename : Renaming → List Source → Option Files → RenameS
 RefusesRename n sources before (RefusedFile f) = IfSome before (λ files. IsPlan n files sources (Err f))
 RefusesRename n sources before (Unwritten path e) = Unit {0}
 
--- what a renaming has done: the changes of all files are made, so many
+-- what a renaming has done: the changes of all files are made, and counted
 abbrev pub Renames : Renaming → List Source → Option Files → Option Files → ℕ → Type 0
 Renames n sources before after count =
     IfSome before (λ files.

@@ -41,7 +41,7 @@ fn real_paths(rt: &HostRuntime, changes: &[FileChange]) -> Option<Vec<String>> {
 }
 
 /// Names each change as its file is named in the innermost folder that has all of them: the current one,
-/// or one around it, which is told on standard error.
+/// or one around it, which standard error names.
 fn name_changes(rt: &HostRuntime, changes: &mut [FileChange]) -> Result<(), AllocError> {
     let Some(current) = current_folder(rt) else {
         return Ok(());

@@ -31,7 +31,7 @@ weight-append (Token l ∷ xs) ys = omega (arith, weight-append xs ys)
 pub children-forest : (t : Tree) → forest_of (children_of t) ≡ t.forest
 children-forest t = forest_of-terms t.forest
 
--- a node on top of a stack gives way to its children
+-- a node on top of a stack is replaced by its children
 pub node-leaves : (t : Tree) (old new after : List Term) → old ≡ new ++ Node t ∷ [] → after ≡ new ++ reverse (children_of t)
     → leaves_in (reverse old) ≡ leaves_in (reverse after)
 node-leaves t old new after is then =

@@ -9,7 +9,7 @@ use Rattle.tree_patterns.specs.declared.kinds.TheConstants.{EXPRESSIONS, TYPES, 
 use Rattle.tree_patterns.specs.declared.place.Place.{Place}
 use Rattle.tree_patterns.specs.declared.place.Place.TheVariants.{Expression, «Type», Pattern, Path, Segment, NameRef, Name, Token, Sequence, ArraySequence}
 
--- the raw kind of the leaf that stands for a place in the tree of a pattern; no kind of Rust has such a number
+-- the raw kind of a place's leaf in the tree of a pattern; no kind of Rust has such a number
 abbrev pub raw_of_place : Place → ℕ
 raw_of_place Expression = 1024
 raw_of_place «Type» = 1025
@@ -37,7 +37,7 @@ place_of kind =
     if kind == 1033 then Some ArraySequence else
     None
 
--- it stands for any number of elements of a list
+-- it matches any number of elements of a list
 abbrev pub is_sequence : Place → Bool
 is_sequence Sequence = true
 is_sequence ArraySequence = true

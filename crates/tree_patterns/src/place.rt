@@ -30,12 +30,12 @@ pub enum Place {
     ArraySequence,
 }
 
-/// The raw kind of the leaf that stands for the first place in the tree of a pattern. No kind of Rust
-/// has a number that is so large.
+/// The raw kind of the first place's leaf in the tree of a pattern. It is greater than the number of
+/// each kind of Rust.
 pub const FIRST_PLACE: u16 = 1024;
 
 impl Place {
-    /// Returns the raw kind of the leaf that stands for it in the tree of a pattern.
+    /// Returns the raw kind of its leaf in the tree of a pattern.
     pub fn to_raw(self) -> u16
         ensures { result ≡ raw_of_place self }
     {
@@ -72,7 +72,7 @@ impl Place {
         }
     }
 
-    /// Returns `true` if it stands for any number of elements.
+    /// Returns `true` if it matches any number of elements.
     pub fn is_sequence(self) -> bool
         ensures { result ≡ is_sequence self }
     {

@@ -25,12 +25,12 @@ abbrev pub first_is : (SyntaxElement → Bool) → List SyntaxElement → Option
 first_is test [] = None
 first_is test (e ∷ es) = if test e then Some 1 else None
 
--- all elements are taken but so many, if there are so many and the sequence may stand for them
+-- all elements but the last `rest` are taken, if there are that many and the sequence may stand for them
 abbrev pub run_of : Place → ℕ → List SyntaxElement → Option ℕ
 run_of place rest es =
     if nat_le rest (length es) && may_run place (take (length es - rest) es) then Some (length es - rest) else None
 
--- how many elements a leaf of a pattern takes, of those that are left, before so many further elements of the pattern
+-- how many elements a leaf of a pattern takes, of those that are left, before `rest` further elements of the pattern
 abbrev pub taken_by : Option Place → Leaf → ℕ → List SyntaxElement → Option ℕ
 taken_by None l rest es = first_is (is_leaf l) es
 taken_by (Some place) l rest es = if is_sequence place then run_of place rest es else first_is (may_stand place) es
