@@ -6,72 +6,20 @@
     gate/edits.py --anew ..    the edits that a ledger has, too
     gate/edits.py --alone ..   of such a crate also those that no check of several refuses
 
-It works in a copy of the tree, over the libraries that checks have built here from the same sources. Edits of different functions
-are tried by one check (together.py), the others one by one, but of a crate whose functions call one another only if --alone asks for
-it: each takes minutes. A crate's ledger is written as soon as its edits were tried.
+It works in copies of the tree, over the libraries that checks have built here from the same sources (trying.py). Edits of different
+functions are tried by one check, the others one by one, but of a crate whose functions call one another only if --alone asks for it:
+each takes minutes. A crate's ledger is written as soon as its edits were tried.
 """
 import argparse
-import os
 import sys
 import tempfile
-import threading
-import time
 
 import ledger
 import repository
-import together
+import trying
 from gate import write
-from progress import BEAT, minutes
 from repository import fail
 from selection import CYCLES
-
-
-class Heartbeat:
-    """Writes a line each BEAT seconds, in a `with`: a check prints nothing while it runs."""
-
-    def __init__(self, text):
-        self.text, self.ended, self.begin = text, threading.Event(), time.monotonic()
-        self.thread = threading.Thread(target=self.work, daemon=True)
-
-    def work(self):
-        while not self.ended.wait(BEAT):
-            write(f"edits: {self.text}, {minutes(time.monotonic() - self.begin)}")
-
-    def __enter__(self):
-        self.thread.start()
-
-    def __exit__(self, *_):
-        self.ended.set()
-        self.thread.join()
-
-
-def try_together(at, name, tried):
-    """Tries edits of a crate, those of different functions by one check. Removes the files of those that are refused; returns them."""
-    refused = set()
-    for edit, line in together.refused(f"{at}/crates/{name}", [f"{at}/{edit}" for edit in sorted(tried)]):
-        write(f"edits: must-fail {name}/{os.path.basename(edit)}: refused, as it must be, together with others: {line[:160]}")
-        refused.add(os.path.relpath(edit, at))
-        os.remove(edit)
-    return refused
-
-
-def try_alone(at, name, tried):
-    """Tries edits of a crate one by one. Returns those that are refused."""
-    with repository.start_rt(at, "must-fail", name) as ran:
-        lines = []
-        for line in ran.stdout:
-            write(line.rstrip("\n"))
-            lines.append(line)
-    return repository.refused_in(lines, tried)
-
-
-def try_crate(at, name, tried, alone):
-    """Tries edits of a crate. Returns those that are refused, each with how that was seen."""
-    with Heartbeat(f"{name}: {len(tried)} edits are being tried"):
-        both = try_together(at, name, tried)
-        left = {*tried} - both
-        single = try_alone(at, name, left) if left and (alone or name not in CYCLES) else set()
-    return {edit: ledger.TOGETHER if edit in both else ledger.ALONE for edit in both | single}
 
 
 def edits_to_try(sums, rows, asked):
@@ -88,13 +36,9 @@ def edits_to_try(sums, rows, asked):
 def run(copied, sums, wanted, alone):
     """Tries and records the edits of each crate. Returns how many were refused, and how many not."""
     passed, failed = 0, 0
-    for edit in {*sums} - {edit for edits in wanted.values() for edit in edits}:
-        os.remove(f"{copied}/{edit}")
-    for name, edits in wanted.items():
-        refused = try_crate(copied, name, edits, alone)
-        ledger.record(repository.TOP, name, edits, {edit: (sums[edit], how) for edit, how in refused.items()})
-        passed, failed = passed + len(refused), failed + len(edits) - len(refused)
-        write(f"edits: {name}: {len(refused)} of {len(edits)} refused and recorded")
+    for name, refused in trying.try_all(copied, wanted, write, lambda name: alone or name not in CYCLES):
+        ledger.record(repository.TOP, name, wanted[name], {edit: (sums[edit], how) for edit, how in refused.items()})
+        passed, failed = passed + len(refused), failed + len(wanted[name]) - len(refused)
     return passed, failed
 
 

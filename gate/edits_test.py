@@ -70,10 +70,10 @@ class Edits(Repository):
         for path in ("rlib/stamp", "rlib/low.rlib/format", "incremental/kept", "low"):
             write(self.path(f"crates/low/out/{path}"), "built")
         self.run_edits("apart")
-        built = read(f"{self.tried}.built").split()
+        built = read(f"{self.tried}.must-fail").split()
         self.assertEqual(sorted(built), [f"crates/low/out/rlib/{name}" for name in ("low.rlib/format", "stamp")])
         self.run_gate()
-        self.assertEqual(read(f"{self.tried}.built"), "")
+        self.assertEqual(read(f"{self.tried}.ci"), "")
 
 
 if __name__ == "__main__":

@@ -1,5 +1,6 @@
 """Tests of the gate over a small repository with a stand-in for 'rt'."""
 import os
+import re
 import shutil
 import subprocess
 import sys
@@ -144,13 +145,14 @@ class Verdict(Repository):
     """When does a run fail, and what does it leave?"""
 
     def test_failure_of_rt_fails(self):
-        for failure in ({"FAIL": "1"}, {"STOP": "1"}):
-            self.run_gate(**failure)
-            self.assert_end(1, "18 passed, 1 failed")
+        for failure, last in (("FAIL", "0 passed, 2 failed"), ("STOP", "3 passed, 1 failed")):
+            self.assertEqual(self.run_gate(**{failure: "1"}), set())
+            self.assert_end(1, last)
 
     def test_edit_that_is_not_refused_fails_whatever_rt_returns(self):
         self.run_gate(MISS="1")
         self.assert_end(1, "18 passed, 1 failed")
+        self.assertIn("test: FAILED: no open goal refuses crates/apart/must-fail/e0.edit", self.lines)
 
     def test_edit_that_never_reaches_the_prover_has_failed(self):
         self.run_gate(BAD="2")
@@ -158,12 +160,12 @@ class Verdict(Repository):
 
     def test_edit_that_only_a_name_refuses_fails(self):
         self.run_gate(NAMED="1")
-        self.assert_end(1, "19 passed, 1 failed")
+        self.assert_end(1, "18 passed, 1 failed")
         self.assertRegex("\n".join(self.lines), r"e0.edit: refused, as it must be \(only because a proof file names")
 
     def test_failures_are_named_at_the_end(self):
         self.run_gate(FAIL="1")
-        self.assertEqual(self.lines[-6:-2], ["rt: apart NOT PROVED", "== app", "error of app", "rt: app NOT PROVED"])
+        self.assertTrue({"error of low", "rt: low NOT PROVED", "error of apart", "rt: apart NOT PROVED"} <= {*self.lines[-8:-2]}, self.lines)
 
     def test_run_without_counts_fails(self):
         self.run_gate(SILENT="1")
@@ -224,8 +226,8 @@ class Output(Repository):
         self.assertEqual([text for text in ended if text.startswith("app")], ["app: proved", "app: wrote what its file stdout has"])
         self.assertIn("apart: its tests are proved", ended)
         self.assertIn("apart: tests passed", ended)
-        self.assertIn("low: its edits were tried, 0 of them by an earlier run", ended)
-        self.assertTrue(any(line.startswith("test: 10 of 10 done, ") for line in self.lines), self.lines)
+        self.assertTrue(any(line.startswith("test: edits: low: 2 of 2 refused in ") for line in self.lines), self.lines)
+        self.assertTrue(any(line.startswith("test: 7 of 7 done, ") for line in self.lines), self.lines)
 
     def test_kept_proofs_are_named(self):
         self.run_gate(KEPT="low apart")
@@ -248,7 +250,7 @@ class Output(Repository):
     def test_programs_lines_pass(self):
         self.run_gate()
         self.assertIn("a program says: 9 passed, 0 failed", self.lines)
-        self.assertRegex(self.lines[-2], r"test: \d+ processor seconds in all, \d+ s$")
+        self.assertTrue(any(re.match(r"test: \d+ processor seconds in all, \d+ s$", line) for line in self.lines), self.lines)
 
 
 if __name__ == "__main__":

@@ -4,7 +4,7 @@ Each crate has its own ledger, `crates/NAME/must-fail.ledger`, beside the folder
 folder for a bad edit). A row is a sum, how the refusal was seen, and the edit's file name:
 
     alone       by a check of the crate with this edit only
-    together    by one check with edits of other functions (together.py)
+    together    by a check of the functions that it and other edits change (together.py)
     unknown     before ledgers recorded how
 """
 import hashlib

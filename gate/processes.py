@@ -1,10 +1,8 @@
 """The checks below a running 'rt', as /proc shows them: each is a process of the prover with its crate's name as an argument."""
 import os
 
-PROOF, TESTS, EDITS = "proof", "tests", "edits"
+PROOF, TESTS = "proof", "tests"
 TICKS = os.sysconf("SC_CLK_TCK")
-# The prefix of the folders in which 'rt' checks a crate with an edit.
-EDIT_ROOM = "rt-edit-"
 # The place of the word `check` or `build` among a check's arguments.
 VERB = 1
 
@@ -22,9 +20,7 @@ def check_of(pid):
         words = file.read().split("\0")
     if "--crate-name" not in words or words[VERB : VERB + 1] not in (["check"], ["build"]):
         return None
-    room = os.path.basename(os.readlink(f"/proc/{pid}/cwd"))
-    kind = EDITS if room.startswith(EDIT_ROOM) else TESTS if "--test" in words else PROOF
-    return words[words.index("--crate-name") + 1], kind
+    return words[words.index("--crate-name") + 1], TESTS if "--test" in words else PROOF
 
 
 def all_stats():

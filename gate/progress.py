@@ -7,7 +7,8 @@ import time
 
 import ledger
 import repository
-from processes import EDITS, PROOF, TESTS, Checks
+from lanes import LANES
+from processes import PROOF, TESTS, Checks
 
 WEIGHTS = f"{os.path.dirname(os.path.realpath(__file__))}/weights.txt"
 RUN, TEST_RUN = "program", "test run"
@@ -15,8 +16,8 @@ RUN, TEST_RUN = "program", "test run"
 ESTIMATED = "*"
 # A line comes at least this often, in seconds.
 BEAT = 30
-# Processor seconds of what weights.txt does not list: an edit after the first of its crate, and a run of a program or of tests.
-EDIT_SECONDS, RUN_SECONDS = 8, 3
+# Processor seconds of what weights.txt does not list: a run of a program or of tests.
+RUN_SECONDS = 3
 # Of a task that takes longer than its weight, the part of the weight that counts as left.
 LEAST_LEFT = 0.05
 # The processor seconds from which on the stretch of the proofs is measured.
@@ -27,9 +28,6 @@ IS_KEPT = re.compile(r"rt: (\w+) is kept: ")
 PROVED = re.compile(r"rt: (\w+)(: its tests are)? (proved|NOT PROVED)")
 RAN = re.compile(r"rt: (\w+) ran(?: \(built by Rattle's own compiler\))?, and wrote")
 TESTED = re.compile(r"rt: (\w+): its tests (passed|FAILED)")
-OLD_EDITS = re.compile(r"rt: (\w+): (\d+) of its \d+ must-fail edits were tried by an earlier run")
-TRIED = re.compile(r"rt: must-fail (\w+)/(\S+): (refused, as it must be)?")
-BEGUN = re.compile(r"rt: \w+: trying its must-fail edits")
 BLOCK = re.compile(r"== \w+(: its tests)?$")
 DETAIL = re.compile(r"(struct|enum|impl|trait|fn) \S+: proved")
 
@@ -48,40 +46,44 @@ def weights():
 class Plan:
     """The tasks of a run and their weights in processor seconds.
 
-    Tasks are keyed by crate and kind. A crate's proof waits for those of the crates below it; edits wait for both of the crate."""
+    Tasks are keyed by crate and kind. A crate's proof waits for those of the crates below it."""
 
-    def __init__(self, root, tried):
+    def __init__(self, root):
         self.lines = ledger.crate_lines(root)
         self.crates = [*self.lines]
         self.above = {name: [] for name in self.crates}
         for name, line in self.lines.items():
             for library in ledger.libraries(line):
                 self.above.get(library, []).append(name)
-        edits = ledger.by_crate(tried)
         listed = weights()
         self.median = statistics.median(listed.values()) if listed else 1.0
         self.tasks = {}
         for name in self.crates:
-            proof = self.tasks[name, PROOF] = listed.get((name, PROOF), self.median)
+            self.tasks[name, PROOF] = listed.get((name, PROOF), self.median)
             if repository.has_tests(root, name):
                 self.tasks[name, TESTS] = listed.get((name, TESTS), self.median)
                 self.tasks[name, TEST_RUN] = RUN_SECONDS
-            if name in edits:
-                self.tasks[name, EDITS] = proof + EDIT_SECONDS * len(edits[name])
             if repository.is_program(root, name):
                 self.tasks[name, RUN] = 2 * RUN_SECONDS
 
-    def longest_chain(self, left):
-        """Returns the most seconds in `left` of tasks that wait for one another."""
+    def chain(self, name):
+        """Returns the seconds of the longest chain of tasks that begins with the proof of a crate."""
+        return self.chains(self.tasks)[name]
+
+    def chains(self, seconds):
+        """Returns for each crate the most seconds of tasks that wait for one another, from its proof on."""
         known = {}
 
         def chain(name):
             if name not in known:
-                others = [left.get((name, kind), 0) for kind in (EDITS, TESTS)]
-                known[name] = left.get((name, PROOF), 0) + max([*others, *map(chain, self.above[name])])
+                known[name] = seconds.get((name, PROOF), 0) + max([seconds.get((name, TESTS), 0), *map(chain, self.above[name])])
             return known[name]
 
-        return max(map(chain, self.crates), default=0)
+        return {name: chain(name) for name in self.crates}
+
+    def longest_chain(self, left):
+        """Returns the most seconds in `left` of tasks that wait for one another."""
+        return max(self.chains(left).values(), default=0)
 
 
 class Progress:
@@ -91,8 +93,8 @@ class Progress:
         self.plan, self.cores, self.checks, self.clock, self.write = plan, cores, checks, clock, write
         self.begin = self.written = clock()
         self.starts, self.done, self.block = {}, {}, []
-        # The tasks that an earlier run did, the crates that are not proved, and the edits that an earlier run tried, by crate.
-        self.kept, self.failed, self.old_edits = set(), set(), {}
+        # The tasks that an earlier run did, and the crates that are not proved.
+        self.kept, self.failed = set(), set()
         self.alone = threading.RLock()
 
     def sample(self):
@@ -113,12 +115,12 @@ class Progress:
     def left(self):
         """Returns an estimate of the seconds left.
 
-        The work left takes at least its processor seconds on all cores, and at least its longest chain."""
+        The work left takes at least its processor seconds on all cores, and at least its longest chain on a lane's cores."""
         left = {}
         for key, weight in self.plan.tasks.items():
             if key not in self.done:
                 left[key] = max(weight - self.seconds(key), LEAST_LEFT * weight)
-        return self.stretch() * max(sum(left.values()) / self.cores, self.plan.longest_chain(left))
+        return self.stretch() * max(sum(left.values()) / self.cores, self.plan.longest_chain(left) / max(1, self.cores // LANES))
 
     def stretch(self):
         """Returns how many seconds a processor second of the proofs has taken so far, at least 1: more on a busy machine."""
@@ -182,7 +184,7 @@ class Progress:
 
     def end_by(self, text):
         """Ends the task that a line tells the end of. Returns `False` if the line has to be shown."""
-        kept, ran, tested, tried, old = (form.match(text) for form in (IS_KEPT, RAN, TESTED, TRIED, OLD_EDITS))
+        kept, ran, tested = (form.match(text) for form in (IS_KEPT, RAN, TESTED))
         if kept:
             self.kept.add((kept[1], PROOF))
             self.end((kept[1], PROOF), "proof kept from an earlier run")
@@ -190,13 +192,7 @@ class Progress:
             self.end_kept_tests()
             self.end(((ran or tested)[1], RUN if ran else TEST_RUN), f"tests {tested[2]}" if tested else "wrote what its file stdout has")
             return ran or tested[2] == "passed"
-        elif old:
-            self.old_edits[old[1]] = old[2]
-        elif tried:
-            count = self.old_edits.get(tried[1], "0")
-            self.end((tried[1], EDITS), f"its edits were tried, {count} of them by an earlier run")
-            return tried[3]
-        return kept or old or BEGUN.match(text)
+        return kept
 
     def summary(self, total):
         """Returns the last lines: the crates that were kept, and the processor seconds of each crate, the dearest first."""

@@ -8,7 +8,7 @@ import unittest
 from unittest import mock
 
 import progress
-from processes import EDITS, PROOF, TESTS, Checks
+from processes import PROOF, TESTS, Checks
 from stand_in import write
 
 WEIGHTS = {("low", PROOF): 100.0, ("top", PROOF): 40.0, ("top", TESTS): 60.0, ("side", PROOF): 80.0}
@@ -41,7 +41,11 @@ class Progress(unittest.TestCase):
         write(f"{room.name}/crates/top/src/main.rt", "#[test]\n")
         write(f"{room.name}/crates.txt", "low:\ntop: low\nside:\nunlisted:\n")
         with mock.patch("progress.weights", return_value=WEIGHTS):
-            self.plan = progress.Plan(room.name, {"crates/low/must-fail/a.edit", "crates/low/must-fail/b.edit"})
+            self.plan = progress.Plan(room.name)
+        # Each crate is proved by one of the four cores.
+        lanes = mock.patch("progress.LANES", 4)
+        lanes.start()
+        self.addCleanup(lanes.stop)
         self.now, self.lines, self.checks = 0.0, [], StandInChecks()
         self.progress = progress.Progress(self.plan, 4, self.checks, lambda: self.now, self.lines.append)
 
@@ -59,13 +63,16 @@ class Progress(unittest.TestCase):
 
     def test_unlisted_crate_counts_the_median(self):
         self.assertEqual(self.plan.tasks["unlisted", PROOF], 70.0)
-        self.assertEqual(self.plan.tasks["low", EDITS], 100.0 + 2 * progress.EDIT_SECONDS)
 
     def test_time_left_is_at_least_the_longest_chain(self):
-        # the proof of low, and then its edits
-        self.assertEqual(self.progress.left(), 100 + 100 + 2 * progress.EDIT_SECONDS)
+        # the proof of low, and then that of top with its tests
+        self.assertEqual(self.progress.left(), 100 + 40 + 60)
         self.progress.cores = 1
         self.assertEqual(self.progress.left(), sum(self.plan.tasks.values()))
+
+    def test_chain_takes_less_time_on_more_cores(self):
+        with mock.patch("progress.LANES", 2):
+            self.assertEqual(self.progress.left(), (100 + 40 + 60) / 2)
 
     def test_time_left_shrinks_while_a_check_runs_and_grows_on_a_busy_machine(self):
         before = self.progress.left()
@@ -73,11 +80,11 @@ class Progress(unittest.TestCase):
         self.assertEqual(self.progress.left(), before - 60)
         self.run_check("low", PROOF, 300.0, 100.0)
         self.feed("rt: low proved")
-        self.assertEqual(self.progress.left(), 3 * (100 + 2 * progress.EDIT_SECONDS))
+        self.assertEqual(self.progress.left(), 3 * (40 + 60))
 
     def test_running_checks_stretch_the_time_left(self):
         self.run_check("low", PROOF, 100.0, 50.0)
-        self.assertEqual(self.progress.left(), 2 * (50 + 100 + 2 * progress.EDIT_SECONDS))
+        self.assertEqual(self.progress.left(), 2 * (50 + 40 + 60))
 
     def test_time_left_is_never_negative(self):
         for key in self.plan.tasks:
@@ -91,7 +98,7 @@ class Progress(unittest.TestCase):
         self.run_check("side", PROOF, 50.0, 90.0)
         self.feed("== side", "fn side::f: proved", "rt: note: a note", "rt: side proved")
         self.assertEqual(self.lines[0], "rt: note: a note")
-        self.assertRegex(self.lines[1], r"test: 1 of 8 done, 50 s, about \d+ min left: side: proved in 50 s \(90 processor seconds\)$")
+        self.assertRegex(self.lines[1], r"test: 1 of 7 done, 50 s, about \d+ min left: side: proved in 50 s \(90 processor seconds\)$")
         self.assertEqual(len(self.lines), 2)
 
     def test_silence_is_at_most_a_minute(self):
@@ -102,15 +109,10 @@ class Progress(unittest.TestCase):
         self.assertGreaterEqual(len(self.lines), 2)
         self.assertIn("at work: low (proof), side (proof)", self.lines[0])
 
-    def test_failed_program_and_refused_edits(self):
-        self.feed("rt: must-fail low/a.edit: refused, as it must be: ..", "rt: must-fail low/b.edit: NOT REFUSED: ..", "rt: top: its tests FAILED", "rt: top: the program ended with status 1, and not 0")
+    def test_failed_programs_are_shown(self):
+        self.feed("rt: top: its tests FAILED", "rt: top: the program ended with status 1, and not 0")
         shown = [line for line in self.lines if line.startswith("rt: ")]
-        self.assertEqual(shown, ["rt: must-fail low/b.edit: NOT REFUSED: ..", "rt: top: its tests FAILED", "rt: top: the program ended with status 1, and not 0"])
-
-    def test_edits_of_an_earlier_run_are_counted(self):
-        self.feed("rt: low: 2 of its 2 must-fail edits were tried by an earlier run on this machine, and nothing ..", "rt: must-fail low/a.edit: refused, as it must be: ..")
-        self.assertEqual(len(self.lines), 1)
-        self.assertIn("low: its edits were tried, 2 of them by an earlier run", self.lines[0])
+        self.assertEqual(shown, ["rt: top: its tests FAILED", "rt: top: the program ended with status 1, and not 0"])
 
     def test_tests_of_a_failed_crate_are_not_kept(self):
         self.feed("rt: top NOT PROVED: its library low failed", "rt: side ran, and wrote what its file stdout has")
@@ -138,19 +140,17 @@ class Progress(unittest.TestCase):
 class Processes(unittest.TestCase):
     BUSY = "import time\nwhile time.process_time() < 0.4: pass\ntime.sleep(60)"
 
-    def start(self, *words, folder=None):
+    def start(self, *words):
         """Starts a process with the words of a check that is busy for 0.4 seconds. Stops it after the test."""
-        ran = subprocess.Popen([sys.executable, "-c", self.BUSY, *words], executable=sys.executable, cwd=folder)
+        ran = subprocess.Popen([sys.executable, "-c", self.BUSY, *words], executable=sys.executable)
         self.addCleanup(ran.wait)
         self.addCleanup(ran.kill)
 
     def test_checks_below_a_process_are_found(self):
-        room = tempfile.TemporaryDirectory(prefix="rt-edit-1-")
-        self.addCleanup(room.cleanup)
         with mock.patch("processes.VERB", 3):
             self.start("check", "--crate-name", "low")
             self.start("build", "--crate-name", "top", "--test")
-            self.start("check", "--crate-name", "low", folder=room.name)
+            self.start("check", "--crate-name", "low")
             self.start("fmt")
             checks = Checks(os.getpid())
             deadline = time.monotonic() + 60
@@ -158,9 +158,9 @@ class Processes(unittest.TestCase):
                 self.assertLess(time.monotonic(), deadline, checks.seconds)
                 checks.sample()
                 time.sleep(0.05)
-        self.assertEqual(checks.running, {("low", PROOF), ("top", TESTS), ("low", EDITS)})
+        self.assertEqual(checks.running, {("low", PROOF), ("top", TESTS)})
         self.assertEqual({*checks.crates()}, {"low", "top"})
-        self.assertAlmostEqual(checks.crates()["low"], checks.total("low", PROOF) + checks.total("low", EDITS))
+        self.assertAlmostEqual(checks.crates()["low"], checks.total("low", PROOF))
 
 
 if __name__ == "__main__":

@@ -21,6 +21,8 @@ UNPROVED = re.compile(r"no proof: .*`search` did not prove `")
 UNTRIED = re.compile(r"note: `search` has not tried the goals of `([^`]*)`")
 # An error that says little of a contract: a proof names what an edit removed, or cites another proof that has an error.
 OF_NAMES = re.compile(r"has no field|is not in scope|has no `|was not admitted")
+# An error of a check that reached no proof: the file and the line.
+BROKEN = re.compile(r"(?:\./)?(src/\S+?):(\d+):\d+: error\b")
 # The folder of a cycle of calls, below that of its module.
 CYCLE = re.compile(r"proofs/(.*?)/?\+\w+/")
 
@@ -214,14 +216,48 @@ def waiting_in(lines, tried):
     return {edit for edit, body, _ in tried if any(is_named(body, name) for name in calls)}
 
 
-def refused(folder, edits):
-    """Tries edits of a crate in rounds. Yields those that are refused, each with a line of the check, after each round."""
-    left = {*edits}
-    while True:
-        tried = of_different_functions(folder, left)
-        lines = check(folder, edited(folder, tried), {body.name for _, body, _ in tried}) if tried else []
-        now = refused_in(lines, tried)
-        if not now:
-            return
-        left -= {edit for edit, _, _ in tried} - (waiting_in(lines, tried) - {*now})
+def broken_in(folder, lines, tried):
+    """Returns the edits of a round that do not compile, by a check that reached no proof: an error lies in the body that they change."""
+    if said_in(lines):
+        return set()
+    places = {(found[1], int(found[2])) for found in map(BROKEN.match, lines) if found}
+    broken = set()
+    for edit, body, made in tried:
+        file = made[0][0]
+        text = read(f"{folder}/{file}")
+        # (an edit is made of whole lines, so the numbers of lines stay)
+        first, last = (text.count("\n", 0, at) + 1 for at in (body.first, body.end))
+        if any(it == file and first <= line <= last for it, line in places):
+            broken.add(edit)
+    return broken
+
+
+def try_round(folder, tried):
+    """Tries the edits of a round by one check. Returns its lines."""
+    return check(folder, edited(folder, tried), {body.name for _, body, _ in tried})
+
+
+def refused(folder, edits, tries_alone=True):
+    """Tries edits of a crate in rounds. Yields those that are refused, each with a line of the check, after each round.
+
+    An edit that does not compile is left out of the next round. When a round refuses none, those that are left are tried one by one
+    if `tries_alone`."""
+    left, aside = {*edits}, set()
+    while tried := of_different_functions(folder, left - aside):
+        lines = try_round(folder, tried)
+        now, broken = refused_in(lines, tried), broken_in(folder, lines, tried)
         yield from now.items()
+        left -= {*now}
+        if not now and not broken:
+            break
+        aside |= broken or {edit for edit, _, _ in tried} - waiting_in(lines, tried)
+    if tries_alone:
+        yield from alone(folder, left)
+
+
+def alone(folder, edits):
+    """Tries edits of a crate one by one, those that change one body. Yields those that are refused, each with a line of the check."""
+    for edit in sorted(edits):
+        tried = of_different_functions(folder, [edit])
+        if tried:
+            yield from refused_in(try_round(folder, tried), tried).items()

@@ -178,7 +178,27 @@ class Together(unittest.TestCase):
             found = [edit for edit, _ in together.refused(self.folder, edits)]
         finally:
             together.check = own
-        self.assertEqual(([os.path.basename(edit) for edit in found], checks), (["a", "b"], ["acd", "bd", "d"]))
+        self.assertEqual(([os.path.basename(edit) for edit in found], checks), (["a", "b"], ["acd", "bd", "d", "c", "d"]))
+
+    def test_edits_that_do_not_compile_are_left_out(self):
+        edits = [self.edit("a", ("m + n", "m +")), self.edit("b", ("self.0 + 1", "1")), self.edit("c", ("f.pad", "f.put"))]
+        checks = []
+
+        def check(folder, texts, names):
+            (text,) = texts.values()
+            checks.append("".join(edit for edit, old in (("a", "m + n"), ("b", "self.0 + 1"), ("c", "f.pad")) if old not in text))
+            if "m +\n" in text:
+                return ["src/part.rt:15:9: error: expected an operand"]
+            return ["./proofs/part/Counter/count/Answers.antt:3:1: error: `goal`", "fn n::part::Counter::count: not proved", "fn n::part::CounterDisplay::fmt: proved"]
+
+        together.check, own = check, together.check
+        try:
+            found = [os.path.basename(edit) for edit, _ in together.refused(self.folder, edits)]
+            also = [*together.refused(self.folder, edits[::2], tries_alone=False)]
+        finally:
+            together.check = own
+        self.assertEqual((found, also), (["b"], []))
+        self.assertEqual(checks, ["abc", "bc", "a", "c", "ac", "c"])
 
     def test_check_restores_files(self):
         with self.assertRaises(OSError):

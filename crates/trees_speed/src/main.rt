@@ -1,7 +1,8 @@
 //! Builds a tree of a million tokens, counts its tokens, walks through it with cursors and drops
 //! it, once with few names that recur and once with a new name in each statement. With the argument
 //! `lists` it then edits and searches a node of a million children, and walks over the children of
-//! roots. The counts go to standard output, the times to standard error.
+//! roots. With `tenth` all trees have a tenth of that. The counts go to standard output, the times
+//! to standard error.
 #![tactic(auto)]
 
 use rowan::{SyntaxNode, WalkEvent};
@@ -14,12 +15,22 @@ use std::{env, io};
 mod lists;
 mod statements;
 
-/// The number of children of the node that is edited; then the numbers of edit rounds and searches.
+/// The number of blocks of a tree, of 100 tokens each.
+const BLOCKS: u32 = 10_000;
+
+/// The number of children of the node that is edited, and of searches in it.
 const CHILDREN: u32 = 1_000_000;
 
+/// The number of rounds of edits.
 const ROUNDS: usize = 1000;
 
-const SEARCHES: u32 = 1_000_000;
+/// What to measure.
+#[derive(Clone, Copy)]
+struct Plan {
+    blocks: u32,
+    children: u32,
+    wants_lists: bool,
+}
 
 /// Returns the number of tokens below `node`.
 fn tokens_below(node: &GreenNodeRef<'_>) -> u64 {
@@ -74,9 +85,9 @@ fn walk(rt: &HostRuntime, green: GreenNode) -> io::Result<()> {
     println!(rt; "{events} {bytes} {nodes}")
 }
 
-fn measure(rt: &HostRuntime, names: u32) -> io::Result<()> {
+fn measure(rt: &HostRuntime, blocks: u32, names: u32) -> io::Result<()> {
     let start = Instant::now(rt)?;
-    let Ok(green) = tree(rt.alloc(), names) else {
+    let Ok(green) = tree(rt.alloc(), blocks, names) else {
         return println!(rt; "out of memory");
     };
     let built = start.elapsed(rt)?.as_micros();
@@ -87,9 +98,9 @@ fn measure(rt: &HostRuntime, names: u32) -> io::Result<()> {
     walk(rt, green)
 }
 
-/// Edits a node of many children, searches it, and walks over children of a root.
-fn measure_lists(rt: &HostRuntime) -> io::Result<()> {
-    let Ok(wide) = lists::node_of(rt.alloc(), CHILDREN) else {
+/// Edits a node of many children, searches it as often, and walks over children of a root.
+fn measure_lists(rt: &HostRuntime, children: u32) -> io::Result<()> {
+    let Ok(wide) = lists::node_of(rt.alloc(), children) else {
         return println!(rt; "out of memory");
     };
     let start = Instant::now(rt)?;
@@ -97,14 +108,14 @@ fn measure_lists(rt: &HostRuntime) -> io::Result<()> {
         return println!(rt; "out of memory");
     };
     let made = start.elapsed(rt)?.as_micros();
-    let sum = lists::found(&edited, SEARCHES);
+    let sum = lists::found(&edited, children);
     let searched = start.elapsed(rt)?.as_micros().saturating_sub(made);
     eprintln!(rt;
-        "{CHILDREN} children: {ROUNDS} times three edits in {made}, {SEARCHES} searches in {searched} microseconds"
+        "{children} children: {ROUNDS} times three edits in {made}, as many searches as children in {searched} microseconds"
     )?;
     println!(rt; "{} {sum}", edited.text_len().0)?;
-    walk_children(rt, CHILDREN / 10)?;
-    walk_children(rt, CHILDREN)
+    walk_children(rt, children / 10)?;
+    walk_children(rt, children)
 }
 
 /// Walks over the children of a root with `children` children.
@@ -120,20 +131,31 @@ fn walk_children(rt: &HostRuntime, children: u32) -> io::Result<()> {
     println!(rt; "{sum}")
 }
 
-/// Returns `true` if the program's last argument is `lists`.
-fn wants_lists(rt: &HostRuntime) -> io::Result<bool> {
-    let mut lists = false;
+/// Returns what the arguments ask for.
+fn planned(rt: &HostRuntime) -> io::Result<Plan> {
+    let mut plan = Plan {
+        blocks: BLOCKS,
+        children: CHILDREN,
+        wants_lists: false,
+    };
     for word in env::args(rt)? {
-        lists = word.as_str() == "lists";
+        if word.as_str() == "lists" {
+            plan.wants_lists = true;
+        }
+        if word.as_str() == "tenth" {
+            plan.blocks = BLOCKS / 10;
+            plan.children = CHILDREN / 10;
+        }
     }
-    Ok(lists)
+    Ok(plan)
 }
 
 fn main(rt: HostRuntime) -> io::Result<()> {
-    measure(&rt, 100)?;
-    measure(&rt, 0)?;
-    if wants_lists(&rt)? {
-        measure_lists(&rt)?;
+    let plan = planned(&rt)?;
+    measure(&rt, plan.blocks, 100)?;
+    measure(&rt, plan.blocks, 0)?;
+    if plan.wants_lists {
+        measure_lists(&rt, plan.children)?;
     }
     Ok(())
 }

@@ -25,8 +25,6 @@ const SIGN: SyntaxKind = SyntaxKind(9);
 
 const NUMBER: SyntaxKind = SyntaxKind(10);
 
-const BLOCKS: u32 = 10_000;
-
 const STATEMENTS: u32 = 10;
 
 /// The language of the tree: its kinds are the raw ones.
@@ -112,12 +110,13 @@ fn block(
     builder.finish_node()
 }
 
-/// Returns the tree, with `names` names that recur in turn; if 0, with a new one in each statement.
-pub(crate) fn tree(alloc: Global, names: u32) -> Result<GreenNode, GreenError> {
+/// Returns the tree of `blocks` blocks, with `names` names that recur in turn; if 0, with a new one
+/// in each statement.
+pub(crate) fn tree(alloc: Global, blocks: u32, names: u32) -> Result<GreenNode, GreenError> {
     let mut builder = GreenNodeBuilder::new(alloc);
     let mut text = String::new(alloc);
     builder.start_node(ROOT)?;
-    for i in 0..BLOCKS {
+    for i in 0..blocks {
         block(&mut builder, &mut text, i.wrapping_mul(STATEMENTS), names)?;
     }
     builder.finish_node()?;

@@ -1,0 +1,127 @@
+"""Proves the crates of a tree beside each other, each by 'rt ci NAME' on processors of its own.
+
+'rt ci' with no names gives a proof the processors that are idle when it begins. The crates that all others wait for begin beside many
+small ones: each gets one processor, and keeps it to its end while others idle. Here two crates at most are proved at a time, those with
+the longest chain of crates above them first, each on half of the processors, or on all if no other can begin. What passes is kept on
+this machine, and the 'rt ci' that follows takes it from there.
+"""
+import importlib.machinery
+import importlib.util
+import os
+import re
+import shutil
+import sys
+import threading
+
+import ledger
+import repository
+from selection import CYCLES
+
+# The crates that are proved beside each other. More of them take more memory, and end no sooner.
+LANES = 2
+# Beside a crate of CYCLES, which takes most of the memory, only crates of fewer lines than this are proved.
+LINES_BESIDE_A_CYCLE = 12_000
+# What 'rt' says if it cannot keep proofs: then each crate would have all below it proved again.
+NOT_KEPT = re.compile(r"rt: note: .*(nothing is kept|not kept)")
+NOT_PROVED = re.compile(r"rt: .* NOT PROVED")
+BLOCK = re.compile(r"== \w+")
+
+
+def kit():
+    """Returns the kit's command 'rt' as a module."""
+    folder = os.path.dirname(os.path.realpath(shutil.which("rt")))
+    sys.path.insert(0, folder)
+    loader = importlib.machinery.SourceFileLoader("rt_module", f"{folder}/rt")
+    module = importlib.util.module_from_spec(importlib.util.spec_from_loader("rt_module", loader))
+    sys.modules["rt_module"] = module
+    loader.exec_module(module)
+    return module
+
+
+def kept(root):
+    """Prints the crates of a tree whose proofs this machine keeps, and gives the tree what those built."""
+    rt = kit()
+    os.chdir(root)
+    rt.Crate.allowed, rt.Crate.cuts_libraries = rt.handles_of(root), True
+    crates = rt.crates_of(root)
+    store, found = rt.Kept(crates), set()
+    for crate in crates:
+        # (the key of a crate is of the libraries that are built below it)
+        if all(it.name in found for it in crate.below()) and store.give(crate, False, store.key(crate)):
+            store.is_built(crate)
+            found.add(crate.name)
+            print(crate.name)
+
+
+def kept_crates(root):
+    """Returns the crates of a tree whose proofs this machine keeps; none if that cannot be told: it saves some seconds a crate."""
+    lines = repository.output_of([sys.executable, "-B", os.path.realpath(__file__), root]).split()
+    return {name for name in lines if name in ledger.crate_lines(root)}
+
+
+class Lanes:
+    """The proofs of a tree's crates. `read` gets the lines that 'rt' writes of a crate, once its proof has ended."""
+
+    def __init__(self, root, plan, kept_already, read):
+        self.root, self.plan, self.read = root, plan, read
+        self.proved, self.running = {*kept_already}, {}
+        # The crates that are not proved; whether no further proof begins.
+        self.failed, self.is_stopped = [], False
+        self.left = sorted((name for name in plan.crates if name not in self.proved), key=plan.chain, reverse=True)
+        self.free, self.turn = sorted(os.sched_getaffinity(0)), threading.Condition()
+
+    def lines_of(self, name):
+        """Returns the number of lines of a crate's files."""
+        files = [file for part in ledger.PARTS for file in ledger.files_below(f"{self.root}/crates/{name}/{part}")]
+        return sum(ledger.read(file).count(b"\n") for file in files)
+
+    def has_room(self, name):
+        """Returns `True` if a crate can be proved beside those that are being proved."""
+        if not self.running:
+            return True
+        if name in CYCLES:
+            return all(self.lines_of(it) < LINES_BESIDE_A_CYCLE for it in self.running)
+        return not CYCLES & {*self.running} or self.lines_of(name) < LINES_BESIDE_A_CYCLE
+
+    def ready(self):
+        """Returns the crates whose proofs can begin, those with the longest chain above first."""
+        libraries = {name: {*ledger.libraries(self.plan.lines[name])} & {*self.plan.crates} for name in self.left}
+        return [name for name in self.left if libraries[name] <= self.proved and self.has_room(name)]
+
+    def start(self):
+        """Begins the proofs for which there are processors."""
+        while not self.is_stopped and self.free and len(self.running) < LANES and (ready := self.ready()):
+            count = max(1, len(self.free) // min(LANES - len(self.running), len(ready)))
+            cores, self.free = self.free[:count], self.free[count:]
+            self.left.remove(ready[0])
+            self.running[ready[0]] = threading.Thread(target=self.prove, args=(ready[0], cores))
+            self.running[ready[0]].start()
+
+    def prove(self, name, cores):
+        """Proves a crate."""
+        with repository.start_rt(self.root, "ci", name, cores=cores) as ran:
+            lines = [*ran.stdout]
+        with self.turn:
+            # (of the crates below it says that they are kept)
+            begin = next((at for at, line in enumerate(lines) if BLOCK.match(line)), len(lines))
+            self.read([line for line in lines[begin:-1] if not line.startswith(f"rt: {name} and the crates below")])
+            self.is_stopped = self.is_stopped or ran.returncode != 0 or any(map(NOT_KEPT.match, lines))
+            if ran.returncode == 0:
+                self.proved.add(name)
+            elif any(map(NOT_PROVED.match, lines)):
+                self.failed.append(name)
+            self.free = sorted([*self.free, *cores])
+            del self.running[name]
+            self.turn.notify()
+
+    def run(self):
+        """Proves the crates, until all are proved or one is not."""
+        with self.turn:
+            self.start()
+            while self.running:
+                self.turn.wait()
+                self.start()
+
+
+if __name__ == "__main__":
+    kept(os.path.realpath(sys.argv[1]))

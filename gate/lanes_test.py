@@ -1,0 +1,93 @@
+"""Tests of the order in which crates are proved, and of their processors."""
+import os
+import tempfile
+import threading
+import unittest
+from unittest import mock
+
+import lanes
+import progress
+from stand_in import Repository, read, write
+
+LINES = "low:\nother:\ntop: low other\ngrammar_reader: low\nlarge:\n"
+
+
+class Order(Repository):
+    def lanes(self):
+        """Returns the crates that the last run proved each by itself, in order."""
+        return read(f"{self.tried}.lanes").split()
+
+    def test_crate_waits_for_its_libraries(self):
+        self.run_gate()
+        order = self.lanes()
+        self.assertEqual({*order}, {"app", "apart", "low", "middle"})
+        self.assertTrue(order.index("low") < order.index("middle") < order.index("app"), order)
+        self.assertEqual(order[-1], "app")
+
+    def test_nothing_is_proved_apart_if_nothing_is_kept(self):
+        self.run_gate(UNKEPT="1")
+        self.assertEqual(sorted(self.lanes()), ["apart", "low"])
+        self.assertEqual(self.status, 0)
+        self.assertIn("app: proved", [line.partition(" left: ")[2] for line in self.lines])
+
+    def test_nothing_more_is_proved_after_a_failure(self):
+        self.run_gate(FAIL="1")
+        self.assertEqual(sorted(self.lanes()), ["apart", "low"])
+
+
+class Processors(unittest.TestCase):
+    """Two libraries, a program over both, a crate whose functions call one another, and a large one; no proof ends by itself."""
+
+    def setUp(self):
+        room = tempfile.TemporaryDirectory(prefix="gate-test-")
+        self.addCleanup(room.cleanup)
+        write(f"{room.name}/crates.txt", LINES)
+        for name in ("low", "other", "grammar_reader", "large"):
+            write(f"{room.name}/crates/{name}/src/lib.rt", "\n" * (lanes.LINES_BESIDE_A_CYCLE if name == "large" else 1))
+        write(f"{room.name}/crates/top/src/main.rt", "")
+        self.root, self.given = room.name, {}
+
+    def make(self, *kept, cores=4):
+        """Returns the lanes over the tree, where these crates are kept, and begins what can begin. Stores the cores of each crate."""
+
+        def prove(name, some):
+            self.given[name] = len(some)
+
+        with mock.patch("progress.weights", return_value={}), mock.patch("os.sched_getaffinity", return_value={*range(cores)}):
+            made = lanes.Lanes(self.root, progress.Plan(self.root), {*kept}, None)
+        made.prove = prove
+        self.start(made)
+        return made
+
+    def start(self, made):
+        made.start()
+        for thread in threading.enumerate():
+            if thread in made.running.values():
+                thread.join()
+
+    def test_two_crates_share_the_cores(self):
+        self.make("large", "grammar_reader")
+        self.assertEqual(self.given, {"low": 2, "other": 2})
+
+    def test_one_crate_has_all_cores(self):
+        self.make("low", "other", "large", "grammar_reader")
+        self.assertEqual(self.given, {"top": 4})
+
+    def test_one_core_proves_one_crate(self):
+        self.make(cores=1)
+        self.assertEqual([*self.given.values()], [1])
+
+    def test_no_large_crate_is_proved_beside_a_cycle(self):
+        made = self.make("low", "other", "top")
+        self.assertEqual(sorted(self.given), ["grammar_reader"])
+        self.assertEqual(made.left, ["large"])
+
+
+class Kept(Repository):
+    def test_without_the_kit_nothing_is_known_to_be_kept(self):
+        with mock.patch.dict(os.environ, {"PATH": f"{self.kit}/bin:{os.environ['PATH']}"}):
+            self.assertEqual(lanes.kept_crates(self.top), set())
+
+
+if __name__ == "__main__":
+    unittest.main()
