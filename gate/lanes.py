@@ -1,9 +1,9 @@
-"""Proves the crates of a tree beside each other, each by 'rt ci NAME' on processors of its own.
+"""Proves the crates of a tree beside each other, each by 'rt ci NAME'.
 
 'rt ci' with no names gives a proof the processors that are idle when it begins. The crates that all others wait for begin beside many
-small ones: each gets one processor, and keeps it to its end while others idle. Here two crates at most are proved at a time, those with
-the longest chain of crates above them first, each on half of the processors, or on all if no other can begin. What passes is kept on
-this machine, and the 'rt ci' that follows takes it from there.
+small ones: each gets one processor, and keeps it to its end while others idle. 'rt ci NAME' proves a crate on half of the processors.
+Here two crates at most are proved at a time, those with the longest chain of crates above them first. What passes is kept on this
+machine, and the 'rt ci' that follows takes it from there.
 """
 import importlib.machinery
 import importlib.util
@@ -19,7 +19,8 @@ from selection import CYCLES
 
 # The crates that are proved beside each other. More of them take more memory, and end no sooner.
 LANES = 2
-# Beside a crate of CYCLES, which takes most of the memory, only crates of fewer lines than this are proved.
+# Beside a crate of CYCLES, which takes most of the memory, only crates of fewer lines than this are proved. It begins by itself: 'rt'
+# counts the memory that is free then, and proves it on one processor if that is not twice what it may take.
 LINES_BESIDE_A_CYCLE = 12_000
 # What 'rt' says if it cannot keep proofs: then each crate would have all below it proved again.
 NOT_KEPT = re.compile(r"rt: note: .*(nothing is kept|not kept)")
@@ -68,7 +69,7 @@ class Lanes:
         # The crates that are not proved; whether no further proof begins.
         self.failed, self.is_stopped = [], False
         self.left = sorted((name for name in plan.crates if name not in self.proved), key=plan.chain, reverse=True)
-        self.free, self.turn = sorted(os.sched_getaffinity(0)), threading.Condition()
+        self.turn = threading.Condition()
 
     def lines_of(self, name):
         """Returns the number of lines of a crate's files."""
@@ -79,27 +80,29 @@ class Lanes:
         """Returns `True` if a crate can be proved beside those that are being proved."""
         if not self.running:
             return True
-        if name in CYCLES:
-            return all(self.lines_of(it) < LINES_BESIDE_A_CYCLE for it in self.running)
-        return not CYCLES & {*self.running} or self.lines_of(name) < LINES_BESIDE_A_CYCLE
+        return name not in CYCLES and (not CYCLES & {*self.running} or self.lines_of(name) < LINES_BESIDE_A_CYCLE)
 
     def ready(self):
-        """Returns the crates whose proofs can begin, those with the longest chain above first."""
+        """Returns the crates whose libraries are proved, those with the longest chain above first."""
         libraries = {name: {*ledger.libraries(self.plan.lines[name])} & {*self.plan.crates} for name in self.left}
-        return [name for name in self.left if libraries[name] <= self.proved and self.has_room(name)]
+        return [name for name in self.left if libraries[name] <= self.proved]
+
+    def next(self):
+        """Returns the crate whose proof begins next, or nothing. One of CYCLES waits until no other is being proved, and the others for it."""
+        ready = self.ready()
+        first = [name for name in ready if name in CYCLES] or ready
+        return next((name for name in first if self.has_room(name)), None)
 
     def start(self):
-        """Begins the proofs for which there are processors."""
-        while not self.is_stopped and self.free and len(self.running) < LANES and (ready := self.ready()):
-            count = max(1, len(self.free) // min(LANES - len(self.running), len(ready)))
-            cores, self.free = self.free[:count], self.free[count:]
-            self.left.remove(ready[0])
-            self.running[ready[0]] = threading.Thread(target=self.prove, args=(ready[0], cores))
-            self.running[ready[0]].start()
+        """Begins proofs while there is room."""
+        while not self.is_stopped and len(self.running) < LANES and (name := self.next()):
+            self.left.remove(name)
+            self.running[name] = threading.Thread(target=self.prove, args=(name,))
+            self.running[name].start()
 
-    def prove(self, name, cores):
+    def prove(self, name):
         """Proves a crate."""
-        with repository.start_rt(self.root, "ci", name, cores=cores) as ran:
+        with repository.start_rt(self.root, "ci", name) as ran:
             lines = [*ran.stdout]
         with self.turn:
             # (of the crates below it says that they are kept)
@@ -110,7 +113,6 @@ class Lanes:
                 self.proved.add(name)
             elif any(map(NOT_PROVED.match, lines)):
                 self.failed.append(name)
-            self.free = sorted([*self.free, *cores])
             del self.running[name]
             self.turn.notify()
 

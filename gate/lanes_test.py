@@ -1,7 +1,6 @@
-"""Tests of the order in which crates are proved, and of their processors."""
+"""Tests of the order in which crates are proved."""
 import os
 import tempfile
-import threading
 import unittest
 from unittest import mock
 
@@ -35,7 +34,7 @@ class Order(Repository):
         self.assertEqual(sorted(self.lanes()), ["apart", "low"])
 
 
-class Processors(unittest.TestCase):
+class Room(unittest.TestCase):
     """Two libraries, a program over both, a crate whose functions call one another, and a large one; no proof ends by itself."""
 
     def setUp(self):
@@ -45,42 +44,41 @@ class Processors(unittest.TestCase):
         for name in ("low", "other", "grammar_reader", "large"):
             write(f"{room.name}/crates/{name}/src/lib.rt", "\n" * (lanes.LINES_BESIDE_A_CYCLE if name == "large" else 1))
         write(f"{room.name}/crates/top/src/main.rt", "")
-        self.root, self.given = room.name, {}
+        self.root, self.begun = room.name, []
 
-    def make(self, *kept, cores=4):
-        """Returns the lanes over the tree, where these crates are kept, and begins what can begin. Stores the cores of each crate."""
-
-        def prove(name, some):
-            self.given[name] = len(some)
-
-        with mock.patch("progress.weights", return_value={}), mock.patch("os.sched_getaffinity", return_value={*range(cores)}):
+    def make(self, *kept):
+        """Returns the lanes over the tree, where these crates are kept, and begins what can begin. Stores the crates."""
+        with mock.patch("progress.weights", return_value={}):
             made = lanes.Lanes(self.root, progress.Plan(self.root), {*kept}, None)
-        made.prove = prove
-        self.start(made)
+        made.prove = self.begun.append
+        made.start()
         return made
 
-    def start(self, made):
-        made.start()
-        for thread in threading.enumerate():
-            if thread in made.running.values():
-                thread.join()
-
-    def test_two_crates_share_the_cores(self):
+    def test_two_crates_are_proved_at_a_time(self):
         self.make("large", "grammar_reader")
-        self.assertEqual(self.given, {"low": 2, "other": 2})
+        self.assertEqual(self.begun, ["low", "other"])
 
-    def test_one_crate_has_all_cores(self):
-        self.make("low", "other", "large", "grammar_reader")
-        self.assertEqual(self.given, {"top": 4})
+    def test_crate_waits_for_its_libraries(self):
+        self.make("low", "large", "grammar_reader")
+        self.assertEqual(self.begun, ["other"])
 
-    def test_one_core_proves_one_crate(self):
-        self.make(cores=1)
-        self.assertEqual([*self.given.values()], [1])
+    def test_cycle_waits_for_those_that_are_proved_and_others_for_it(self):
+        made = self.make("other", "top", "large")
+        self.assertEqual(self.begun, ["low"])
+        made.proved.add("low")
+        made.left.append("large")
+        made.start()
+        self.assertEqual(self.begun, ["low"])
+        made.running.clear()
+        made.start()
+        self.assertEqual(self.begun, ["low", "grammar_reader"])
 
     def test_no_large_crate_is_proved_beside_a_cycle(self):
         made = self.make("low", "other", "top")
-        self.assertEqual(sorted(self.given), ["grammar_reader"])
-        self.assertEqual(made.left, ["large"])
+        self.assertEqual((self.begun, made.left), (["grammar_reader"], ["large"]))
+        made.left.append("top")
+        made.start()
+        self.assertEqual((self.begun, made.left), (["grammar_reader", "top"], ["large"]))
 
 
 class Kept(Repository):

@@ -78,12 +78,10 @@ def restore_builds(copied):
                 shutil.move(f"{source}/{new}", target)
 
 
-def start_rt(at, *words, cores=()):
-    """Starts 'rt' in a folder, on some cores or on all; its standard output can be read by lines."""
-    on = ["taskset", "-c", ",".join(map(str, cores))] if cores else []
-    environ = dict(os.environ) if cores else environment()
-    how = {"cwd": at, "env": environ, "stdout": subprocess.PIPE, "stdin": subprocess.DEVNULL, "errors": "replace"}
-    return subprocess.Popen([*on, "rt", *words], **how)
+def start_rt(at, *words):
+    """Starts 'rt' in a folder; its standard output can be read by lines."""
+    how = {"cwd": at, "env": environment(), "stdout": subprocess.PIPE, "stdin": subprocess.DEVNULL, "errors": "replace"}
+    return subprocess.Popen(["rt", *words], **how)
 
 
 def output_of(words):
