@@ -18,16 +18,12 @@ use Rattle.rust_productions.specs.Reads.{looks, Reads, Saw, is_on}
 use Rattle.rust_productions.specs.declared.condition.Condition.{Condition}
 use Rattle.rust_productions.specs.declared.condition.Condition.TheVariants.{Off}
 use Rattle.rust_productions.proofs.ByHand.{reads-else, reads-or, reads-then, reads-unless, reads-when}
-use Rattle.rust_productions.proofs.Seen.{saw-either-left, saw-either-right, saw-no-left}
+use Rattle.rust_productions.proofs.Seen.{saw-both, saw-either-left, saw-either-right, saw-no-left}
 use Rattle.rust_productions.proofs.Turns.{EndsAtEnd}
 
 pub saw-denied : {c : Condition} {b : Bool} {l : Look} {v : View} → Saw c l v b → Saw c (Not l) v (not b)
 unfolding sees
 saw-denied saw = record { at = λ s e. ap not (saw.at s e) }
-
-pub saw-both : {c : Condition} {b : Bool} {l m : Look} {v : View} → Saw c l v true → Saw c m v b → Saw c (Both l m) v b
-unfolding sees
-saw-both f g = record { at = λ s e. rw (f.at s e) (g.at s e) }
 
 pub saw-never : {c : Condition} {b : Bool} {l : Look} {v : View} → Saw c l v b → Saw c (Either l Never) v b
 unfolding sees

@@ -20,7 +20,7 @@ use Rattle.rust_grammar.specs.Words.{'r_curly'}
 use Rattle.grammar_reader.specs.Told.{ends_of, listing_of}
 use Rattle.grammar_reader.specs.declared.grammar.list_end.ListEnd.{ListEnd}
 use Rattle.grammar_reader.specs.declared.grammar.list_end.ListEnd.TheVariants as list_ends
-use Rattle.grammar_reader.proofs.Elements.{saw-both, saw-denied}
+use Rattle.grammar_reader.proofs.Elements.{saw-denied}
 use Rattle.grammar_reader.proofs.Seeing.{left-there, left-some}
 use Rattle.rust_productions.specs.Looks.{tokens}
 use Rattle.rust_productions.specs.Reads.{looks, FromStart, Gives, Reads, Saw}
@@ -29,7 +29,7 @@ use Rattle.rust_productions.specs.declared.condition.Condition.TheVariants.{Off}
 use Rattle.rust_productions.proofs.ByHand.{goes, reads-more}
 use Rattle.rust_productions.proofs.Choices.{gives-from_start}
 use Rattle.rust_productions.proofs.Facts.{nothing, ◌and◌}
-use Rattle.rust_productions.proofs.Seen.{saw-no-left, saw-told, starts-here}
+use Rattle.rust_productions.proofs.Seen.{saw-both, saw-no-left, saw-told, starts-here}
 use Rattle.rust_productions.proofs.Turns.{EndsAtEnd}
 
 -- Each list ends where no token is left, one in braces at its brace as well, and none at any other token.

@@ -67,10 +67,6 @@ reads-expected c {d} {a} {m} p = record {
 pub gives-look : {x : Production} {c : Condition} {old mid new : View} → Does (λ (s : Reading). s) old mid → Gives x c mid new → Gives x c old new
 gives-look p q = record { does = does-then p q.does }
 
--- after a node was closed
-pub saw-closed : {c : Condition} {b : Bool} {l : Look} {kind : ℕ} {old new : View} → Closes kind old new → Saw c l old b → Saw c l new b
-saw-closed o saw = record { at = λ s e. saw.at s (sym o.rest ∙ e) }
-
 -- adds to the known facts whether a production begins here, with nothing given before it
 pub begun-from_start : (x : Production) {c : Condition} {b : Bool} {fs : List Fact} {v : View} → Saw c (from_start (looks x)) v b → Known c fs v → Known c (Begins x b ∷ fs) v
 begun-from_start x saw k = record { at = λ s e. (saw.at s e, k.at s e) }

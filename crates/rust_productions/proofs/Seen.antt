@@ -9,7 +9,7 @@ use Rattle.rust_productions.specs.Stands.{left}
 use Rattle.rust_grammar.specs.Rule.{Production, Spelling, Look, Always, Never, Kind, Contextual, Joint, Whole, Left, InCondition, Given, Both, Either, Not, Rule, One, Call, begins, shift, from_start}
 use Rattle.rust_grammar.specs.Meaning.{Reading, ahead, sees, fresh, leaf, read}
 use Rattle.rust_grammar.specs.Whole.{rule}
-use Rattle.rust_productions.specs.Reads.{looks, Opens, Leaves, Does, Reads, Saw, Condition, On, Off, is_on}
+use Rattle.rust_productions.specs.Reads.{looks, Closes, Opens, Leaves, Does, Reads, Saw, Condition, On, Off, is_on}
 use Rattle.rust_grammar.proofs.Elsewhere.{from_start-seen}
 use Rattle.rust_grammar.proofs.WholeTable.{whole-begins}
 use Rattle.rust_productions.proofs.Facts.{Fact, Answers, Begins, HoldAll, Known, Right, and_l, and_r, tells, starts, is_told, is_start}
@@ -204,3 +204,12 @@ saw-none l m {c} {fs} {v} known saw then_so = record { at = λ s e. one s (sees 
 pub saw-of-whole : {c : Condition} {b : Bool} {l : Look} {v : View} → Saw c (Whole 0) v true → Saw c (Both (Whole 0) l) v b → Saw c l v b
 unfolding sees
 saw-of-whole {c} {b} {l} whole both = record { at = λ s e. sym (ap (λ (w : Bool). if w then sees (is_on c) s l else false) (whole.at s e)) ∙ both.at s e }
+
+-- what is seen before a node is closed is there after it
+pub saw-closed : {c : Condition} {b : Bool} {l : Look} {kind : ℕ} {old new : View} → Closes kind old new → Saw c l old b → Saw c l new b
+saw-closed o saw = record { at = λ s e. saw.at s (sym o.rest ∙ e) }
+
+-- two looks, of which the first sees what it asks
+pub saw-both : {c : Condition} {b : Bool} {l m : Look} {v : View} → Saw c l v true → Saw c m v b → Saw c (Both l m) v b
+unfolding sees
+saw-both f g = record { at = λ s e. rw (f.at s e) (g.at s e) }

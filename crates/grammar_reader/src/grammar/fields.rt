@@ -1,17 +1,17 @@
 //! Fields of record expressions and of record patterns.
 
-ghost use Rattle.std.specs.Prelude.{◌≡◌, ◌≤◌, ◌+◌, true};
-ghost use Rattle.parser_input.specs.Kinds.{IDENT_PAT, RECORD_EXPR_FIELD, RECORD_PAT_FIELD};
+ghost use Rattle.std.specs.Prelude.{◌≤◌, true};
+ghost use Rattle.parser_input.specs.Kinds.{RECORD_EXPR_FIELD, RECORD_PAT_FIELD};
 ghost use Rattle.parser_events.specs.Stack.{IsInnermost};
-ghost use Rattle.rust_grammar.specs.Calls.{Expression, Name, Pattern};
+ghost use Rattle.rust_grammar.specs.Calls.{Expression, Pattern};
 ghost use Rattle.rust_grammar.specs.Notation.{◌▸◌, ⁅◌⁆, ◌!, ◌⟨◌⟩};
 ghost use Rattle.rust_grammar.specs.Rule as rules;
 ghost use Rattle.rust_grammar.specs.Rule.{One, begins};
-ghost use Rattle.rust_grammar.specs.Shared.{attributed, field_name, ident_or_int};
-ghost use Rattle.rust_grammar.specs.Words.{':', 'mut', 'ref'};
+ghost use Rattle.rust_grammar.specs.Shared.{attributed, field_name};
+ghost use Rattle.rust_grammar.specs.Words.{':'};
 ghost use Rattle.rust_grammar.specs.Expressions as expression_rows;
 ghost use Rattle.rust_grammar.specs.Patterns as pattern_rows;
-ghost use Rattle.rust_productions.specs.Looks.{tokens, spent, Takes, Asks};
+ghost use Rattle.rust_productions.specs.Looks.{tokens, Takes, Asks};
 ghost use Rattle.rust_productions.specs.Reads.{looks, FromStart, Completes, Gives, Reads, Saw};
 ghost use Rattle.rust_productions.specs.declared.condition.Condition.{Condition};
 
@@ -21,12 +21,11 @@ use crate::grammar::expressions::{Level, expect_expression, expression};
 use crate::grammar::items::attributes;
 use crate::grammar::parts::{Part, expect_part};
 use crate::grammar::paths::{Mode, path_with_args};
-use crate::grammar::patterns::rest_pat;
 use parser_input::syntax_kind::SyntaxKind;
 use rust_productions::condition::Condition;
 use rust_productions::grammar::expressions::at_expression;
-use rust_productions::grammar::names::{expect_name, name};
-use rust_productions::grammar::patterns::{at_attributed_named_field, at_named_field};
+use rust_productions::grammar::fields::{any_binding, name_of_field, shorthand};
+use rust_productions::grammar::patterns::{at_attributed_named_field, at_named_field, rest_pat};
 use rust_productions::marker::Marker;
 use rust_productions::parser::Parser;
 
@@ -92,33 +91,6 @@ fn value_after_attributes(p: &mut Parser<'_>, node: Marker, condition: Condition
     }
     const_path(p);
     node.complete(p, SyntaxKind::RECORD_EXPR_FIELD);
-}
-
-/// Parses the token of a field's name or number.
-// a
-fn name_or_number(p: &mut Parser<'_>)
-    requires { 1 ≤ tokens p.old }
-    ensures reads { (c : Condition) → Reads c ident_or_int p.old p.new }
-    ensures left { tokens p.new + 1 ≡ tokens p.old }
-    ensures looks { spent p.new + 4095 ≤ spent p.old }
-{
-    match p.current() {
-        SyntaxKind::IDENT => p.take(SyntaxKind::IDENT),
-        _ => p.take(SyntaxKind::INT_NUMBER),
-    }
-}
-
-/// Parses the name or the number of a field.
-// 0
-fn name_of_field(p: &mut Parser<'_>)
-    requires { 1 ≤ tokens p.old }
-    ensures reads { (c : Condition) → Reads c field_name p.old p.new }
-    ensures left { tokens p.new + 1 ≡ tokens p.old }
-    ensures looks { spent p.new + 4095 ≤ spent p.old }
-{
-    let node = p.start();
-    name_or_number(p);
-    node.complete(p, SyntaxKind::NAME_REF);
 }
 
 /// Parses a field of a record expression with its value.
@@ -242,19 +214,6 @@ fn after_attributes(p: &mut Parser<'_>, node: Marker)
     node.complete(p, SyntaxKind::RECORD_PAT_FIELD);
 }
 
-/// Parses the binding of a shorthand field; emits an error if there is no name.
-// ref mut a
-fn any_binding(p: &mut Parser<'_>)
-    ensures reads { (c : Condition) → Reads c (IDENT_PAT ⟨ pattern_rows.binding ⟩) p.old p.new }
-    ensures asks { Asks 3 p.old p.new }
-{
-    let node = p.start();
-    p.eat(SyntaxKind::REF_KW);
-    p.eat(SyntaxKind::MUT_KW);
-    expect_name(p);
-    node.complete(p, SyntaxKind::IDENT_PAT);
-}
-
 /// Parses a field of a record pattern with its pattern.
 // a: Some(b)
 #[cycle(grammar)]
@@ -269,57 +228,4 @@ fn named_pattern(p: &mut Parser<'_>)
     p.take(SyntaxKind::COLON);
     expect_part(p, Part::Pattern);
     node.complete(p, SyntaxKind::RECORD_PAT_FIELD);
-}
-
-/// Parses a shorthand field of a record pattern.
-// ref mut a
-fn shorthand(p: &mut Parser<'_>)
-    requires begins { (c : Condition) → Saw c (begins looks pattern_rows.binding) p.old true }
-    requires some { 1 ≤ tokens p.old }
-    ensures reads { (c : Condition) → Reads c pattern_rows.shorthand p.old p.new }
-    ensures takes { Takes 4090 p.old p.new }
-{
-    let field = p.start();
-    let pattern = p.start();
-    bound_name(p);
-    pattern.complete(p, SyntaxKind::IDENT_PAT);
-    field.complete(p, SyntaxKind::RECORD_PAT_FIELD);
-}
-
-/// Parses a name with an optional `ref` and an optional `mut`.
-// ref mut a
-fn bound_name(p: &mut Parser<'_>)
-    requires begins { (c : Condition) → Saw c (begins looks pattern_rows.binding) p.old true }
-    requires some { 1 ≤ tokens p.old }
-    ensures reads { (c : Condition) → Reads c pattern_rows.binding p.old p.new }
-    ensures takes { Takes 4090 p.old p.new }
-{
-    match p.current() {
-        SyntaxKind::REF_KW => name_after_ref(p),
-        SyntaxKind::MUT_KW => name_after_mut(p),
-        _ => name(p),
-    }
-}
-
-/// Parses a name with `ref` and an optional `mut`.
-// ref mut a
-fn name_after_ref(p: &mut Parser<'_>)
-    requires { 1 ≤ tokens p.old }
-    ensures reads { (c : Condition) → Reads c (One 'ref' ▸ ⁅ One 'mut' ⁆ ▸ Name !) p.old p.new }
-    ensures takes { Takes 4094 p.old p.new }
-{
-    p.take(SyntaxKind::REF_KW);
-    p.eat(SyntaxKind::MUT_KW);
-    expect_name(p);
-}
-
-/// Parses a name with `mut`.
-// mut a
-fn name_after_mut(p: &mut Parser<'_>)
-    requires { 1 ≤ tokens p.old }
-    ensures reads { (c : Condition) → Reads c (One 'mut' ▸ Name !) p.old p.new }
-    ensures takes { Takes 4095 p.old p.new }
-{
-    p.take(SyntaxKind::MUT_KW);
-    expect_name(p);
 }

@@ -18,9 +18,8 @@ use crate::grammar::patterns::single_pattern;
 use crate::grammar::types::{any_type, opt_ret_type};
 use parser_events::message::Message;
 use parser_input::syntax_kind::SyntaxKind;
-use rust_productions::grammar::item_words::{opt_abi, read_abi};
 use rust_productions::grammar::pattern_ranges::take_three_dots;
-use rust_productions::grammar::types::{at_named_param, at_type};
+use rust_productions::grammar::types::{at_named_param, at_type, fn_ptr_words};
 use rust_productions::parser::Parser;
 
 /// Parses a function pointer type.
@@ -36,27 +35,6 @@ pub(crate) fn fn_ptr_type(p: &mut Parser<'_>)
     expect_part(p, Part::FnPtrParams);
     opt_ret_type(p);
     node.complete(p, SyntaxKind::FN_PTR_TYPE);
-}
-
-/// Parses the words before the parameters.
-// unsafe extern "C" fn
-fn fn_ptr_words(p: &mut Parser<'_>)
-    requires begins { Starts rows.fn_ptr_begins p.old }
-    ensures reads { (c : Condition) → Reads c rows.fn_ptr_words p.old p.new }
-    ensures takes { Takes 4080 p.old p.new }
-{
-    match p.current() {
-        SyntaxKind::UNSAFE_KW => {
-            p.take(SyntaxKind::UNSAFE_KW);
-            opt_abi(p);
-            p.expect(SyntaxKind::FN_KW);
-        }
-        SyntaxKind::EXTERN_KW => {
-            read_abi(p);
-            p.expect(SyntaxKind::FN_KW);
-        }
-        _ => p.take(SyntaxKind::FN_KW),
-    }
 }
 
 /// Parses a parameter.

@@ -1,17 +1,17 @@
 //! Arguments of generics.
 
-ghost use Rattle.std.specs.Prelude.{◌≡◌, ◌≤◌, ◌+◌, false};
+ghost use Rattle.std.specs.Prelude.{◌≤◌, ◌+◌, false};
 ghost use Rattle.parser_input.specs.Kinds as kinds;
 ghost use Rattle.parser_input.specs.Kinds.{ASSOC_TYPE_ARG, CONST_ARG, NAME_REF};
-ghost use Rattle.rust_grammar.specs.Calls.{AnyType, Literal};
+ghost use Rattle.rust_grammar.specs.Calls.{AnyType};
 ghost use Rattle.rust_grammar.specs.Notation.{◌▸◌, ◌!, ◌⟨◌⟩, wide};
 ghost use Rattle.parser_events.specs.Stack.{IsInnermost};
 ghost use Rattle.rust_grammar.specs.Rule as rules;
 ghost use Rattle.rust_grammar.specs.Rule.{Kind, One};
 ghost use Rattle.rust_grammar.specs.Whole.{rule};
-ghost use Rattle.rust_grammar.specs.Words.{'=', '-', 'ident'};
+ghost use Rattle.rust_grammar.specs.Words.{'=', 'ident'};
 ghost use Rattle.rust_grammar.specs.Paths as rows;
-ghost use Rattle.rust_productions.specs.Looks.{tokens, spent, Takes, Asks, TakesIn, AsksIn};
+ghost use Rattle.rust_productions.specs.Looks.{tokens, Takes, Asks, TakesIn, AsksIn};
 ghost use Rattle.rust_productions.specs.Reads.{looks, FromStart, Gives, Reads, Saw};
 ghost use Rattle.rust_productions.specs.Starts.{Starts};
 ghost use Rattle.rust_productions.specs.declared.condition.Condition.{Condition};
@@ -21,10 +21,13 @@ use crate::grammar::expressions::blocks::block;
 use crate::grammar::generic_params::bounds;
 use crate::grammar::parts::{Part, expect_part};
 use crate::grammar::paths::{Mode, next_segments, opt_type_args};
-use crate::grammar::types::{any_type, opt_plus_bounds, type_of_path, word_type};
+use crate::grammar::types::{any_type, opt_plus_bounds};
 use parser_input::syntax_kind::SyntaxKind;
-use rust_productions::grammar::generic_args::{at_const_value, at_new_arg, at_single_colon};
-use rust_productions::grammar::names::{at_literal, expect_literal, lifetime, literal, name_ref};
+use rust_productions::grammar::generic_args::{
+    at_const_value, at_new_arg, at_single_colon, lifetime_arg, literal_arg, negative_arg,
+};
+use rust_productions::grammar::names::{at_literal, name_ref};
+use rust_productions::grammar::types::{type_of_path, word_type};
 use rust_productions::marker::Marker;
 use rust_productions::parser::Parser;
 
@@ -141,45 +144,6 @@ fn front_of_type(p: &mut Parser<'_>, frame: Marker) -> Marker
     let frame = type_of_path(p, frame);
     let frame = opt_plus_bounds(p, frame);
     frame.wrap(p, SyntaxKind::TYPE_ARG)
-}
-
-/// Parses a lifetime argument.
-// 'a
-fn lifetime_arg(p: &mut Parser<'_>)
-    requires { 1 ≤ tokens p.old }
-    ensures reads { (c : Condition) → Reads c rows.lifetime_arg p.old p.new }
-    ensures left { tokens p.new + 1 ≡ tokens p.old }
-    ensures looks { spent p.new + 4096 ≡ spent p.old }
-{
-    let node = p.start();
-    lifetime(p);
-    node.complete(p, SyntaxKind::LIFETIME_ARG);
-}
-
-/// Parses a const argument that is a negative literal.
-// -1
-fn negative_arg(p: &mut Parser<'_>)
-    requires { 1 ≤ tokens p.old }
-    ensures reads { (c : Condition) → Reads c (CONST_ARG ⟨ One '-' ▸ Literal ! ⟩) p.old p.new }
-    ensures takes { Takes 4090 p.old p.new }
-{
-    let node = p.start();
-    p.take(SyntaxKind::MINUS);
-    expect_literal(p);
-    node.complete(p, SyntaxKind::CONST_ARG);
-}
-
-/// Parses a const argument that is a literal.
-// 1
-fn literal_arg(p: &mut Parser<'_>)
-    requires { 1 ≤ tokens p.old }
-    ensures reads { (c : Condition) → Reads c (CONST_ARG ⟨ Literal ⟩) p.old p.new }
-    ensures left { tokens p.new + 1 ≡ tokens p.old }
-    ensures looks { spent p.new + 4095 ≤ spent p.old }
-{
-    let node = p.start();
-    literal(p);
-    node.complete(p, SyntaxKind::CONST_ARG);
 }
 
 /// Parses a generic argument that starts with an identifier: an associated type or a type.

@@ -24,7 +24,7 @@ use crate::grammar::fn_pointers::fn_ptr_param;
 use crate::grammar::generic_args::{generic_arg, type_arg};
 use crate::grammar::generic_params::generic_param;
 use crate::grammar::items::members::{
-    at_named_member, at_record_field, at_tuple_field, record_field, tuple_field, variant,
+    at_record_field, at_tuple_field, record_field, tuple_field, variant,
 };
 use crate::grammar::or_patterns::pattern;
 use crate::grammar::params::param;
@@ -36,6 +36,7 @@ use rust_productions::grammar::expressions::at_expression;
 use rust_productions::grammar::fields::at_field_value;
 use rust_productions::grammar::generic_args::at_generic_arg;
 use rust_productions::grammar::generic_params::{at_captured, at_generic_param, captured};
+use rust_productions::grammar::items::at_named_member;
 use rust_productions::grammar::lists::{at_list_end, at_unexpected, comma};
 use rust_productions::grammar::params::{at_closure_param, at_param};
 use rust_productions::grammar::patterns::{at_pattern, at_pattern_field};

@@ -1,15 +1,14 @@
 //! Bounds that only the whole language has: in parentheses, with words before their path, and
 //! captures.
 
-ghost use Rattle.std.specs.Prelude.{◌≡◌, ◌≤◌, ◌+◌};
+ghost use Rattle.std.specs.Prelude.{◌≤◌};
 ghost use Rattle.parser_input.specs.Kinds.{TYPE_BOUND};
-ghost use Rattle.rust_grammar.specs.Calls.{Lifetime};
 ghost use Rattle.rust_grammar.specs.Notation.{◌▸◌, ⁅◌⁆, ◌!, ◌⟨◌⟩};
 ghost use Rattle.rust_grammar.specs.Paths as rows;
 ghost use Rattle.rust_grammar.specs.Rule.{One, When};
 ghost use Rattle.rust_grammar.specs.Shared as shared;
 ghost use Rattle.rust_grammar.specs.Words.{'l_paren', 'r_paren', 'use'};
-ghost use Rattle.rust_productions.specs.Looks.{tokens, spent, Takes, Asks};
+ghost use Rattle.rust_productions.specs.Looks.{tokens, Takes, Asks};
 ghost use Rattle.rust_productions.specs.Reads.{Reads};
 ghost use Rattle.rust_productions.specs.declared.condition.Condition.{Condition};
 
@@ -116,17 +115,4 @@ fn opt_binder(p: &mut Parser<'_>)
     if at_binder(p) {
         for_binder(p);
     }
-}
-
-/// Parses a lifetime as a bound.
-// 'a
-pub(crate) fn lifetime_bound(p: &mut Parser<'_>)
-    requires { 1 ≤ tokens p.old }
-    ensures reads { (c : Condition) → Reads c (TYPE_BOUND ⟨ Lifetime ⟩) p.old p.new }
-    ensures left { tokens p.new + 1 ≡ tokens p.old }
-    ensures looks { spent p.new + 4096 ≡ spent p.old }
-{
-    let bound = p.start();
-    lifetime(p);
-    bound.complete(p, SyntaxKind::TYPE_BOUND);
 }

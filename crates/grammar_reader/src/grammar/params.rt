@@ -1,18 +1,17 @@
 //! Parameters of functions.
 
 ghost use Rattle.std.specs.Prelude.{◌≤◌, true};
-ghost use Rattle.parser_input.specs.Kinds as kinds;
 ghost use Rattle.parser_input.specs.Kinds.{NAME, SELF_PARAM};
 ghost use Rattle.parser_events.specs.Stack.{IsInnermost};
 ghost use Rattle.rust_grammar.specs.Calls.{Lifetime};
 ghost use Rattle.rust_grammar.specs.Items.{self_begins};
 ghost use Rattle.rust_grammar.specs.Notation.{◌▸◌, ⁅◌⁆, ◌⟨◌⟩};
 ghost use Rattle.rust_grammar.specs.Rule as rules;
-ghost use Rattle.rust_grammar.specs.Rule.{Kind, One};
+ghost use Rattle.rust_grammar.specs.Rule.{One};
 ghost use Rattle.rust_grammar.specs.Words.{'&', 'mut', 'self'};
 ghost use Rattle.rust_grammar.specs.Items as rows;
-ghost use Rattle.rust_grammar.specs.Shared.{attributed, dots_and_dot, type_annotation};
-ghost use Rattle.rust_productions.specs.Looks.{tokens, Takes, Asks, Peeks};
+ghost use Rattle.rust_grammar.specs.Shared.{attributed, type_annotation};
+ghost use Rattle.rust_productions.specs.Looks.{tokens, Takes, Asks};
 ghost use Rattle.rust_productions.specs.Reads.{looks, FromStart, Completes, Gives, Reads, Saw};
 ghost use Rattle.rust_productions.specs.Starts.{Starts};
 ghost use Rattle.rust_productions.specs.declared.condition.Condition.{Condition};
@@ -22,40 +21,16 @@ use crate::grammar::expressions::closures::opt_type;
 use crate::grammar::items::attributes;
 use crate::grammar::or_patterns::pattern;
 use crate::grammar::parts::{Part, expect_part};
-use crate::grammar::types::word_type;
 use parser_input::syntax_kind::SyntaxKind;
 use rust_productions::condition::Condition;
 use rust_productions::grammar::names::opt_lifetime;
-use rust_productions::grammar::params::{at_new_dots, at_new_param};
+use rust_productions::grammar::params::{
+    at_new_dots, at_new_param, at_self, dots_param, expect_self, opt_ref,
+};
 use rust_productions::grammar::pattern_ranges::take_three_dots;
+use rust_productions::grammar::types::word_type;
 use rust_productions::marker::Marker;
 use rust_productions::parser::Parser;
-
-/// Returns `true` if the `&` that is next starts a `self` parameter.
-fn at_self_after_ref(p: &mut Parser<'_>) -> bool
-    requires { (c : Condition) → Saw c (Kind 0 kinds.AMP) p.old true }
-    ensures sees { (c : Condition) → Saw c self_begins p.old result }
-    ensures peeks { Peeks 2 p.old p.new }
-{
-    match p.nth(1) {
-        SyntaxKind::SELF_KW | SyntaxKind::LIFETIME_IDENT => true,
-        SyntaxKind::MUT_KW => p.at_third(SyntaxKind::SELF_KW),
-        _ => false,
-    }
-}
-
-/// Returns `true` if a `self` parameter is next.
-fn at_self(p: &mut Parser<'_>) -> bool
-    ensures sees { (c : Condition) → Saw c self_begins p.old result }
-    ensures peeks { Peeks 3 p.old p.new }
-{
-    match p.current() {
-        SyntaxKind::SELF_KW => true,
-        SyntaxKind::MUT_KW => p.at_second(SyntaxKind::SELF_KW),
-        SyntaxKind::AMP => at_self_after_ref(p),
-        _ => false,
-    }
-}
 
 /// Parses a function parameter.
 // a: u8
@@ -91,18 +66,6 @@ fn new_param(p: &mut Parser<'_>, condition: Condition)
         return;
     }
     attributed_param(p, condition);
-}
-
-/// Parses `...` as a parameter.
-// ...
-fn dots_param(p: &mut Parser<'_>)
-    requires { 3 ≤ tokens p.old }
-    ensures reads { (c : Condition) → Reads c (kinds.PARAM ⟨ dots_and_dot ⟩) p.old p.new }
-    ensures takes { Takes 8192 p.old p.new }
-{
-    let node = p.start();
-    take_three_dots(p);
-    node.complete(p, SyntaxKind::PARAM);
 }
 
 /// Parses a parameter that has attributes.
@@ -147,18 +110,6 @@ fn self_rest(p: &mut Parser<'_>, condition: Condition)
     p.eat(SyntaxKind::MUT_KW);
     expect_self(p);
     opt_type(p, condition);
-}
-
-/// Parses the optional `&` of a `self` parameter and its optional lifetime.
-// &'a
-fn opt_ref(p: &mut Parser<'_>)
-    ensures reads { (c : Condition) → Reads c ⁅ One '&' ▸ ⁅ Lifetime ⁆ ⁆ p.old p.new }
-    ensures asks { Asks 1 p.old p.new }
-{
-    if p.at(SyntaxKind::AMP) {
-        p.take(SyntaxKind::AMP);
-        opt_lifetime(p);
-    }
 }
 
 /// Parses `...`, or a pattern and its type.
@@ -230,17 +181,6 @@ fn self_param(p: &mut Parser<'_>, condition: Condition)
         SyntaxKind::MUT_KW => self_after_mut(p, condition),
         _ => self_alone(p, condition),
     }
-}
-
-/// Parses the name `self`; emits an error if there is none.
-// self
-fn expect_self(p: &mut Parser<'_>)
-    ensures reads { (c : Condition) → Reads c rows.self_name p.old p.new }
-    ensures asks { Asks 1 p.old p.new }
-{
-    let name = p.start();
-    p.expect(SyntaxKind::SELF_KW);
-    name.complete(p, SyntaxKind::NAME);
 }
 
 /// Parses a `self` parameter with `&`.

@@ -3,8 +3,8 @@
 ghost use Rattle.std.specs.Prelude.{◌≤◌, true, IsTrue};
 ghost use Rattle.parser_input.specs.Kinds.{PARENTHESIZED_ARG_LIST};
 ghost use Rattle.parser_events.specs.Stack.{IsInnermost};
-ghost use Rattle.rust_grammar.specs.Notation.{⁅◌⁆, ◌!, ◌▸◌, ◌⟨◌⟩, ◌before◌, wide};
-ghost use Rattle.rust_grammar.specs.Words.{'::', '<', 'dots', 'l_paren', 'r_paren'};
+ghost use Rattle.rust_grammar.specs.Notation.{⁅◌⁆, ◌!, ◌before◌, wide};
+ghost use Rattle.rust_grammar.specs.Words.{'::'};
 ghost use Rattle.rust_grammar.specs.Rule as rules;
 ghost use Rattle.rust_grammar.specs.Rule.{One};
 ghost use Rattle.rust_grammar.specs.Paths as rows;
@@ -19,9 +19,13 @@ use crate::grammar::parts::{Part, expect_part};
 use crate::grammar::types::opt_ret_type;
 use parser_events::message::Message;
 use parser_input::syntax_kind::SyntaxKind;
+use rust_productions::grammar::generic_args::{
+    colons_dots_args, dots_args, opt_colons_before_paren,
+};
 use rust_productions::grammar::names::{at_name_ref, name_ref};
 use rust_productions::grammar::paths::{
-    at_colons, at_colons_dots_args, at_dots_args, at_fn_args, at_next_segment, first_word,
+    at_colons, at_colons_before_args, at_colons_dots_args, at_dots_args, at_fn_args,
+    at_next_segment, first_word,
 };
 use rust_productions::marker::Marker;
 use rust_productions::parser::Parser;
@@ -31,30 +35,6 @@ use rust_productions::parser::Parser;
 pub(crate) enum Mode {
     Expr,
     Type,
-}
-
-/// Returns `true` if `::` is next, and `<` after it.
-fn at_colons_before_args(p: &mut Parser<'_>) -> bool
-    ensures sees { (c : Condition) → Saw c ('::' before '<') p.old result }
-    ensures some { IsTrue result → 3 ≤ tokens p.old }
-    ensures peeks { Peeks 3 p.old p.new }
-{
-    if !at_colons(p) {
-        return false;
-    }
-    p.at_third(SyntaxKind::L_ANGLE)
-}
-
-/// Returns `true` if `::` is next, and `(` after it.
-fn at_colons_before_paren(p: &mut Parser<'_>) -> bool
-    ensures sees { (c : Condition) → Saw c ('::' before 'l_paren') p.old result }
-    ensures some { IsTrue result → 3 ≤ tokens p.old }
-    ensures peeks { Peeks 3 p.old p.new }
-{
-    if !at_colons(p) {
-        return false;
-    }
-    p.at_third(SyntaxKind::L_PAREN)
 }
 
 /// Returns `true` if a `<` is next that starts no `<=`.
@@ -84,37 +64,6 @@ fn at_args(p: &mut Parser<'_>, mode: Mode) -> bool
     }
 }
 
-/// Parses `(..)` as arguments.
-// (..)
-fn dots_args(p: &mut Parser<'_>)
-    requires some { 3 ≤ tokens p.old }
-    ensures reads { (c : Condition) → Reads c (PARENTHESIZED_ARG_LIST
-        ⟨ One 'l_paren' ▸ One 'dots' ▸ One 'r_paren' ! ⟩) p.old p.new }
-    ensures takes { Takes 8000 p.old p.new }
-{
-    let list = p.start();
-    p.take(SyntaxKind::L_PAREN);
-    p.take_pair(SyntaxKind::DOT2);
-    p.expect(SyntaxKind::R_PAREN);
-    list.complete(p, SyntaxKind::PARENTHESIZED_ARG_LIST);
-}
-
-/// Parses `::(..)` as arguments.
-// ::(..)
-fn colons_dots_args(p: &mut Parser<'_>)
-    requires some { 5 ≤ tokens p.old }
-    ensures reads { (c : Condition) → Reads c (PARENTHESIZED_ARG_LIST
-        ⟨ One '::' ▸ One 'l_paren' ▸ One 'dots' ▸ One 'r_paren' ! ⟩) p.old p.new }
-    ensures takes { Takes 8000 p.old p.new }
-{
-    let list = p.start();
-    p.take_pair(SyntaxKind::COLON2);
-    p.take(SyntaxKind::L_PAREN);
-    p.take_pair(SyntaxKind::DOT2);
-    p.expect(SyntaxKind::R_PAREN);
-    list.complete(p, SyntaxKind::PARENTHESIZED_ARG_LIST);
-}
-
 /// Parses the arguments of `Fn`, in the whole language.
 // (u8, u8) -> u8
 #[cycle(grammar)]
@@ -133,19 +82,6 @@ fn fn_args(p: &mut Parser<'_>)
     }
     paren_args(p);
     opt_ret_type(p);
-}
-
-/// Parses the optional `::` before a parenthesis.
-// ::
-fn opt_colons_before_paren(p: &mut Parser<'_>)
-    requires begins { Starts (wide rows.fn_args_begin) p.old }
-    ensures reads { (c : Condition) → Reads c ⁅ One '::' ⁆ p.old p.new }
-    ensures some { 1 ≤ tokens p.new }
-    ensures asks { Asks 3 p.old p.new }
-{
-    if at_colons_before_paren(p) {
-        p.take_pair(SyntaxKind::COLON2);
-    }
 }
 
 /// Parses types in parentheses as arguments.

@@ -1,16 +1,16 @@
 //! Patterns.
 
-ghost use Rattle.std.specs.Prelude.{◌≡◌, ◌≤◌, ◌+◌, true, false, IsTrue};
-ghost use Rattle.parser_input.specs.Kinds.{IDENT_PAT, LITERAL_PAT};
+ghost use Rattle.std.specs.Prelude.{◌≤◌, true, false};
+ghost use Rattle.parser_input.specs.Kinds.{IDENT_PAT};
 ghost use Rattle.parser_events.specs.Stack.{IsInnermost};
-ghost use Rattle.rust_grammar.specs.Calls.{Literal, Name};
+ghost use Rattle.rust_grammar.specs.Calls.{Name};
 ghost use Rattle.rust_grammar.specs.Notation.{◌▸◌, ⁅◌⁆, ◌!, ◌⟨◌⟩, ◌before◌};
 ghost use Rattle.rust_grammar.specs.Rule as rules;
 ghost use Rattle.rust_grammar.specs.Rule.{One};
 ghost use Rattle.rust_grammar.specs.Whole.{rule};
-ghost use Rattle.rust_grammar.specs.Words.{'dots', 'l_paren', '-', 'mut', 'ref'};
+ghost use Rattle.rust_grammar.specs.Words.{'mut', 'ref'};
 ghost use Rattle.rust_grammar.specs.Patterns as rows;
-ghost use Rattle.rust_productions.specs.Looks.{tokens, spent, Takes, Asks, Peeks, TakesIn, AsksIn};
+ghost use Rattle.rust_productions.specs.Looks.{tokens, Takes, Asks, TakesIn, AsksIn};
 ghost use Rattle.rust_productions.specs.Reads.{looks, Gives, Reads, Saw};
 ghost use Rattle.rust_productions.specs.Starts.{Starts};
 ghost use Rattle.rust_productions.specs.declared.condition.Condition.{Condition};
@@ -19,45 +19,16 @@ use crate::grammar::lists::{Element, ListKind, list, rest_of_list, tuple_tail};
 use crate::grammar::parts::{Part, expect_part};
 use crate::grammar::paths::{Mode, path_with_args, qualified_path};
 use crate::grammar::pattern_ranges::{opt_range, range_or_atom};
-use crate::grammar::types::word_type;
 use parser_input::syntax_kind::SyntaxKind;
 use rust_productions::grammar::const_args::missing_expr_path;
-use rust_productions::grammar::names::{at_literal, expect_literal, expect_name, literal, name};
-use rust_productions::grammar::patterns::at_single_pattern;
+use rust_productions::grammar::names::{at_literal, expect_name, name};
+use rust_productions::grammar::patterns::{
+    at_ident_pat, at_paren_before_dots, at_single_pattern, literal_pat, negative, rest_pat,
+};
 use rust_productions::grammar::token_trees::expect_token_tree;
+use rust_productions::grammar::types::word_type;
 use rust_productions::marker::Marker;
 use rust_productions::parser::Parser;
-
-/// Returns `true` if an identifier is next that is a pattern: before none of `::`, `(`, `{` and
-/// `!`.
-fn at_ident_pat(p: &mut Parser<'_>) -> bool
-    ensures sees { (c : Condition) → Saw c rows.name_alone p.old result }
-    ensures some { IsTrue result → 1 ≤ tokens p.old }
-    ensures peeks { Peeks 4 p.old p.new }
-{
-    if !p.at(SyntaxKind::IDENT) {
-        return false;
-    }
-    if p.at_pair_after(SyntaxKind::COLON, SyntaxKind::COLON) {
-        return false;
-    }
-    match p.nth(1) {
-        SyntaxKind::L_PAREN | SyntaxKind::L_CURLY | SyntaxKind::BANG => false,
-        _ => true,
-    }
-}
-
-/// Returns `true` if `(` is next, and `..` after it.
-fn at_paren_before_dots(p: &mut Parser<'_>) -> bool
-    ensures sees { (c : Condition) → Saw c ('l_paren' before 'dots') p.old result }
-    ensures some { IsTrue result → 1 ≤ tokens p.old }
-    ensures peeks { Peeks 3 p.old p.new }
-{
-    if !p.at(SyntaxKind::L_PAREN) {
-        return false;
-    }
-    p.at_pair_after(SyntaxKind::DOT, SyntaxKind::DOT)
-}
 
 /// Parses a pattern without top-level alternatives.
 // &mut (a, ..)
@@ -132,45 +103,6 @@ pub(crate) fn inside(p: &mut Parser<'_>, frame: Marker) -> Marker
             path_pat(p, frame)
         }
     }
-}
-
-/// Parses a literal pattern with a minus sign.
-// -1
-fn negative(p: &mut Parser<'_>)
-    requires { 1 ≤ tokens p.old }
-    ensures reads { (c : Condition) → Reads c (LITERAL_PAT ⟨ One '-' ▸ Literal ! ⟩) p.old p.new }
-    ensures takes { Takes 4090 p.old p.new }
-{
-    let node = p.start();
-    p.take(SyntaxKind::MINUS);
-    expect_literal(p);
-    node.complete(p, SyntaxKind::LITERAL_PAT);
-}
-
-/// Parses a literal pattern without a minus sign.
-// 1
-fn literal_pat(p: &mut Parser<'_>)
-    requires { 1 ≤ tokens p.old }
-    ensures reads { (c : Condition) → Reads c (LITERAL_PAT ⟨ Literal ⟩) p.old p.new }
-    ensures left { tokens p.new + 1 ≡ tokens p.old }
-    ensures looks { spent p.new + 4095 ≤ spent p.old }
-{
-    let node = p.start();
-    literal(p);
-    node.complete(p, SyntaxKind::LITERAL_PAT);
-}
-
-/// Parses a rest pattern.
-// ..
-pub(crate) fn rest_pat(p: &mut Parser<'_>)
-    requires { 2 ≤ tokens p.old }
-    ensures reads { (c : Condition) → Reads c rows.rest_pat p.old p.new }
-    ensures left { tokens p.new + 2 ≡ tokens p.old }
-    ensures looks { spent p.new + 8192 ≡ spent p.old }
-{
-    let node = p.start();
-    p.take_pair(SyntaxKind::DOT2);
-    node.complete(p, SyntaxKind::REST_PAT);
 }
 
 /// Parses a reference pattern.

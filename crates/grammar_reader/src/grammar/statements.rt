@@ -1,16 +1,14 @@
 //! Statements.
 
-ghost use Rattle.std.specs.Prelude.{◌≤◌, ◌<◌, ◌+◌, IsTrue, true};
+ghost use Rattle.std.specs.Prelude.{◌≤◌, ◌<◌, ◌+◌, true};
 ghost use Rattle.parser_events.specs.Stack.{IsInnermost};
 ghost use Rattle.rust_grammar.specs.Calls.{BlockLike};
 ghost use Rattle.rust_grammar.specs.Notation.{◌▸◌, ⁅◌⁆, ◌before◌, lead, more, wide};
 ghost use Rattle.rust_grammar.specs.Rule as rules;
-ghost use Rattle.rust_grammar.specs.Expressions.{goes_on};
-ghost use Rattle.rust_grammar.specs.Words.{'#', '!'};
 ghost use Rattle.rust_grammar.specs.Shared.{attributed};
 ghost use Rattle.rust_grammar.specs.Statements as rows;
 ghost use Rattle.grammar_reader.specs.Told.{after_block_of, listing_of};
-ghost use Rattle.rust_productions.specs.Looks.{tokens, spent, Takes, Asks, Peeks, AsksIn};
+ghost use Rattle.rust_productions.specs.Looks.{tokens, spent, Takes, Asks, AsksIn};
 ghost use Rattle.rust_productions.specs.Reads.{looks, FromStart, CompletesWhere, Gives, Reads, Saw};
 ghost use Rattle.rust_productions.specs.Starts.{Starts, StartsIn};
 ghost use Rattle.rust_productions.specs.declared.condition.Condition.{Condition};
@@ -33,7 +31,8 @@ use rust_productions::condition::Condition;
 use rust_productions::grammar::expressions::{at_block_like, at_expression, at_operand};
 use rust_productions::grammar::match_arms::{at_braced_macro, at_long_path};
 use rust_productions::grammar::statements::{
-    at_item_after_attributes, at_new_statement, at_profile_item, at_super_let,
+    at_inner_attribute, at_item_after_attributes, at_more, at_new_statement, at_profile_item,
+    at_super_let,
 };
 use rust_productions::grammar::token_trees::token_tree;
 use rust_productions::grammar::visibility::opt_visibility;
@@ -69,18 +68,6 @@ pub(crate) fn statement(p: &mut Parser<'_>, end: ListEnd)
             expression_statement(p, end);
         }
     }
-}
-
-/// Returns `true` if an inner attribute is next.
-pub(crate) fn at_inner_attribute(p: &mut Parser<'_>) -> bool
-    ensures sees { (c : Condition) → Saw c ('#' before '!') p.old result }
-    ensures some { IsTrue result → 1 ≤ tokens p.old }
-    ensures peeks { Peeks 2 p.old p.new }
-{
-    if !p.at(SyntaxKind::POUND) {
-        return false;
-    }
-    p.at_second(SyntaxKind::BANG)
 }
 
 /// Parses a statement that only the whole language has, or an item there.
@@ -337,26 +324,6 @@ fn block_statement(p: &mut Parser<'_>, end: ListEnd)
     block_like(p);
     let frame = after_block(p, frame, end);
     frame.abandon(p);
-}
-
-/// Returns `true` if an expression that ends in a block continues: with a `?`, or with a dot that
-/// starts no range.
-#[inline(always)]
-pub(crate) fn at_more(p: &mut Parser<'_>) -> bool
-    ensures sees { (c : Condition) → Saw c goes_on p.old result }
-    ensures some { IsTrue result → 1 ≤ tokens p.old }
-    ensures peeks { Peeks 3 p.old p.new }
-{
-    match p.current() {
-        SyntaxKind::QUESTION => true,
-        SyntaxKind::DOT => {
-            if p.at_pair(SyntaxKind::DOT, SyntaxKind::DOT) {
-                return false;
-            }
-            true
-        }
-        _ => false,
-    }
 }
 
 /// Parses what follows an expression that ends in a block: postfix operators, or a `;`.

@@ -1,6 +1,6 @@
 //! Types.
 
-ghost use Rattle.std.specs.Prelude.{◌≡◌, ◌≢◌, ◌≤◌, ◌+◌, true};
+ghost use Rattle.std.specs.Prelude.{◌≢◌, ◌≤◌, ◌+◌, true};
 ghost use Rattle.parser_input.specs.Kind.{raw_of};
 ghost use Rattle.parser_input.specs.Kinds as kinds;
 ghost use Rattle.parser_events.specs.Stack.{IsInnermost};
@@ -13,7 +13,7 @@ ghost use Rattle.rust_grammar.specs.Words.{one};
 ghost use Rattle.rust_grammar.specs.Shared as shared;
 ghost use Rattle.rust_grammar.specs.Paths as path_rows;
 ghost use Rattle.rust_grammar.specs.Types as rows;
-ghost use Rattle.rust_productions.specs.Looks.{tokens, spent, Takes, Asks, TakesIn, AsksIn};
+ghost use Rattle.rust_productions.specs.Looks.{tokens, Takes, Asks, TakesIn, AsksIn};
 ghost use Rattle.rust_productions.specs.Reads.{looks, Gives, Reads, Saw};
 ghost use Rattle.rust_productions.specs.Starts.{Starts};
 ghost use Rattle.rust_productions.specs.declared.condition.Condition.{Condition};
@@ -22,15 +22,15 @@ use crate::grammar::expressions::{Level, expect_expression};
 use crate::grammar::fn_pointers::fn_ptr_type;
 use crate::grammar::generic_params::{bounds, for_binder, further_bounds, opt_bound};
 use crate::grammar::lists::{Element, tuple_tail};
-use crate::grammar::new_bounds::lifetime_bound;
 use crate::grammar::parts::{Part, expect_part};
 use crate::grammar::paths::{Mode, path_with_args, qualified_path};
 use parser_input::syntax_kind::SyntaxKind;
 use rust_productions::condition::Condition;
+use rust_productions::grammar::generic_params::lifetime_bound;
 use rust_productions::grammar::names::opt_lifetime;
-use rust_productions::grammar::paths::at_macro_call;
-use rust_productions::grammar::token_trees::expect_token_tree;
-use rust_productions::grammar::types::{at_bare_type, at_dyn_word, at_fn_ptr, at_new_type};
+use rust_productions::grammar::types::{
+    at_bare_type, at_dyn_word, at_fn_ptr, at_new_type, const_or_mut, type_of_path, word_type,
+};
 use rust_productions::marker::Marker;
 use rust_productions::parser::Parser;
 
@@ -194,21 +194,6 @@ fn for_type(p: &mut Parser<'_>)
     node.complete(p, SyntaxKind::FOR_TYPE);
 }
 
-/// Completes a path as a type, or parses the rest of a macro call in place of a type.
-// !(a)
-pub(crate) fn type_of_path(p: &mut Parser<'_>, frame: Marker) -> Marker
-    requires innermost { IsInnermost frame p.old.nodes }
-    ensures reads { (c : Condition) → Reads c path_rows.type_of_path p.old p.new }
-    ensures asks { AsksIn result 3 p.old p.new }
-{
-    if at_macro_call(p) {
-        p.take(SyntaxKind::BANG);
-        expect_token_tree(p);
-        return frame.wrap(p, SyntaxKind::MACRO_CALL);
-    }
-    frame.wrap(p, SyntaxKind::PATH_TYPE)
-}
-
 /// Parses optional bounds after a type, which becomes the first of them.
 // + Send + 'a
 #[cycle(grammar)]
@@ -255,20 +240,6 @@ fn lifetime_bounds(p: &mut Parser<'_>)
     node.complete(p, SyntaxKind::DYN_TRAIT_TYPE);
 }
 
-/// Parses one token, in a node of `kind`.
-// _
-pub(crate) fn word_type(p: &mut Parser<'_>, token: SyntaxKind, kind: SyntaxKind)
-    requires { 1 ≤ tokens p.old }
-    ensures reads { (c : Condition)
-        → Reads c (raw_of kind ⟨ One (one (raw_of token)) ⟩) p.old p.new }
-    ensures left { tokens p.new + 1 ≡ tokens p.old }
-    ensures looks { spent p.new + 4096 ≡ spent p.old }
-{
-    let node = p.start();
-    p.take(token);
-    node.complete(p, kind);
-}
-
 /// Parses a `dyn` or `impl` type, in a node of `kind`. `token` is its keyword.
 // dyn A + B
 #[cycle(grammar)]
@@ -311,19 +282,6 @@ fn ptr_type(p: &mut Parser<'_>)
     const_or_mut(p);
     expect_part(p, Part::TypeNoBounds);
     node.complete(p, SyntaxKind::PTR_TYPE);
-}
-
-/// Parses `const` or `mut`; emits an error if there is neither.
-// mut
-fn const_or_mut(p: &mut Parser<'_>)
-    ensures reads { (c : Condition) → Reads c rows.const_or_mut p.old p.new }
-    ensures asks { Asks 2 p.old p.new }
-{
-    if p.at(SyntaxKind::CONST_KW) {
-        p.take(SyntaxKind::CONST_KW);
-        return;
-    }
-    p.expect(SyntaxKind::MUT_KW);
 }
 
 /// Parses a reference type.

@@ -1,13 +1,17 @@
 //! Labels and words before blocks and closures, and what else of an expression only the whole
 //! language has.
 
-ghost use Rattle.std.specs.Prelude.{◌≤◌, IsTrue};
 ghost use Rattle.rust_grammar.specs.Expressions as rows;
-ghost use Rattle.rust_grammar.specs.Notation.{wide};
-ghost use Rattle.rust_productions.specs.Looks.{tokens, Takes, Asks, Peeks};
-ghost use Rattle.rust_productions.specs.Reads.{Reads, Saw, Condition};
+ghost use Rattle.rust_grammar.specs.Notation.{◌!, wide};
+ghost use Rattle.rust_grammar.specs.Rule as rules;
+ghost use Rattle.rust_productions.specs.Looks.{Asks, Peeks, Takes, spent, tokens};
+ghost use Rattle.rust_productions.specs.Reads.{Condition, Gives, Reads, Saw, looks};
+ghost use Rattle.rust_productions.specs.Starts.{Starts};
+ghost use Rattle.std.specs.Prelude.{◌+◌, ◌≡◌, ◌≤◌, IsTrue, true};
 
+use crate::condition::Condition;
 use crate::grammar::names::lifetime;
+use crate::grammar::token_trees::{expect_token_tree, token_tree};
 use crate::parser::Parser;
 use parser_input::syntax_kind::SyntaxKind;
 
@@ -266,4 +270,51 @@ pub fn block_words(p: &mut Parser<'_>)
         SyntaxKind::ASYNC_KW => words_from_async(p),
         _ => words_from_gen(p),
     }
+}
+
+/// Parses the `!` and the token tree of a macro call.
+// !(a, b)
+pub fn macro_call(p: &mut Parser<'_>)
+    requires { 1 ≤ tokens p.old }
+    ensures reads { (c : Condition) → Reads c rows.macro_tail p.old p.new }
+    ensures takes { Takes 4090 p.old p.new }
+{
+    p.take(SyntaxKind::BANG);
+    expect_token_tree(p);
+}
+
+/// Parses a path of one identifier, before the `!` of a macro call with braces.
+// m
+pub fn word_path(p: &mut Parser<'_>)
+    requires begins { Starts rows.macro_block_begins p.old }
+    ensures gives { (c : Condition) → Gives rules.expr_path c p.old p.new }
+    ensures left { tokens p.new + 1 ≡ tokens p.old }
+    ensures looks { spent p.new + 4096 ≡ spent p.old }
+{
+    let frame = p.start();
+    let path = p.start();
+    let segment = p.start();
+    let name = p.start();
+    p.take(SyntaxKind::IDENT);
+    name.complete(p, SyntaxKind::NAME_REF);
+    segment.complete(p, SyntaxKind::PATH_SEGMENT);
+    path.complete(p, SyntaxKind::PATH);
+    frame.abandon(p);
+}
+
+/// Parses a macro call with braces.
+// m! { a }
+pub fn macro_block(p: &mut Parser<'_>)
+    requires begins { (c : Condition) → Saw c rows.macro_block_begins p.old true }
+    requires some { 3 ≤ tokens p.old }
+    ensures reads { (c : Condition) → Reads c rows.macro_block p.old p.new }
+    ensures takes { Takes 4080 p.old p.new }
+{
+    let node = p.start();
+    let call = p.start();
+    word_path(p);
+    p.take(SyntaxKind::BANG);
+    token_tree(p);
+    call.complete(p, SyntaxKind::MACRO_CALL);
+    node.complete(p, SyntaxKind::MACRO_EXPR);
 }

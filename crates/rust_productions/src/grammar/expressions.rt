@@ -1,16 +1,16 @@
 //! Expressions.
 
-ghost use Rattle.std.specs.Prelude.{◌≤◌, IsTrue, true};
 ghost use Rattle.parser_input.specs.Kinds as kinds;
-ghost use Rattle.rust_productions.specs.Looks.{tokens, Peeks};
-ghost use Rattle.rust_grammar.specs.Rule as rules;
-ghost use Rattle.rust_grammar.specs.Expressions.{body_begins};
-ghost use Rattle.rust_grammar.specs.Rule.{begins};
 ghost use Rattle.rust_grammar.specs.Expressions as rows;
-ghost use Rattle.rust_productions.specs.Reads.{looks, Saw, Condition};
+ghost use Rattle.rust_grammar.specs.Expressions.{body_begins};
+ghost use Rattle.rust_grammar.specs.Rule as rules;
+ghost use Rattle.rust_grammar.specs.Rule.{begins};
+ghost use Rattle.rust_productions.specs.Looks.{Peeks, Takes, tokens};
+ghost use Rattle.rust_productions.specs.Reads.{Condition, Reads, Saw, looks};
+ghost use Rattle.std.specs.Prelude.{◌≤◌, IsTrue, true};
 
 use crate::condition::Condition;
-use crate::grammar::expression_words::{at_new_atom, at_new_block};
+use crate::grammar::expression_words::{at_new_atom, at_new_block, opt_jump_label};
 use crate::grammar::names::at_literal;
 use crate::grammar::operands::at_new_mark;
 use crate::grammar::operators::{at_joint, range_mark};
@@ -199,4 +199,17 @@ pub fn at_range_operand(p: &mut Parser<'_>, condition: Condition) -> bool
         return false;
     }
     at_operand(p, condition)
+}
+
+/// Parses a `continue` expression.
+// continue 'a
+pub fn continue_expr(p: &mut Parser<'_>)
+    requires some { 1 ≤ tokens p.old }
+    ensures reads { (c : Condition) → Reads c rows.continue_expr p.old p.new }
+    ensures takes { Takes 4090 p.old p.new }
+{
+    let node = p.start();
+    p.take(SyntaxKind::CONTINUE_KW);
+    opt_jump_label(p);
+    node.complete(p, SyntaxKind::CONTINUE_EXPR);
 }

@@ -1,15 +1,16 @@
 //! Generic parameters, bounds and where clauses.
 
-ghost use Rattle.std.specs.Prelude.{◌≤◌, IsTrue};
-ghost use Rattle.parser_input.specs.Kinds.{NAME_REF};
-ghost use Rattle.rust_productions.specs.Looks.{tokens, Takes, Asks, Peeks};
-ghost use Rattle.rust_grammar.specs.Notation.{wide, ◌before◌, ◌or◌, ◌⟨◌⟩};
+ghost use Rattle.parser_input.specs.Kinds.{NAME_REF, TYPE_BOUND};
+ghost use Rattle.rust_grammar.specs.Calls.{Lifetime};
+ghost use Rattle.rust_grammar.specs.Notation.{◌before◌, ◌or◌, ◌⟨◌⟩, wide};
 ghost use Rattle.rust_grammar.specs.Paths as rows;
 ghost use Rattle.rust_grammar.specs.Rule as rules;
-ghost use Rattle.rust_grammar.specs.Rule.{begins, One};
+ghost use Rattle.rust_grammar.specs.Rule.{One, begins};
 ghost use Rattle.rust_grammar.specs.Shared.{binder_begins};
-ghost use Rattle.rust_grammar.specs.Words.{'ident', 'Self', 'use', '<'};
-ghost use Rattle.rust_productions.specs.Reads.{looks, Reads, Saw, Condition};
+ghost use Rattle.rust_grammar.specs.Words.{'<', 'Self', 'ident', 'use'};
+ghost use Rattle.rust_productions.specs.Looks.{Asks, Peeks, Takes, spent, tokens};
+ghost use Rattle.rust_productions.specs.Reads.{Condition, Reads, Saw, looks};
+ghost use Rattle.std.specs.Prelude.{◌+◌, ◌≡◌, ◌≤◌, IsTrue};
 
 use crate::grammar::names::lifetime;
 use crate::grammar::paths::at_path;
@@ -238,4 +239,17 @@ pub fn at_where_pred(p: &mut Parser<'_>) -> bool
         return true;
     }
     false
+}
+
+/// Parses a lifetime as a bound.
+// 'a
+pub fn lifetime_bound(p: &mut Parser<'_>)
+    requires { 1 ≤ tokens p.old }
+    ensures reads { (c : Condition) → Reads c (TYPE_BOUND ⟨ Lifetime ⟩) p.old p.new }
+    ensures left { tokens p.new + 1 ≡ tokens p.old }
+    ensures looks { spent p.new + 4096 ≡ spent p.old }
+{
+    let bound = p.start();
+    lifetime(p);
+    bound.complete(p, SyntaxKind::TYPE_BOUND);
 }

@@ -1,22 +1,26 @@
 //! What items begin with, and the items that hold no others.
 
-ghost use Rattle.std.specs.Prelude.{◌≡◌, ◌≢◌, ◌≤◌, IsTrue, true, false, [], ◌∷◌};
+ghost use Rattle.parser_events.specs.Stack.{IsInnermost};
 ghost use Rattle.parser_input.specs.Kind.{raw_of};
 ghost use Rattle.parser_input.specs.Kinds as kinds;
-ghost use Rattle.parser_events.specs.Stack.{IsInnermost};
+ghost use Rattle.rust_grammar.specs.Calls.{Attribute, Name, Visibility};
+ghost use Rattle.rust_grammar.specs.Items as rows;
 ghost use Rattle.rust_grammar.specs.Items.{fn_begins};
-ghost use Rattle.rust_grammar.specs.Notation.{◌▸◌, ⁅◌⁆, ◌!, ◌before◌, next, one_of, wide};
+ghost use Rattle.rust_grammar.specs.Notation.{⁅◌⁆, ◌!, ◌*, ◌before◌, ◌▸◌, next, one_of, wide};
 ghost use Rattle.rust_grammar.specs.Rule as rules;
 ghost use Rattle.rust_grammar.specs.Rule.{Either, Not, One, begins};
-ghost use Rattle.rust_grammar.specs.Words.{one, 'comma', 'const', 'fn', 'unsafe', '>', ':', '='};
-ghost use Rattle.rust_grammar.specs.Items as rows;
-ghost use Rattle.rust_productions.specs.Looks.{tokens, Takes, Asks, Peeks, TakesUnless};
-ghost use Rattle.rust_productions.specs.Reads.{looks, Completes, CompletesWhere, Reads, Saw, Condition};
-ghost use Rattle.rust_productions.specs.Starts.{Starts, FollowsUnsafe};
+ghost use Rattle.rust_grammar.specs.Words.{':', '=', '>', 'comma', 'const', 'fn', 'unsafe', one};
+ghost use Rattle.rust_productions.specs.Looks.{Asks, Peeks, Takes, TakesUnless, tokens};
+ghost use Rattle.rust_productions.specs.Reads.{Completes, CompletesWhere, Condition, Reads, Saw, looks};
+ghost use Rattle.rust_productions.specs.Starts.{FollowsUnsafe, Starts};
+ghost use Rattle.std.specs.Prelude.{◌∷◌, ◌≡◌, ◌≢◌, ◌≤◌, IsTrue, [], false, true};
 
+use crate::condition::Condition;
+use crate::grammar::names::{expect_name, name};
 use crate::grammar::paths::path;
 use crate::grammar::token_trees::{expect_token_tree, token_tree};
 use crate::grammar::use_trees::expect_use_tree;
+use crate::grammar::visibility::visibility;
 use crate::marker::Marker;
 use crate::parser::Parser;
 use parser_events::message::Message;
@@ -292,5 +296,27 @@ pub fn opt_unsafe_field(p: &mut Parser<'_>)
 {
     if p.at_new(SyntaxKind::UNSAFE_KW) {
         p.take(SyntaxKind::UNSAFE_KW);
+    }
+}
+
+/// Parses the optional `unsafe` of a named field and its name.
+// unsafe b
+pub fn unsafe_and_name(p: &mut Parser<'_>)
+    ensures reads { (c : Condition) → Reads c rows.unsafe_and_name p.old p.new }
+    ensures asks { Asks 2 p.old p.new }
+{
+    opt_unsafe_field(p);
+    expect_name(p);
+}
+
+/// Returns `true` if a variant starts here: at an attribute, a visibility or a name.
+pub fn at_named_member(p: &mut Parser<'_>) -> bool
+    ensures sees { (c : Condition) → Saw c
+        (begins looks (Attribute * ▸ ⁅ Visibility ⁆ ▸ Name !)) p.old result }
+    ensures peeks { Peeks 1 p.old p.new }
+{
+    match p.current() {
+        SyntaxKind::POUND | SyntaxKind::PUB_KW | SyntaxKind::IDENT => true,
+        _ => false,
     }
 }

@@ -1,16 +1,19 @@
 //! Arms of a `match`.
 
-ghost use Rattle.std.specs.Prelude.{◌≤◌, IsTrue};
 ghost use Rattle.rust_grammar.specs.Expressions as rows;
-ghost use Rattle.rust_grammar.specs.Notation.{◌before◌, wide};
+ghost use Rattle.rust_grammar.specs.Notation.{◌!, ◌before◌, wide};
 ghost use Rattle.rust_grammar.specs.Rule as rules;
-ghost use Rattle.rust_grammar.specs.Words.{'#', '!'};
-ghost use Rattle.rust_productions.specs.Looks.{tokens, Peeks};
-ghost use Rattle.rust_productions.specs.Reads.{looks, Saw, Condition};
+ghost use Rattle.rust_grammar.specs.Rule.{One};
+ghost use Rattle.rust_grammar.specs.Words.{'!', '#', '=>'};
+ghost use Rattle.rust_productions.specs.Looks.{Asks, Peeks, tokens};
+ghost use Rattle.rust_productions.specs.Reads.{Condition, Reads, Saw, looks};
+ghost use Rattle.std.specs.Prelude.{◌≤◌, IsTrue};
 
+use crate::condition::Condition;
 use crate::grammar::paths::at_colons;
 use crate::grammar::patterns::at_pattern;
 use crate::parser::Parser;
+use parser_events::message::Message;
 use parser_input::syntax_kind::SyntaxKind;
 
 /// Returns `true` if an attribute of the `match` is next among its arms, in the whole language.
@@ -84,4 +87,17 @@ pub fn at_braced_macro(p: &mut Parser<'_>) -> bool
         return true;
     }
     false
+}
+
+/// Parses the `=>` of a match arm; emits an error if there is none.
+// =>
+pub fn expect_arrow(p: &mut Parser<'_>)
+    ensures reads { (c : Condition) → Reads c (One '=>' !) p.old p.new }
+    ensures asks { Asks 2 p.old p.new }
+{
+    if p.at_pair(SyntaxKind::EQ, SyntaxKind::R_ANGLE) {
+        p.take_pair(SyntaxKind::FAT_ARROW);
+        return;
+    }
+    p.error(Message::Expected(SyntaxKind::FAT_ARROW));
 }

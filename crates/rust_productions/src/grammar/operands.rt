@@ -1,11 +1,12 @@
 //! Operands that only the whole language has.
 
-ghost use Rattle.std.specs.Prelude.{◌≤◌, IsTrue};
 ghost use Rattle.rust_grammar.specs.Expressions as rows;
-ghost use Rattle.rust_grammar.specs.Notation.{⁅◌⁆, wide};
-ghost use Rattle.rust_productions.specs.Looks.{tokens, Asks, Peeks};
-ghost use Rattle.rust_productions.specs.Reads.{Reads, Saw, Condition};
+ghost use Rattle.rust_grammar.specs.Notation.{⁅◌⁆, ◌!, wide};
+ghost use Rattle.rust_productions.specs.Looks.{Asks, Peeks, tokens};
+ghost use Rattle.rust_productions.specs.Reads.{Condition, Reads, Saw};
+ghost use Rattle.std.specs.Prelude.{◌≤◌, IsTrue, true};
 
+use crate::condition::Condition;
 use crate::grammar::operators::at_joint;
 use crate::parser::Parser;
 use parser_input::syntax_kind::SyntaxKind;
@@ -82,4 +83,22 @@ pub fn opt_mut_or_const(p: &mut Parser<'_>)
         SyntaxKind::CONST_KW => p.take(SyntaxKind::CONST_KW),
         _ => {}
     }
+}
+
+/// Returns `true` if the name of a method is next: an identifier before `(` or `::`.
+pub fn at_method(p: &mut Parser<'_>) -> bool
+    ensures sees { (c : Condition) → Saw c rows.method_begins p.old result }
+    ensures some { IsTrue result → 1 ≤ tokens p.old }
+    ensures peeks { Peeks 4 p.old p.new }
+{
+    if !p.at(SyntaxKind::IDENT) {
+        return false;
+    }
+    if p.at_second(SyntaxKind::L_PAREN) {
+        return true;
+    }
+    if p.at_pair_after(SyntaxKind::COLON, SyntaxKind::COLON) {
+        return true;
+    }
+    false
 }

@@ -1,15 +1,23 @@
 //! Parameters of functions.
 
-ghost use Rattle.std.specs.Prelude.{◌≤◌, IsTrue};
-ghost use Rattle.rust_productions.specs.Looks.{tokens, Peeks};
+ghost use Rattle.parser_input.specs.Kinds as kinds;
+ghost use Rattle.parser_input.specs.Kinds.{NAME};
+ghost use Rattle.rust_grammar.specs.Calls.{Lifetime};
 ghost use Rattle.rust_grammar.specs.Expressions.{closure_param};
 ghost use Rattle.rust_grammar.specs.Items as rows;
-ghost use Rattle.rust_grammar.specs.Notation.{wide};
+ghost use Rattle.rust_grammar.specs.Items.{self_begins};
+ghost use Rattle.rust_grammar.specs.Notation.{⁅◌⁆, ◌▸◌, ◌⟨◌⟩, wide};
 ghost use Rattle.rust_grammar.specs.Rule as rules;
-ghost use Rattle.rust_grammar.specs.Rule.{begins};
-ghost use Rattle.rust_grammar.specs.Shared.{dots_dot};
-ghost use Rattle.rust_productions.specs.Reads.{looks, Saw, Condition};
+ghost use Rattle.rust_grammar.specs.Rule.{Kind, One, begins};
+ghost use Rattle.rust_grammar.specs.Shared.{dots_and_dot, dots_dot};
+ghost use Rattle.rust_grammar.specs.Words.{'&'};
+ghost use Rattle.rust_productions.specs.Looks.{Asks, Peeks, Takes, tokens};
+ghost use Rattle.rust_productions.specs.Reads.{Condition, Reads, Saw, looks};
+ghost use Rattle.std.specs.Prelude.{◌≤◌, IsTrue, true};
 
+use crate::condition::Condition;
+use crate::grammar::names::opt_lifetime;
+use crate::grammar::pattern_ranges::take_three_dots;
 use crate::grammar::patterns::{at_pattern, at_single_pattern};
 use crate::parser::Parser;
 use parser_input::syntax_kind::SyntaxKind;
@@ -74,4 +82,65 @@ pub fn at_closure_param(p: &mut Parser<'_>) -> bool
         return true;
     }
     false
+}
+
+/// Parses the name `self`; emits an error if there is none.
+// self
+pub fn expect_self(p: &mut Parser<'_>)
+    ensures reads { (c : Condition) → Reads c rows.self_name p.old p.new }
+    ensures asks { Asks 1 p.old p.new }
+{
+    let name = p.start();
+    p.expect(SyntaxKind::SELF_KW);
+    name.complete(p, SyntaxKind::NAME);
+}
+
+/// Parses the optional `&` of a `self` parameter and its optional lifetime.
+// &'a
+pub fn opt_ref(p: &mut Parser<'_>)
+    ensures reads { (c : Condition) → Reads c ⁅ One '&' ▸ ⁅ Lifetime ⁆ ⁆ p.old p.new }
+    ensures asks { Asks 1 p.old p.new }
+{
+    if p.at(SyntaxKind::AMP) {
+        p.take(SyntaxKind::AMP);
+        opt_lifetime(p);
+    }
+}
+
+/// Returns `true` if the `&` that is next starts a `self` parameter.
+pub fn at_self_after_ref(p: &mut Parser<'_>) -> bool
+    requires { (c : Condition) → Saw c (Kind 0 kinds.AMP) p.old true }
+    ensures sees { (c : Condition) → Saw c self_begins p.old result }
+    ensures peeks { Peeks 2 p.old p.new }
+{
+    match p.nth(1) {
+        SyntaxKind::SELF_KW | SyntaxKind::LIFETIME_IDENT => true,
+        SyntaxKind::MUT_KW => p.at_third(SyntaxKind::SELF_KW),
+        _ => false,
+    }
+}
+
+/// Returns `true` if a `self` parameter is next.
+pub fn at_self(p: &mut Parser<'_>) -> bool
+    ensures sees { (c : Condition) → Saw c self_begins p.old result }
+    ensures peeks { Peeks 3 p.old p.new }
+{
+    match p.current() {
+        SyntaxKind::SELF_KW => true,
+        SyntaxKind::MUT_KW => p.at_second(SyntaxKind::SELF_KW),
+        SyntaxKind::AMP => at_self_after_ref(p),
+        _ => false,
+    }
+}
+
+/// Parses `...` as a parameter.
+// ...
+pub fn dots_param(p: &mut Parser<'_>)
+    requires { 3 ≤ tokens p.old }
+    ensures reads { (c : Condition) → Reads c (kinds.PARAM ⟨ dots_and_dot ⟩) p.old p.new }
+    ensures takes { Takes 8192 p.old p.new }
+{
+    let node = p.start();
+    take_three_dots(p);
+    node.complete(p, SyntaxKind::PARAM);
 }

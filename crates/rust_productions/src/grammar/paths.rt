@@ -1,18 +1,18 @@
 //! Paths.
 
-ghost use Rattle.std.specs.Prelude.{◌≤◌, true, false, IsTrue, [], ◌∷◌};
-ghost use Rattle.parser_input.specs.Kinds as kinds;
 ghost use Rattle.parser_events.specs.Stack.{IsInnermost};
-ghost use Rattle.rust_productions.specs.Looks.{tokens, Takes, Asks, Peeks, TakesTwoIn, AsksIn};
-ghost use Rattle.rust_grammar.specs.Notation.{◌!, ◌before◌, row, wide};
+ghost use Rattle.parser_input.specs.Kinds as kinds;
 ghost use Rattle.rust_grammar.specs.Calls.{Path};
-ghost use Rattle.rust_grammar.specs.Shared.{path_goes_on};
-ghost use Rattle.rust_grammar.specs.Rule as rules;
-ghost use Rattle.rust_grammar.specs.Rule.{Kind, Joint, Both, Nothing};
-ghost use Rattle.rust_grammar.specs.Words.{'::', 'l_paren', 'dots'};
+ghost use Rattle.rust_grammar.specs.Notation.{◌!, ◌before◌, row, wide};
 ghost use Rattle.rust_grammar.specs.Paths as rows;
-ghost use Rattle.rust_productions.specs.Reads.{looks, Gives, Reads, Saw, Condition};
+ghost use Rattle.rust_grammar.specs.Rule as rules;
+ghost use Rattle.rust_grammar.specs.Rule.{Both, Joint, Kind, Nothing};
+ghost use Rattle.rust_grammar.specs.Shared.{path_goes_on};
+ghost use Rattle.rust_grammar.specs.Words.{'::', '<', 'dots', 'l_paren'};
+ghost use Rattle.rust_productions.specs.Looks.{Asks, AsksIn, Peeks, Takes, TakesTwoIn, tokens};
+ghost use Rattle.rust_productions.specs.Reads.{Condition, Gives, Reads, Saw, looks};
 ghost use Rattle.rust_productions.specs.Starts.{Starts};
+ghost use Rattle.std.specs.Prelude.{◌∷◌, ◌≤◌, IsTrue, [], false, true};
 
 use crate::grammar::names::{at_name_ref, expect_name_ref, name_ref};
 use crate::marker::Marker;
@@ -228,4 +228,16 @@ pub fn expect_path(p: &mut Parser<'_>)
         return;
     }
     p.error(Message::Expected(SyntaxKind::PATH));
+}
+
+/// Returns `true` if `::` is next, and `<` after it.
+pub fn at_colons_before_args(p: &mut Parser<'_>) -> bool
+    ensures sees { (c : Condition) → Saw c ('::' before '<') p.old result }
+    ensures some { IsTrue result → 3 ≤ tokens p.old }
+    ensures peeks { Peeks 3 p.old p.new }
+{
+    if !at_colons(p) {
+        return false;
+    }
+    p.at_third(SyntaxKind::L_ANGLE)
 }

@@ -1,16 +1,18 @@
 //! Patterns.
 
-ghost use Rattle.std.specs.Prelude.{◌≤◌, IsTrue};
-ghost use Rattle.rust_productions.specs.Looks.{tokens, Peeks};
-ghost use Rattle.rust_grammar.specs.Shared.{field_name};
-ghost use Rattle.rust_grammar.specs.Words.{':'};
-ghost use Rattle.rust_grammar.specs.Notation.{◌▹◌};
+ghost use Rattle.parser_input.specs.Kinds.{LITERAL_PAT};
+ghost use Rattle.rust_grammar.specs.Calls.{Literal};
+ghost use Rattle.rust_grammar.specs.Notation.{◌!, ◌before◌, ◌▸◌, ◌▹◌, ◌⟨◌⟩};
 ghost use Rattle.rust_grammar.specs.Patterns as rows;
 ghost use Rattle.rust_grammar.specs.Rule as rules;
-ghost use Rattle.rust_grammar.specs.Rule.{begins, One};
-ghost use Rattle.rust_productions.specs.Reads.{looks, Saw, Condition};
+ghost use Rattle.rust_grammar.specs.Rule.{One, begins};
+ghost use Rattle.rust_grammar.specs.Shared.{field_name};
+ghost use Rattle.rust_grammar.specs.Words.{'-', ':', 'dots', 'l_paren'};
+ghost use Rattle.rust_productions.specs.Looks.{Peeks, Takes, spent, tokens};
+ghost use Rattle.rust_productions.specs.Reads.{Condition, Reads, Saw, looks};
+ghost use Rattle.std.specs.Prelude.{◌+◌, ◌≡◌, ◌≤◌, IsTrue, false, true};
 
-use crate::grammar::names::at_literal;
+use crate::grammar::names::{at_literal, expect_literal, literal};
 use crate::grammar::operators::at_joint;
 use crate::grammar::paths::at_path;
 use crate::parser::Parser;
@@ -125,4 +127,74 @@ pub fn at_pattern_field(p: &mut Parser<'_>) -> bool
         SyntaxKind::REF_KW | SyntaxKind::MUT_KW | SyntaxKind::IDENT => true,
         _ => false,
     }
+}
+
+/// Parses a literal pattern with a minus sign.
+// -1
+pub fn negative(p: &mut Parser<'_>)
+    requires { 1 ≤ tokens p.old }
+    ensures reads { (c : Condition) → Reads c (LITERAL_PAT ⟨ One '-' ▸ Literal ! ⟩) p.old p.new }
+    ensures takes { Takes 4090 p.old p.new }
+{
+    let node = p.start();
+    p.take(SyntaxKind::MINUS);
+    expect_literal(p);
+    node.complete(p, SyntaxKind::LITERAL_PAT);
+}
+
+/// Parses a literal pattern without a minus sign.
+// 1
+pub fn literal_pat(p: &mut Parser<'_>)
+    requires { 1 ≤ tokens p.old }
+    ensures reads { (c : Condition) → Reads c (LITERAL_PAT ⟨ Literal ⟩) p.old p.new }
+    ensures left { tokens p.new + 1 ≡ tokens p.old }
+    ensures looks { spent p.new + 4095 ≤ spent p.old }
+{
+    let node = p.start();
+    literal(p);
+    node.complete(p, SyntaxKind::LITERAL_PAT);
+}
+
+/// Returns `true` if `(` is next, and `..` after it.
+pub fn at_paren_before_dots(p: &mut Parser<'_>) -> bool
+    ensures sees { (c : Condition) → Saw c ('l_paren' before 'dots') p.old result }
+    ensures some { IsTrue result → 1 ≤ tokens p.old }
+    ensures peeks { Peeks 3 p.old p.new }
+{
+    if !p.at(SyntaxKind::L_PAREN) {
+        return false;
+    }
+    p.at_pair_after(SyntaxKind::DOT, SyntaxKind::DOT)
+}
+
+/// Returns `true` if an identifier is next that is a pattern: before none of `::`, `(`, `{` and
+/// `!`.
+pub fn at_ident_pat(p: &mut Parser<'_>) -> bool
+    ensures sees { (c : Condition) → Saw c rows.name_alone p.old result }
+    ensures some { IsTrue result → 1 ≤ tokens p.old }
+    ensures peeks { Peeks 4 p.old p.new }
+{
+    if !p.at(SyntaxKind::IDENT) {
+        return false;
+    }
+    if p.at_pair_after(SyntaxKind::COLON, SyntaxKind::COLON) {
+        return false;
+    }
+    match p.nth(1) {
+        SyntaxKind::L_PAREN | SyntaxKind::L_CURLY | SyntaxKind::BANG => false,
+        _ => true,
+    }
+}
+
+/// Parses a rest pattern.
+// ..
+pub fn rest_pat(p: &mut Parser<'_>)
+    requires { 2 ≤ tokens p.old }
+    ensures reads { (c : Condition) → Reads c rows.rest_pat p.old p.new }
+    ensures left { tokens p.new + 2 ≡ tokens p.old }
+    ensures looks { spent p.new + 8192 ≡ spent p.old }
+{
+    let node = p.start();
+    p.take_pair(SyntaxKind::DOT2);
+    node.complete(p, SyntaxKind::REST_PAT);
 }

@@ -1,13 +1,15 @@
 //! Where statements start that are items, or that only the whole language has.
 
-ghost use Rattle.std.specs.Prelude.{◌≤◌, ◌∷◌, [], IsTrue};
-ghost use Rattle.rust_grammar.specs.Notation.{one_of, wide};
+ghost use Rattle.rust_grammar.specs.Expressions.{goes_on};
+ghost use Rattle.rust_grammar.specs.Notation.{◌before◌, one_of, wide};
 ghost use Rattle.rust_grammar.specs.Rule.{Both, Not, Whole};
 ghost use Rattle.rust_grammar.specs.Statements as rows;
-ghost use Rattle.rust_grammar.specs.Words.{'fn', 'impl', 'trait', '|', 'move', 'async'};
-ghost use Rattle.rust_productions.specs.Looks.{tokens, Peeks};
-ghost use Rattle.rust_productions.specs.Reads.{Saw, Condition};
+ghost use Rattle.rust_grammar.specs.Words.{'!', '#', 'async', 'fn', 'impl', 'move', 'trait', '|'};
+ghost use Rattle.rust_productions.specs.Looks.{Peeks, tokens};
+ghost use Rattle.rust_productions.specs.Reads.{Condition, Saw};
+ghost use Rattle.std.specs.Prelude.{◌<◌, ◌∷◌, ◌≤◌, IsTrue, [], true};
 
+use crate::condition::Condition;
 use crate::grammar::item_words::at_new_item;
 use crate::grammar::match_arms::at_long_path;
 use crate::parser::Parser;
@@ -178,4 +180,36 @@ pub fn at_item_after_attributes(p: &mut Parser<'_>) -> bool
         return true;
     }
     false
+}
+
+/// Returns `true` if an inner attribute is next.
+pub fn at_inner_attribute(p: &mut Parser<'_>) -> bool
+    ensures sees { (c : Condition) → Saw c ('#' before '!') p.old result }
+    ensures some { IsTrue result → 1 ≤ tokens p.old }
+    ensures peeks { Peeks 2 p.old p.new }
+{
+    if !p.at(SyntaxKind::POUND) {
+        return false;
+    }
+    p.at_second(SyntaxKind::BANG)
+}
+
+/// Returns `true` if an expression that ends in a block continues: with a `?`, or with a dot that
+/// starts no range.
+#[inline(always)]
+pub fn at_more(p: &mut Parser<'_>) -> bool
+    ensures sees { (c : Condition) → Saw c goes_on p.old result }
+    ensures some { IsTrue result → 1 ≤ tokens p.old }
+    ensures peeks { Peeks 3 p.old p.new }
+{
+    match p.current() {
+        SyntaxKind::QUESTION => true,
+        SyntaxKind::DOT => {
+            if p.at_pair(SyntaxKind::DOT, SyntaxKind::DOT) {
+                return false;
+            }
+            true
+        }
+        _ => false,
+    }
 }

@@ -1,16 +1,24 @@
 //! Types.
 
-ghost use Rattle.std.specs.Prelude.{◌≤◌, IsTrue, true, [], ◌∷◌};
+ghost use Rattle.parser_events.specs.Stack.{IsInnermost};
+ghost use Rattle.parser_input.specs.Kind.{raw_of};
 ghost use Rattle.parser_input.specs.Kinds as kinds;
-ghost use Rattle.rust_productions.specs.Looks.{tokens, Peeks};
+ghost use Rattle.rust_grammar.specs.Notation.{◌!, ◌⟨◌⟩, one_of, wide};
+ghost use Rattle.rust_grammar.specs.Paths as path_rows;
 ghost use Rattle.rust_grammar.specs.Rule as rules;
-ghost use Rattle.rust_grammar.specs.Notation.{one_of, wide};
-ghost use Rattle.rust_grammar.specs.Rule.{begins};
-ghost use Rattle.rust_grammar.specs.Words.{'ident', '_'};
+ghost use Rattle.rust_grammar.specs.Rule.{One, begins};
 ghost use Rattle.rust_grammar.specs.Types as rows;
-ghost use Rattle.rust_productions.specs.Reads.{looks, Saw, Condition};
+ghost use Rattle.rust_grammar.specs.Words.{'_', 'ident', one};
+ghost use Rattle.rust_productions.specs.Looks.{Asks, AsksIn, Peeks, Takes, spent, tokens};
+ghost use Rattle.rust_productions.specs.Reads.{Condition, Reads, Saw, looks};
+ghost use Rattle.rust_productions.specs.Starts.{Starts};
+ghost use Rattle.std.specs.Prelude.{◌+◌, ◌∷◌, ◌≡◌, ◌≤◌, IsTrue, [], true};
 
-use crate::grammar::paths::at_path;
+use crate::condition::Condition;
+use crate::grammar::item_words::{opt_abi, read_abi};
+use crate::grammar::paths::{at_macro_call, at_path};
+use crate::grammar::token_trees::expect_token_tree;
+use crate::marker::Marker;
 use crate::parser::Parser;
 use parser_input::syntax_kind::SyntaxKind;
 
@@ -245,4 +253,67 @@ pub fn at_fn_ptr_param(p: &mut Parser<'_>) -> bool
         return true;
     }
     false
+}
+
+/// Completes a path as a type, or parses the rest of a macro call in place of a type.
+// !(a)
+pub fn type_of_path(p: &mut Parser<'_>, frame: Marker) -> Marker
+    requires innermost { IsInnermost frame p.old.nodes }
+    ensures reads { (c : Condition) → Reads c path_rows.type_of_path p.old p.new }
+    ensures asks { AsksIn result 3 p.old p.new }
+{
+    if at_macro_call(p) {
+        p.take(SyntaxKind::BANG);
+        expect_token_tree(p);
+        return frame.wrap(p, SyntaxKind::MACRO_CALL);
+    }
+    frame.wrap(p, SyntaxKind::PATH_TYPE)
+}
+
+/// Parses the words before the parameters.
+// unsafe extern "C" fn
+pub fn fn_ptr_words(p: &mut Parser<'_>)
+    requires begins { Starts rows.fn_ptr_begins p.old }
+    ensures reads { (c : Condition) → Reads c rows.fn_ptr_words p.old p.new }
+    ensures takes { Takes 4080 p.old p.new }
+{
+    match p.current() {
+        SyntaxKind::UNSAFE_KW => {
+            p.take(SyntaxKind::UNSAFE_KW);
+            opt_abi(p);
+            p.expect(SyntaxKind::FN_KW);
+        }
+        SyntaxKind::EXTERN_KW => {
+            read_abi(p);
+            p.expect(SyntaxKind::FN_KW);
+        }
+        _ => p.take(SyntaxKind::FN_KW),
+    }
+}
+
+/// Parses one token, in a node of `kind`.
+// _
+pub fn word_type(p: &mut Parser<'_>, token: SyntaxKind, kind: SyntaxKind)
+    requires { 1 ≤ tokens p.old }
+    ensures reads { (c : Condition)
+        → Reads c (raw_of kind ⟨ One (one (raw_of token)) ⟩) p.old p.new }
+    ensures left { tokens p.new + 1 ≡ tokens p.old }
+    ensures looks { spent p.new + 4096 ≡ spent p.old }
+{
+    let node = p.start();
+    p.take(token);
+    node.complete(p, kind);
+}
+
+/// Parses `const` or `mut`; emits an error if there is neither.
+// mut
+pub fn const_or_mut(p: &mut Parser<'_>)
+    ensures reads { (c : Condition) → Reads c rows.const_or_mut p.old p.new }
+    ensures asks { Asks 2 p.old p.new }
+{
+    if p.at(SyntaxKind::CONST_KW) {
+        p.take(SyntaxKind::CONST_KW);
+        return;
+    }
+    p.expect(SyntaxKind::MUT_KW);
 }

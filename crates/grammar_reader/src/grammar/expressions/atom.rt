@@ -20,13 +20,14 @@ use crate::grammar::expressions::{Level, expect_expression, expression, operatio
 use crate::grammar::lists::{Element, ListKind, list, rest_of_list, tuple_tail};
 use crate::grammar::parts::{Part, expect_part};
 use crate::grammar::paths::{Mode, path_with_args, qualified_path};
-use crate::grammar::types::word_type;
 use parser_input::syntax_kind::SyntaxKind;
 use rust_productions::condition::Condition;
-use rust_productions::grammar::expression_words::{at_new_atom, opt_jump_label};
-use rust_productions::grammar::expressions::{at_block_like, at_body, at_expression, at_operation};
+use rust_productions::grammar::expression_words::{at_new_atom, macro_call, opt_jump_label};
+use rust_productions::grammar::expressions::{
+    at_block_like, at_body, at_expression, at_operation, continue_expr,
+};
 use rust_productions::grammar::names::{at_literal, literal};
-use rust_productions::grammar::token_trees::expect_token_tree;
+use rust_productions::grammar::types::word_type;
 use rust_productions::marker::Marker;
 use rust_productions::parser::Parser;
 
@@ -127,17 +128,6 @@ pub(crate) fn after_path(p: &mut Parser<'_>, frame: Marker, condition: Condition
             frame.wrap(p, SyntaxKind::PATH_EXPR)
         }
     }
-}
-
-/// Parses the `!` and the token tree of a macro call.
-// !(a, b)
-fn macro_call(p: &mut Parser<'_>)
-    requires { 1 ≤ tokens p.old }
-    ensures reads { (c : Condition) → Reads c rows.macro_tail p.old p.new }
-    ensures takes { Takes 4090 p.old p.new }
-{
-    p.take(SyntaxKind::BANG);
-    expect_token_tree(p);
 }
 
 /// Parses a tuple expression or a parenthesized expression.
@@ -257,19 +247,6 @@ fn break_expr(p: &mut Parser<'_>, condition: Condition)
     opt_jump_label(p);
     opt_value(p, condition);
     node.complete(p, SyntaxKind::BREAK_EXPR);
-}
-
-/// Parses a `continue` expression.
-// continue 'a
-fn continue_expr(p: &mut Parser<'_>)
-    requires some { 1 ≤ tokens p.old }
-    ensures reads { (c : Condition) → Reads c rows.continue_expr p.old p.new }
-    ensures takes { Takes 4090 p.old p.new }
-{
-    let node = p.start();
-    p.take(SyntaxKind::CONTINUE_KW);
-    opt_jump_label(p);
-    node.complete(p, SyntaxKind::CONTINUE_EXPR);
 }
 
 /// Parses the optional value of a `return` or `break` expression.

@@ -4,7 +4,6 @@ ghost use Rattle.std.specs.Prelude.{◌≤◌, true};
 ghost use Rattle.parser_input.specs.Kinds.{CLOSURE_EXPR};
 ghost use Rattle.rust_grammar.specs.Expressions as rows;
 ghost use Rattle.rust_grammar.specs.Notation.{◌▸◌, ⁅◌⁆, ◌!, ◌⟨◌⟩};
-ghost use Rattle.rust_grammar.specs.Rule as rules;
 ghost use Rattle.rust_grammar.specs.Calls.{SinglePattern};
 ghost use Rattle.rust_grammar.specs.Rule.{One, begins};
 ghost use Rattle.rust_grammar.specs.Shared as shared;

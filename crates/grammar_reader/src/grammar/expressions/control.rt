@@ -1,10 +1,10 @@
 //! Expressions that end in a block.
 
-ghost use Rattle.std.specs.Prelude.{◌≡◌, ◌≤◌, ◌+◌, IsTrue, true, false};
+ghost use Rattle.std.specs.Prelude.{◌≡◌, ◌≤◌, IsTrue, true, false};
 ghost use Rattle.rust_grammar.specs.Notation.{⁅◌⁆, ◌*, ◌! };
 ghost use Rattle.rust_grammar.specs.Rule as rules;
 ghost use Rattle.rust_grammar.specs.Expressions as rows;
-ghost use Rattle.rust_productions.specs.Looks.{tokens, spent, Takes, Asks};
+ghost use Rattle.rust_productions.specs.Looks.{tokens, Takes, Asks};
 ghost use Rattle.rust_productions.specs.Reads.{looks, FromStart, Completes, Gives, Reads, Saw};
 ghost use Rattle.rust_productions.specs.declared.condition.Condition.{Condition};
 ghost use Rattle.rust_productions.specs.declared.condition.Condition.TheVariants.{Off};
@@ -22,10 +22,9 @@ use crate::grammar::parts::{Part, expect_part};
 use parser_events::message::Message;
 use parser_input::syntax_kind::SyntaxKind;
 use rust_productions::condition::Condition;
-use rust_productions::grammar::expression_words::{at_new_block, block_words, label};
+use rust_productions::grammar::expression_words::{at_new_block, block_words, label, macro_block};
 use rust_productions::grammar::lists::at_list_end;
 use rust_productions::grammar::match_arms::{at_match_arm, at_match_attribute};
-use rust_productions::grammar::token_trees::token_tree;
 use rust_productions::marker::Marker;
 use rust_productions::parser::Parser;
 
@@ -327,40 +326,4 @@ fn arm_turn(p: &mut Parser<'_>) -> bool
     }
     p.skip(Message::ExpectedMatchArm);
     true
-}
-
-/// Parses a path of one identifier, before the `!` of a macro call with braces.
-// m
-fn word_path(p: &mut Parser<'_>)
-    requires begins { Starts rows.macro_block_begins p.old }
-    ensures gives { (c : Condition) → Gives rules.expr_path c p.old p.new }
-    ensures left { tokens p.new + 1 ≡ tokens p.old }
-    ensures looks { spent p.new + 4096 ≡ spent p.old }
-{
-    let frame = p.start();
-    let path = p.start();
-    let segment = p.start();
-    let name = p.start();
-    p.take(SyntaxKind::IDENT);
-    name.complete(p, SyntaxKind::NAME_REF);
-    segment.complete(p, SyntaxKind::PATH_SEGMENT);
-    path.complete(p, SyntaxKind::PATH);
-    frame.abandon(p);
-}
-
-/// Parses a macro call with braces.
-// m! { a }
-fn macro_block(p: &mut Parser<'_>)
-    requires begins { (c : Condition) → Saw c rows.macro_block_begins p.old true }
-    requires some { 3 ≤ tokens p.old }
-    ensures reads { (c : Condition) → Reads c rows.macro_block p.old p.new }
-    ensures takes { Takes 4080 p.old p.new }
-{
-    let node = p.start();
-    let call = p.start();
-    word_path(p);
-    p.take(SyntaxKind::BANG);
-    token_tree(p);
-    call.complete(p, SyntaxKind::MACRO_CALL);
-    node.complete(p, SyntaxKind::MACRO_EXPR);
 }

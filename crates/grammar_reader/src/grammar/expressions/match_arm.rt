@@ -8,8 +8,6 @@ ghost use Rattle.rust_grammar.specs.Shared as shared;
 ghost use Rattle.rust_grammar.specs.Whole.{rule};
 ghost use Rattle.rust_productions.specs.Starts.{Starts};
 ghost use Rattle.rust_grammar.specs.Rule as rules;
-ghost use Rattle.rust_grammar.specs.Rule.{One};
-ghost use Rattle.rust_grammar.specs.Words.{'=>'};
 ghost use Rattle.rust_grammar.specs.Expressions as rows;
 ghost use Rattle.rust_productions.specs.Looks.{tokens, Takes, Asks, AsksIn};
 ghost use Rattle.rust_productions.specs.Reads.{looks, Gives, Reads, Saw};
@@ -22,13 +20,12 @@ use crate::grammar::expressions::operand::{postfix, postfixes};
 use crate::grammar::expressions::{Level, after_operand, expect_condition, expect_expression};
 use crate::grammar::or_patterns::{pattern, pattern_or_missing};
 use crate::grammar::paths::{Mode, path_with_args};
-use crate::grammar::statements::at_more;
-use parser_events::message::Message;
 use parser_input::syntax_kind::SyntaxKind;
 use rust_productions::condition::Condition;
 use rust_productions::grammar::expressions::at_block_like;
 use rust_productions::grammar::lists::comma;
-use rust_productions::grammar::match_arms::{at_braced_macro, at_long_path};
+use rust_productions::grammar::match_arms::{at_braced_macro, at_long_path, expect_arrow};
+use rust_productions::grammar::statements::at_more;
 use rust_productions::grammar::token_trees::token_tree;
 use rust_productions::marker::Marker;
 use rust_productions::parser::Parser;
@@ -94,19 +91,6 @@ fn guard_value(p: &mut Parser<'_>)
         return;
     }
     expect_condition(p);
-}
-
-/// Parses the `=>` of a match arm; emits an error if there is none.
-// =>
-fn expect_arrow(p: &mut Parser<'_>)
-    ensures reads { (c : Condition) → Reads c (One '=>' !) p.old p.new }
-    ensures asks { Asks 2 p.old p.new }
-{
-    if p.at_pair(SyntaxKind::EQ, SyntaxKind::R_ANGLE) {
-        p.take_pair(SyntaxKind::FAT_ARROW);
-        return;
-    }
-    p.error(Message::Expected(SyntaxKind::FAT_ARROW));
 }
 
 /// Parses the value of a match arm and its comma.

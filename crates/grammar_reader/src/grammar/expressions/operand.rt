@@ -24,13 +24,13 @@ use crate::grammar::expressions::{Level, expect_expression, open_range};
 use crate::grammar::items::attributes;
 use crate::grammar::lists::{ListKind, list};
 use crate::grammar::parts::{Part, expect_part, opt_part};
-use crate::grammar::types::word_type;
 use parser_events::message::Message;
 use parser_input::syntax_kind::SyntaxKind;
 use rust_productions::condition::Condition;
 use rust_productions::grammar::expressions::at_operand;
-use rust_productions::grammar::operands::{at_new_operand, at_raw, opt_mut_or_const};
+use rust_productions::grammar::operands::{at_method, at_new_operand, at_raw, opt_mut_or_const};
 use rust_productions::grammar::operators::at_joint;
+use rust_productions::grammar::types::word_type;
 use rust_productions::marker::Marker;
 use rust_productions::parser::Parser;
 
@@ -278,24 +278,6 @@ fn index(p: &mut Parser<'_>)
     p.take(SyntaxKind::L_BRACK);
     expect_expression(p, Level::Expression, Condition::Off);
     p.expect(SyntaxKind::R_BRACK);
-}
-
-/// Returns `true` if the name of a method is next: an identifier before `(` or `::`.
-fn at_method(p: &mut Parser<'_>) -> bool
-    ensures sees { (c : Condition) → Saw c rows.method_begins p.old result }
-    ensures some { IsTrue result → 1 ≤ tokens p.old }
-    ensures peeks { Peeks 4 p.old p.new }
-{
-    if !p.at(SyntaxKind::IDENT) {
-        return false;
-    }
-    if p.at_second(SyntaxKind::L_PAREN) {
-        return true;
-    }
-    if p.at_pair_after(SyntaxKind::COLON, SyntaxKind::COLON) {
-        return true;
-    }
-    false
 }
 
 /// Parses a field access or a method call after its dot.

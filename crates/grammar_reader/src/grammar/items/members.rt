@@ -18,23 +18,11 @@ use crate::grammar::parts::{Part, expect_part};
 use crate::grammar::types::any_type;
 use parser_input::syntax_kind::SyntaxKind;
 use rust_productions::condition::Condition;
-use rust_productions::grammar::items::opt_unsafe_field;
+use rust_productions::grammar::items::unsafe_and_name;
 use rust_productions::grammar::names::{expect_name, name};
 use rust_productions::grammar::types::at_type;
 use rust_productions::grammar::visibility::visibility;
 use rust_productions::parser::Parser;
-
-/// Returns `true` if a variant starts here: at an attribute, a visibility or a name.
-pub(crate) fn at_named_member(p: &mut Parser<'_>) -> bool
-    ensures sees { (c : Condition) → Saw c
-        (begins looks (Attribute * ▸ ⁅ Visibility ⁆ ▸ Name !)) p.old result }
-    ensures peeks { Peeks 1 p.old p.new }
-{
-    match p.current() {
-        SyntaxKind::POUND | SyntaxKind::PUB_KW | SyntaxKind::IDENT => true,
-        _ => false,
-    }
-}
 
 /// Returns `true` if a named field starts here: at an attribute, a visibility, a name, or in the
 /// whole language at `unsafe`.
@@ -141,16 +129,6 @@ fn field_front(p: &mut Parser<'_>)
             name(p);
         }
     }
-}
-
-/// Parses the optional `unsafe` of a named field and its name.
-// unsafe b
-fn unsafe_and_name(p: &mut Parser<'_>)
-    ensures reads { (c : Condition) → Reads c rows.unsafe_and_name p.old p.new }
-    ensures asks { Asks 2 p.old p.new }
-{
-    opt_unsafe_field(p);
-    expect_name(p);
 }
 
 /// Parses the optional value of a variant, or the optional default of a field.

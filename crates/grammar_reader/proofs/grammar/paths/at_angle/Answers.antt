@@ -2,8 +2,8 @@
 use Rattle.rust_grammar.specs.Notation.{one_of, row}
 use Rattle.rust_grammar.specs.Rule.{there_at}
 use Rattle.rust_productions.proofs.Facts.{saw-so}
-use Rattle.rust_productions.proofs.Seen.{saw-always, saw-before, saw-no-left}
-use Rattle.grammar_reader.proofs.Elements.{saw-both, saw-denied, saw-never}
+use Rattle.rust_productions.proofs.Seen.{saw-always, saw-before, saw-both, saw-no-left}
+use Rattle.grammar_reader.proofs.Elements.{saw-denied, saw-never}
 use Rattle.rust_productions.proofs.Peeking.{peeks-then}
 use Rattle.grammar_reader.proofs.grammar.paths.at_angle.Goals as goal
 

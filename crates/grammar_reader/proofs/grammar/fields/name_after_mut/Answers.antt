@@ -1,6 +1,0 @@
--- One after the other.
-use Rattle.rust_productions.proofs.ByHand.{reads-then}
-use Rattle.grammar_reader.proofs.grammar.fields.name_after_mut.Goals as goal
-
-pub returns-clause-reads : goal.returns-clause-reads
-returns-clause-reads c cond = reads-then cond (c.take.ensures.reads cond) (c.expect_name.ensures.reads cond)
