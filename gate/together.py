@@ -23,6 +23,8 @@ UNTRIED = re.compile(r"note: `search` has not tried the goals of `([^`]*)`")
 OF_NAMES = re.compile(r"has no field|is not in scope|has no `|was not admitted")
 # An error of a check that reached no proof: the file and the line.
 BROKEN = re.compile(r"(?:\./)?(src/\S+?):(\d+):\d+: error\b")
+# What a check says of a function that it does not find by the name that it was asked for.
+UNKNOWN = re.compile(r".*error: `[^`]*` has no function `([^`]*)`")
 # The folder of a cycle of calls, below that of its module.
 CYCLE = re.compile(r"proofs/(.*?)/?\+\w+/")
 
@@ -61,9 +63,9 @@ def body_lines(lines, at, indent):
 
 
 def words_of(type_or_trait, parameters):
-    """Returns the names in a type or a trait, without those of modules and of parameters, as one word of capitals."""
+    """Returns the names in a type or a trait, without those of modules and of parameters, each with a capital."""
     names = re.findall(r"(?<!')\b[A-Za-z]\w*\b(?!::)", type_or_trait)
-    return "".join(f"{name[0].upper()}{name[1:]}" for name in names if name not in parameters)
+    return [f"{name[0].upper()}{name[1:]}" for name in names if name not in parameters]
 
 
 def name_of(file, lines, at, indent, function):
@@ -77,7 +79,8 @@ def name_of(file, lines, at, indent, function):
     if not around:
         return trait and f"{trait[1]}::{function}"
     parameters = re.findall(r"(?:^|, )(\w+)", around[1] or "")
-    return f"{words_of(around[3], parameters)}{words_of(around[2] or '', parameters)}::{function}"
+    of_type = words_of(around[3], parameters)
+    return f"{''.join([*of_type, *words_of(around[2], parameters)]) if around[2] else '+'.join(of_type)}::{function}"
 
 
 def bodies(file, text):
@@ -217,11 +220,13 @@ def waiting_in(lines, tried):
 
 
 def broken_in(folder, lines, tried):
-    """Returns the edits of a round that do not compile, by a check that reached no proof: an error lies in the body that they change."""
+    """Returns the edits of a round for which a check reached no proof: an error lies in the body that they change, or the check does not
+    find the function."""
     if said_in(lines):
         return set()
     places = {(found[1], int(found[2])) for found in map(BROKEN.match, lines) if found}
-    broken = set()
+    unknown = {found[1] for found in map(UNKNOWN.match, lines) if found}
+    broken = {edit for edit, body, _ in tried if body.name in unknown}
     for edit, body, made in tried:
         file = made[0][0]
         text = read(f"{folder}/{file}")

@@ -118,6 +118,7 @@ class Together(unittest.TestCase):
             ("impl<N: fmt::Display, T: fmt::Display> fmt::Display for Either<N, T> {", "EitherDisplay"),
             ("impl Add<u8> for Level {", "LevelAddU8"),
             ("pub trait Node: Sized {", "Node"),
+            ("impl NodeOrToken<GreenNode, GreenToken> {", "NodeOrToken+GreenNode+GreenToken"),
         ):
             found = together.bodies("src/lib.rt", f"{head}\n    fn f() {{\n        1\n    }}\n}}\n")
             self.assertEqual([it.name for it in found], [f"{name}::f"])
@@ -189,6 +190,8 @@ class Together(unittest.TestCase):
             checks.append("".join(edit for edit, old in (("a", "m + n"), ("b", "self.0 + 1"), ("c", "f.pad")) if old not in text))
             if "m +\n" in text:
                 return ["src/part.rt:15:9: error: expected an operand"]
+            if "f.put" in text and "self.0" not in text:
+                return ["rattle: error: `n` has no function `CounterDisplay::fmt`: help: write the name that a check prints"]
             return ["./proofs/part/Counter/count/Answers.antt:3:1: error: `goal`", "fn n::part::Counter::count: not proved", "fn n::part::CounterDisplay::fmt: proved"]
 
         together.check, own = check, together.check
@@ -198,7 +201,7 @@ class Together(unittest.TestCase):
         finally:
             together.check = own
         self.assertEqual((found, also), (["b"], []))
-        self.assertEqual(checks, ["abc", "bc", "a", "c", "ac", "c"])
+        self.assertEqual(checks, ["abc", "bc", "b", "a", "c", "ac", "c"])
 
     def test_check_restores_files(self):
         with self.assertRaises(OSError):
