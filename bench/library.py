@@ -1,10 +1,10 @@
 #!/usr/bin/env python3
 """Measures lib/libtevondimby.so through ctypes, in CPU time of this process: a request answered by a call, and by a process each.
 
-    bench/library.py [PROGRAM] [FILE]
+    bench/library.py [FILE]
 
-PROGRAM is a built document_tool, each run of which answers one request. FILE is a text that is opened, checked and written as rows;
-without it src/ of crates/grammar_reader joined. The build is the one that lib/BUILD names.
+The process is bench/once.c, with the same library. FILE is a text that is opened and written as rows; without it src/ of
+crates/grammar_reader joined. The build is the one that lib/BUILD names.
 """
 import glob
 import json
@@ -12,9 +12,11 @@ import os
 import resource
 import subprocess
 import sys
+import tempfile
 
 TOP = os.path.dirname(os.path.dirname(os.path.realpath(__file__)))
 sys.path.insert(0, f"{TOP}/bindings/python")
+os.environ.setdefault("TEVONDIMBY_LIBRARY", f"{TOP}/lib/libtevondimby.so")
 import tevondimby  # noqa: E402
 
 CALLS, PROCESSES, RUNS = 2000, 100, 5
@@ -52,15 +54,15 @@ def text_of(words):
 def main(words):
     with open(f"{TOP}/lib/BUILD", encoding="utf-8") as file:
         print(f"the {file.read().strip()} build")
-    programs = [word for word in words if os.access(word, os.X_OK)]
     asked = requests()
     a_call = measured(resource.RUSAGE_SELF, lambda: [tevondimby.run(request) for request in asked]) / len(asked)
     print(f"a call for a request: {a_call * 1e6:.0f} us, {1 / a_call:.0f} a second")
-    for program in programs:
-        some = asked[:PROCESSES]
+    with tempfile.TemporaryDirectory(prefix="library-") as room:
+        program, some = f"{room}/once", asked[:PROCESSES]
+        subprocess.run(["cc", "-O1", f"-I{TOP}/bindings/c", f"{TOP}/bench/once.c", f"{TOP}/lib/libtevondimby.a", "-o", program], check=True)
         a_process = measured(resource.RUSAGE_CHILDREN, lambda: [subprocess.run([program], input=it, capture_output=True) for it in some]) / len(some)
-        print(f"a process for a request: {a_process * 1e6:.0f} us, {a_process / a_call:.1f} times a call")
-    text = text_of([word for word in words if word not in programs])
+    print(f"a process for a request: {a_process * 1e6:.0f} us, {a_process / a_call:.1f} times a call")
+    text = text_of(words)
     size = len(text.encode())
     opened = tevondimby.Document(text, grammar=tevondimby.Grammar.WHOLE)
     rows = {

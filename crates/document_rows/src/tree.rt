@@ -30,7 +30,7 @@ fn enter<'a>(
     levels: &mut Vec<Children<'a>>,
 ) -> Result<u32, AllocError>
     requires { start + term_len element < 2 ^ 32 }
-    ensures { IfOk result (Enters element start levels.old.items levels.new.items) }
+    ensures { IfOk result (Enters element.entry start levels.old.items levels.new.items) }
 {
     match element {
         NodeOrToken::Node(node) => {
@@ -49,13 +49,15 @@ fn push_levels(levels: &mut Vec<Children<'_>>, rows: &mut Vec<ElementRow>) -> Re
 {
     let mut start = 0u32;
     'levels: while let Some(mut children) = levels.pop() {
-        let depth = levels.len().saturating_add(1);
-        let Some(element) = children.next() else {
-            continue;
-        };
-        rows.push(element_row(&element, depth, start))?;
-        levels.push(children)?;
-        start = enter(element, start, levels)?;
+        let depth = levels.as_slice().len().saturating_add(1);
+        match children.next() {
+            Some(element) => {
+                rows.push(element_row(&element, depth, start))?;
+                levels.push(children)?;
+                start = enter(element, start, levels)?;
+            }
+            None => continue,
+        }
     }
     Ok(())
 }

@@ -4,7 +4,7 @@ use Rattle.std.specs.Prelude.{Option, None, Some, is_some}
 use Rattle.parser_input.specs.declared.edition.Edition.{Edition}
 use Rattle.ra_parser.specs.declared.grammar.Grammar.{Grammar}
 use Rattle.kept_document.specs.Calls.{IsFresh, RefusesOpening}
-use Rattle.kept_document.specs.Exports.{HasReason, RefusesClosed, RefusesOpen}
+use Rattle.kept_document.specs.Exports.{HasReason, IsUncommitted, KeepsText, RefusesClosed, RefusesOpen}
 use Rattle.kept_document.specs.Reasons.{code_of}
 use Rattle.kept_document.specs.declared.kept.Kept.{Kept}
 use Rattle.kept_document.specs.declared.reason.Reason.{Reason}
@@ -35,3 +35,19 @@ pub lacks-memory :
 lacks-memory None grammar text kept fresh = let bad = fresh.edition_is in cc
 lacks-memory (Some edition) None text kept fresh = let bad = fresh.grammar_is in cc
 lacks-memory (Some edition) (Some grammar) text kept fresh = tt
+
+pub uncommitted-closed :
+    (d : Option Kept) (command : List ℕ) (code : ℕ) (opened : _) → opened ≡ is_some d → opened ≡ false → code ≡ code_of NotOpen
+    → IsUncommitted d d command code
+uncommitted-closed None command code opened told closed is = is
+uncommitted-closed (Some kept) command code opened told closed is = let bad : true ≡ false = sym told ∙ closed in cc
+
+-- A handle that is not touched keeps its text.
+pub keeps-same : (d : Option Kept) → KeepsText d d
+keeps-same None = tt
+keeps-same (Some kept) = record { document = refl; changed = refl }
+
+pub open-refuses :
+    (d : Option Kept) (kept : Kept) (Refuses : Kept → Reason → Type 0) (code : ℕ) (reason : Reason) → d ≡ Some kept → code ≡ code_of reason
+    → Refuses kept reason → HasReason (RefusesOpen d Refuses) code
+open-refuses d kept Refuses code reason is told holds = rw is (record { reason = reason; is = told; holds = holds })

@@ -1,5 +1,5 @@
 -- Commits of a kept document.
-use Rattle.std.specs.Prelude.{◌≡◌, ℕ, List, [], ◌∷◌, map, Option, Some, None, option_and_then}
+use Rattle.std.specs.Prelude.{◌≡◌, ◌⊎◌, ℕ, List, [], ◌∷◌, map, Option, Some, None, option_and_then}
 use Rattle.std.specs.Str.{IsUtf8}
 use Rattle.serde_json.specs.Find.{as_array}
 use Rattle.serde_json.specs.Read.{read}
@@ -42,19 +42,21 @@ pub record IsRefused (changes : List Change) (old new : Kept) (reason : Reason) 
   pub is : reason ≡ of_refusal refusal
   pub answer : answered changes old ≡ record { reply = replies.Refused refusal; after = session new.document new.ids }
 
--- Out of memory and too deep a text come at any point.
+-- no commit, or a refused one
 abbrev pub RefusesChanges : Option (List Change) → Kept → Kept → Reason → Type 0
 RefusesChanges None old new reason = reason ≡ NoCommand
 RefusesChanges (Some changes) old new reason = IsRefused changes old new reason
 
+-- Out of memory and too deep a text come at any point.
+abbrev pub StopsAnywhere : Reason → Type 0
+StopsAnywhere reason = (reason ≡ NoMemory) ⊎ (reason ≡ TooDeep)
+
 abbrev pub RefusesCommand : Option (List Change) → Kept → Kept → Reason → Type 0
-RefusesCommand asked old new NoMemory = Unit {0}
-RefusesCommand asked old new TooDeep = Unit {0}
-RefusesCommand asked old new reason = RefusesChanges asked old new reason
+RefusesCommand asked old new reason = StopsAnywhere reason ⊎ RefusesChanges asked old new reason
 
 abbrev pub RefusesCommit : List ℕ → Kept → Kept → Reason → Type 0
-RefusesCommit bytes old new NotUtf8 = ¬ (IsUtf8 bytes)
-RefusesCommit bytes old new reason = RefusesCommand (commit_in old.document.grammar bytes) old new reason
+RefusesCommit bytes old new reason =
+    ((reason ≡ NotUtf8) × (¬ (IsUtf8 bytes))) ⊎ RefusesCommand (commit_in old.document.grammar bytes) old new reason
 
 -- why a reply is none of an accepted commit; other replies are none of a commit
 abbrev pub RefusesReply : Reply → Reason → Type 0

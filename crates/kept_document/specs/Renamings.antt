@@ -8,9 +8,10 @@ use Rattle.parser_input.specs.declared.edition.Edition.{Edition}
 use Rattle.rust_document.specs.Step.{State}
 use Rattle.renamer.specs.Verdict.{RefusesRename}
 use Rattle.renamer.specs.declared.RenameError.{RenameError}
+use Rattle.kept_document.specs.Commits.{StopsAnywhere}
 use Rattle.kept_document.specs.Reasons.{of_rename}
 use Rattle.kept_document.specs.declared.reason.Reason.{Reason}
-use Rattle.kept_document.specs.declared.reason.Reason.TheVariants.{NotUtf8, NoCommand, NoMemory, TooDeep}
+use Rattle.kept_document.specs.declared.reason.Reason.TheVariants.{NotUtf8, NoCommand}
 
 abbrev pub is_identifier_leaf : Option Lexed → Bool
 is_identifier_leaf None = false
@@ -26,10 +27,8 @@ pub record IsUnrenamed (d : State) (next : ℕ) (old new : List ℕ) (reason : R
   pub is : reason ≡ of_rename error
   pub holds : RefusesRename d old new next error
 
--- Out of memory and too deep a text come at any point.
+-- a name that is not UTF-8, then a new name that is no identifier; else the error of the renaming
 abbrev pub RefusesRenaming : State → ℕ → (old new : List ℕ) → Reason → Type 0
-RefusesRenaming d next old new NotUtf8 = (¬ (IsUtf8 old)) ⊎ (¬ (IsUtf8 new))
-RefusesRenaming d next old new NoCommand = (is_identifier d.edition (chars new) ≡ false) ⊎ IsUnrenamed d next old new NoCommand
-RefusesRenaming d next old new NoMemory = Unit {0}
-RefusesRenaming d next old new TooDeep = Unit {0}
-RefusesRenaming d next old new reason = IsUnrenamed d next old new reason
+RefusesRenaming d next old new reason =
+    ((reason ≡ NotUtf8) × ((¬ (IsUtf8 old)) ⊎ (¬ (IsUtf8 new))))
+    ⊎ (((reason ≡ NoCommand) × (is_identifier d.edition (chars new) ≡ false)) ⊎ (StopsAnywhere reason ⊎ IsUnrenamed d next old new reason))

@@ -63,10 +63,12 @@ pub(crate) fn test_levels(
             }
         }
     }
-    match committed_text(alloc, document, changes)? {
-        Some(text) if is_too_deep(alloc, edition, &text)? => Err(Reason::TooDeep),
-        _ => Ok(()),
+    if let Some(text) = committed_text(alloc, document, changes)? {
+        if is_too_deep(alloc, edition, &text)? {
+            return Err(Reason::TooDeep);
+        }
     }
+    Ok(())
 }
 
 /// Returns the ranges that an accepted commit inserted.
