@@ -1,4 +1,4 @@
-//! Boxes that are taken apart and put together again.
+//! Boxes as their pointers and allocators.
 ghost use Rattle.std.specs.Prelude.{◌≡◌};
 ghost use Rattle.std.specs.Box.Ownership.{box_owns};
 

@@ -10,7 +10,8 @@ use rowan_green::{Children, GreenElementRef, GreenNode, NodeOrToken};
 use rust_document::Document;
 use std::alloc::{AllocError, Global};
 
-/// Returns the row of an element that starts at this byte, with so many nodes around it.
+/// Returns the row of an element that starts at the byte `start`. `depth` is the number of nodes around
+/// it.
 fn element_row(element: &GreenElementRef<'_>, depth: usize, start: u32) -> ElementRow
     requires { start + term_len element.now < 2 ^ 32 }
     ensures { result ≡ element_row (kind_of element.now) depth start (start + term_len element.now) }

@@ -53,7 +53,7 @@ settled-tells d (Stopped refusal next) = refl
 pub commit-tells : (changes : List Change) (s : Session) → Tells (committed changes s) s.document
 commit-tells changes s = settled-tells s.document _
 
--- what a refusal leaves
+-- On a refusal the document is unchanged.
 pub refusal-keeps :
     (changes : List Change) (s after : Session) (refusal : Refusal) → committed changes s ≡ record { reply = replies.Refused refusal; after = after }
     → after.document ≡ s.document

@@ -8,7 +8,7 @@ pub record IsPut {T : Type 0} (items : List T) (code : ℕ) (old new : List T) (
   pub fits : length items ≤ length old → (code ≡ 0) × (new ≡ items ++ drop (length items) old)
   pub short : length old < length items → (code ≡ 1) × (new ≡ old)
 
--- The same, unless memory lacks: then the code is 3, the buffer is as it was, and no count is written.
+-- The items are written, unless memory lacks: then the code is 3, the buffer is as it was, and no count is written.
 pub record IsWritten {T : Type 0} (items : List T) (code : ℕ) (old new : List T) (written : ℕ) : Type 0 where
   pub lacks_memory : code ≡ 3 → (new ≡ old) × (written ≡ 0)
   pub put : code ≢ 3 → IsPut items code old new written
