@@ -2,7 +2,7 @@
 
     python3 gate/bindings.py [--valgrind]
 
-It makes the checked library if lib/ has none that is as new as the sources, and runs the examples and tests of each language whose
+It makes the library if lib/ has none that is as new as the sources, the proved one if 'rt lib' has built that, and runs the examples and tests of each language whose
 compiler is there. REQUESTS of the requests of requests_suite are answered by each. ./test --quick runs this at its end.
 """
 import json
@@ -64,6 +64,7 @@ class Checks:
         self.run("handles.c", self.compile("tests/handles.c"))
         self.run("refused.c", self.compile("tests/refused.c"))
         self.run("deep.c", self.compile("tests/deep.c"), str(KIB))
+        self.run("made.c", self.compile("tests/made.c"), str(KIB))
         edits = self.compile("tests/edits.c")
         self.run("edits.c", edits, str(EDITS), "8", str(KIB))
         self.run("requests.c", self.compile("tests/requests.c"), given=cases())
@@ -93,7 +94,7 @@ def main(words):
     if not all(map(shutil.which, ("cc", "ar", "objcopy"))):
         print("bindings: there is no C compiler, so the library is not tried\n0 passed, 0 failed")
         return 0
-    if not is_current_since(EXPORTED, TOP) and not fast_library.keep(f"{TOP}/lib"):
+    if not is_current_since(EXPORTED, TOP) and fast_library.main([]):
         print("0 passed, 1 failed")
         return 1
     with tempfile.TemporaryDirectory(prefix="bindings-") as room:

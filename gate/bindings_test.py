@@ -32,6 +32,8 @@ PYTHON = {
     "tevondimby_handle *": ["HANDLE"],
     **{f"tevondimby_{name} *": ["OUT"] for name in BUFFERS},
 }
+# An export of a crate: its name, its parameters and its body.
+EXPORT = re.compile(r'(?s)extern "C" fn (\w+)\((.*?)\) -> u32(?: \{|\n.*?\n\{)\n(.*?)\n\}')
 
 
 def text_of(path):
@@ -72,10 +74,21 @@ class Exports(unittest.TestCase):
         found = re.findall(r'(?m)^    "(\w+)": \[(.*)\],$', text_of("python/tevondimby/_native.py"))
         self.assertTypes([(f"tevondimby_{name}", types.split(", ")) for name, types in found], PYTHON)
 
-    def test_program_has_all(self):
-        with open(f"{TOP}/crates/{fast_library.EXPORTING}/src/main.rt", encoding="utf-8") as file:
-            defined = re.findall(r'extern "C" fn (\w+)\(', file.read())
-        self.assertEqual(sorted(defined), sorted(fast_library.exports()))
+    def test_both_crates_have_all(self):
+        for path in (f"{fast_library.EXPORTING}/src/main.rt", f"{fast_library.PROVED}/src/lib.rt"):
+            with open(f"{TOP}/crates/{path}", encoding="utf-8") as file:
+                defined = re.findall(r'extern "C" fn (\w+)\(', file.read())
+            self.assertEqual(sorted(defined), sorted(fast_library.exports()), path)
+
+    def test_both_crates_do_the_same(self):
+        """The exports of the program are those of the static library without their contracts."""
+        found = []
+        for path in (f"{fast_library.EXPORTING}/src/main.rt", f"{fast_library.PROVED}/src/lib.rt"):
+            with open(f"{TOP}/crates/{path}", encoding="utf-8") as file:
+                # (the layout of a line depends on its length)
+                found.append([["".join(part.split()).rstrip(",") for part in export] for export in EXPORT.findall(file.read())])
+        self.assertEqual(len(found[0]), len(listed()))
+        self.assertEqual(found[0], found[1])
 
 
 class Modules(unittest.TestCase):

@@ -9,7 +9,7 @@ import repository
 import unproved
 from stand_in import CRATES, Repository, read, write
 
-LIST = f"{CRATES}\n# Run and not proved: tests.\nsuite: low anyhow\ndump: middle\n"
+LIST = f"{CRATES}\n# Run and not proved: tests.\nsuite: low anyhow\ndump: middle\nfront staticlib: low\n"
 
 
 def script(path, text):
@@ -35,11 +35,12 @@ class Combined(Repository):
         write(self.path("crates/suite/src/lib.rt"), "//! Tests.\n#![tactic(auto)]\n\n#[cfg(test)]\nmod tests;\n")
         write(self.path("crates/suite/src/tests.rt"), "use crate::tests::row;\n\n#[test]\nfn t() {}\n")
         write(self.path("crates/dump/src/main.rt"), "fn main(rt: HostRuntime) -> io::Result<()> {\n}\n")
+        write(self.path("crates/front/src/lib.rt"), "//! Exports.\n#![tactic(auto)]\n")
 
     def test_crates_below_the_mark_are_left_out(self):
-        self.assertEqual(repository.unproved(self.top), ["suite", "dump"])
+        self.assertEqual(repository.unproved(self.top), ["suite", "dump", "front"])
         repository.remove_unproved(self.top)
-        self.assertEqual(read(self.path("crates.txt")), LIST.replace("suite: low anyhow\ndump: middle\n", ""))
+        self.assertEqual(read(self.path("crates.txt")), LIST.replace("suite: low anyhow\ndump: middle\nfront staticlib: low\n", ""))
         self.assertFalse(os.path.exists(self.path("crates/suite")))
 
     def test_list_without_the_mark_is_proved_whole(self):

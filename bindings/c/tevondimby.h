@@ -47,7 +47,7 @@ typedef struct { uint32_t kind, depth, start, end; } tevondimby_element;
 /* `words_start` and `words_end` are a range of the bytes of all words. */
 typedef struct { uint32_t offset, words_start, words_end; } tevondimby_message;
 
-/* Answers a request as the program document_tool does; `status` gets its exit status. It has no bound on levels: a deep request may overflow the stack. */
+/* Answers a request as the program document_tool does; `status` gets its exit status. TEV_TOO_DEEP: one of its texts is. */
 uint32_t tevondimby_run(const uint8_t *request, size_t request_len, uint8_t *out, size_t out_len, size_t *written, uint8_t *status);
 /* Counts the messages of a text. */
 uint32_t tevondimby_check(const uint8_t *text, size_t text_len, uint32_t edition, uint32_t grammar, size_t *count);

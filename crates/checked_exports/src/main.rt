@@ -1,27 +1,16 @@
 //! The exports of the library for C, Rust and Python, as functions of a program: the checked
 //! library is made of it (`gate/fast_library.py`). The program itself calls each export once.
+//! `tevondimby_c` has the same functions with their contracts.
 #![tactic(auto)]
 
-mod code;
-mod handle;
-mod kept;
-mod levels;
-mod rows;
 mod tour;
 
-use document_requests::Watched;
-use document_requests::run::run;
-use handle::Handle;
-use kept::Kept;
-use parser_input::SyntaxKind;
-use rows::{
-    ElementRow, MessageRow, RangeRow, TokenRow, put_bytes, put_errors, put_ranges, put_tokens,
-    put_tree,
-};
+use document_rows::{ElementRow, MessageRow, RangeRow, TokenRow};
+use kept_document::{Handle, calls, texts, views};
 use std::alloc::Global;
 use std::io;
 
-/// Answers a request as `document_tool` does.
+/// Answers a request as `document_tool` does. A request with too deep a text is not run.
 #[unsafe(no_mangle)]
 pub extern "C" fn tevondimby_run(
     alloc: Global,
@@ -30,16 +19,7 @@ pub extern "C" fn tevondimby_run(
     written: &mut usize,
     status: &mut u8,
 ) -> u32 {
-    *written = 0;
-    let mut output = Vec::new(alloc);
-    let mut input = request;
-    let mut reader = Watched::new(&mut input);
-    let mut writer = Watched::new(&mut output);
-    match run(alloc, &mut reader, &mut writer) {
-        Ok(given) => *status = given,
-        Err(_) => return code::NO_MEMORY,
-    }
-    put_bytes(&output, out, written)
+    texts::run(alloc, request, out, written, status)
 }
 
 /// Counts the messages of a text.
@@ -51,27 +31,13 @@ pub extern "C" fn tevondimby_check(
     grammar: u32,
     count: &mut usize,
 ) -> u32 {
-    *count = 0;
-    match Kept::open(alloc, text, edition, grammar) {
-        Ok(kept) => {
-            *count = kept.document.errors().len();
-            code::DONE
-        }
-        Err(refused) => refused,
-    }
+    texts::check(alloc, text, edition, grammar, count)
 }
 
 /// Writes the name of a kind.
 #[unsafe(no_mangle)]
 pub extern "C" fn tevondimby_kind_name(kind: u32, out: &mut [u8], written: &mut usize) -> u32 {
-    *written = 0;
-    if kind > 65535 {
-        return code::NO_SUCH;
-    }
-    match SyntaxKind::from_raw(kind as u16) {
-        Some(kind) => put_bytes(kind.name().as_bytes(), out, written),
-        None => code::NO_SUCH,
-    }
+    texts::kind_name(kind, out, written)
 }
 
 /// Opens a document in a closed handle.
@@ -83,33 +49,16 @@ pub extern "C" fn tevondimby_open(
     edition: u32,
     grammar: u32,
 ) -> u32 {
-    if handle.is_open() {
-        return code::IS_OPEN;
-    }
-    let kept = match Kept::open(alloc, text, edition, grammar) {
-        Ok(kept) => kept,
-        Err(refused) => return refused,
-    };
-    match Box::new(alloc, kept) {
-        Ok(kept) => {
-            handle.fill(kept);
-            code::DONE
-        }
-        Err(_) => code::NO_MEMORY,
-    }
+    calls::open(alloc, handle, text, edition, grammar)
 }
 
 /// Closes an open handle and frees its document.
 #[unsafe(no_mangle)]
 pub extern "C" fn tevondimby_free(alloc: Global, handle: &mut Handle) -> u32 {
-    if !handle.is_open() {
-        return code::NOT_OPEN;
-    }
-    drop(handle.take(alloc));
-    code::DONE
+    calls::free(alloc, handle)
 }
 
-/// Replaces some bytes of the text.
+/// Replaces the bytes from `start` to just before `end` with `text`.
 #[unsafe(no_mangle)]
 pub extern "C" fn tevondimby_edit(
     alloc: Global,
@@ -118,28 +67,16 @@ pub extern "C" fn tevondimby_edit(
     end: usize,
     text: &[u8],
 ) -> u32 {
-    if !handle.is_open() {
-        return code::NOT_OPEN;
-    }
-    let mut kept = handle.take(alloc);
-    let done = kept.edit(alloc, start, end, text);
-    handle.fill(kept);
-    done
+    calls::edit(alloc, handle, start, end, text)
 }
 
-/// Makes the changes of a commit, or none of them.
+/// Makes the changes of one commit, given as JSON.
 #[unsafe(no_mangle)]
 pub extern "C" fn tevondimby_commit(alloc: Global, handle: &mut Handle, command: &[u8]) -> u32 {
-    if !handle.is_open() {
-        return code::NOT_OPEN;
-    }
-    let mut kept = handle.take(alloc);
-    let done = kept.commit(alloc, command);
-    handle.fill(kept);
-    done.unwrap_or(code::NO_MEMORY)
+    calls::commit(alloc, handle, command)
 }
 
-/// Renames each identifier `old`.
+/// Renames each identifier `old` to `new`.
 #[unsafe(no_mangle)]
 pub extern "C" fn tevondimby_rename(
     alloc: Global,
@@ -147,13 +84,7 @@ pub extern "C" fn tevondimby_rename(
     old: &[u8],
     new: &[u8],
 ) -> u32 {
-    if !handle.is_open() {
-        return code::NOT_OPEN;
-    }
-    let mut kept = handle.take(alloc);
-    let done = kept.rename(alloc, old, new);
-    handle.fill(kept);
-    done
+    calls::rename(alloc, handle, old, new)
 }
 
 /// Writes the text.
@@ -164,14 +95,7 @@ pub extern "C" fn tevondimby_text(
     out: &mut [u8],
     written: &mut usize,
 ) -> u32 {
-    *written = 0;
-    if !handle.is_open() {
-        return code::NOT_OPEN;
-    }
-    let kept = handle.take(alloc);
-    let done = put_bytes(kept.document.text().as_bytes(), out, written);
-    handle.fill(kept);
-    done
+    views::text(alloc, handle, out, written)
 }
 
 /// Writes the tokens.
@@ -182,17 +106,10 @@ pub extern "C" fn tevondimby_tokens(
     out: &mut [TokenRow],
     written: &mut usize,
 ) -> u32 {
-    *written = 0;
-    if !handle.is_open() {
-        return code::NOT_OPEN;
-    }
-    let kept = handle.take(alloc);
-    let done = put_tokens(&kept.document, out, written);
-    handle.fill(kept);
-    done
+    views::tokens(alloc, handle, out, written)
 }
 
-/// Writes the elements of the tree, in preorder.
+/// Writes the elements of the tree.
 #[unsafe(no_mangle)]
 pub extern "C" fn tevondimby_tree(
     alloc: Global,
@@ -200,14 +117,7 @@ pub extern "C" fn tevondimby_tree(
     out: &mut [ElementRow],
     written: &mut usize,
 ) -> u32 {
-    *written = 0;
-    if !handle.is_open() {
-        return code::NOT_OPEN;
-    }
-    let kept = handle.take(alloc);
-    let done = put_tree(alloc, &kept.document, out, written);
-    handle.fill(kept);
-    done
+    views::tree(alloc, handle, out, written)
 }
 
 /// Writes the messages and their words.
@@ -220,23 +130,10 @@ pub extern "C" fn tevondimby_errors(
     words: &mut [u8],
     words_written: &mut usize,
 ) -> u32 {
-    *written = 0;
-    *words_written = 0;
-    if !handle.is_open() {
-        return code::NOT_OPEN;
-    }
-    let kept = handle.take(alloc);
-    let done = put_errors(
-        alloc,
-        &kept.document,
-        (out, written),
-        (words, words_written),
-    );
-    handle.fill(kept);
-    done
+    views::errors(alloc, handle, out, written, words, words_written)
 }
 
-/// Writes the ranges that the last accepted commit put into the text.
+/// Writes the ranges that the last accepted commit inserted.
 #[unsafe(no_mangle)]
 pub extern "C" fn tevondimby_changed(
     alloc: Global,
@@ -244,14 +141,7 @@ pub extern "C" fn tevondimby_changed(
     out: &mut [RangeRow],
     written: &mut usize,
 ) -> u32 {
-    *written = 0;
-    if !handle.is_open() {
-        return code::NOT_OPEN;
-    }
-    let kept = handle.take(alloc);
-    let done = put_ranges(&kept.changed, out, written);
-    handle.fill(kept);
-    done
+    views::changed(alloc, handle, out, written)
 }
 
 fn main(rt: HostRuntime) -> io::Result<()> {

@@ -1,6 +1,6 @@
 //! Calls each export once.
-use crate::handle::Handle;
-use crate::rows::{ElementRow, MessageRow, RangeRow, TokenRow};
+use document_rows::{ElementRow, MessageRow, RangeRow, TokenRow};
+use kept_document::Handle;
 use std::io;
 
 const TEXT: &[u8] = b"fn f() { 1 + ; }";
@@ -29,7 +29,7 @@ pub fn codes(rt: HostRuntime) -> io::Result<()> {
         words_end: 0,
     }; 4];
     let mut ranges = [RangeRow { start: 0, end: 0 }; 4];
-    let mut handle = Handle::closed();
+    let mut handle = Handle::closed(alloc);
     let run = crate::tevondimby_run(alloc, b"{}", &mut out, &mut n, &mut status);
     println!(rt; "run {run}, status {status}")?;
     let check = crate::tevondimby_check(alloc, TEXT, 2021, 0, &mut n);

@@ -1,0 +1,3 @@
+mod AsBox
+pub mod CommitAnswers
+pub mod Handles

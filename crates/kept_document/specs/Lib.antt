@@ -1,0 +1,9 @@
+pub mod Buffers
+pub mod Calls
+pub mod Commits
+pub mod Dialect
+pub mod Exports
+pub mod Held
+pub mod Reasons
+pub mod Renamings
+pub mod Texts
