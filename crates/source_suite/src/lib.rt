@@ -6,6 +6,8 @@ mod errors;
 #[cfg(test)]
 mod extractions;
 #[cfg(test)]
+mod mentions;
+#[cfg(test)]
 mod must_use;
 #[cfg(test)]
 mod plans;
@@ -15,6 +17,8 @@ mod previews;
 mod renames;
 #[cfg(test)]
 mod renaming_tool;
+#[cfg(test)]
+mod reports;
 #[cfg(test)]
 mod rewrites;
 #[cfg(test)]

@@ -1,0 +1,2 @@
+pub mod MentionLemmas
+pub mod WordLemmas
