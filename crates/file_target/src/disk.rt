@@ -1,17 +1,16 @@
 //! Files on the disk.
 
 use crate::error::TargetError;
+use crate::replace::replace_file;
+use crate::system::{Status, System};
 use crate::target::{Contents, Target};
 use crate::version::Version;
 use std::alloc::Global;
-use std::fs::{self, File, Metadata, OpenFile, OpenOptions};
+use std::fs::{self, File, OpenFile, OpenOptions, Permissions};
 use std::io::{self, ErrorKind, Read, Write};
-use std::os::unix::fs::{MetadataExt, chown};
+use std::os::unix::fs::{MetadataExt, PermissionsExt, chown};
 use std::path::Path;
 use std::rt::Files;
-
-/// How many names are tried for a file beside another.
-const NAMES: u32 = 100;
 
 /// The files of a file system.
 ///
@@ -33,66 +32,82 @@ impl<'a, R: Files + AllocGlobal> Disk<'a, R> {
     pub fn new(rt: &'a R) -> Disk<'a, R> {
         Disk { rt }
     }
+}
 
-    /// Creates a file beside `path`, under the first name that is free.
-    fn create_beside(&self, alloc: Global, path: &str) -> Result<(R::File, String), TargetError> {
-        for number in 0..NAMES {
-            let beside = format!(in alloc; "{path}.{number}.new")?;
-            let mut options = OpenOptions::new();
-            let options = options.write(true).create_new(true);
-            match options.open(self.rt, beside.as_str()) {
-                Ok(file) => return Ok((file, beside)),
-                Err(error) if error.kind() == ErrorKind::AlreadyExists => {}
-                Err(error) => return Err(TargetError::from(error)),
-            }
-        }
-        Err(TargetError::Io(io::Error::from(ErrorKind::AlreadyExists)))
+/// The calls of one write.
+struct Calls<'a, R: Files + AllocGlobal> {
+    rt: &'a R,
+    /// The new file, once it is made.
+    file: Option<R::File>,
+}
+
+impl<'a, R: Files + AllocGlobal> Drop for Calls<'a, R> {
+    fn drop(self) {
+        let Calls { rt: _, file: _ } = self;
+    }
+}
+
+impl<'a, R: Files + AllocGlobal> System for Calls<'a, R> {
+    fn resolve(&mut self, alloc: Global, path: &str) -> io::Result<String> {
+        let path = fs::canonicalize(self.rt, path)?;
+        Ok(String::from_str(alloc, path.as_path().as_str())?)
     }
 
-    /// Gives the file at `path` the owner and group of `metadata`, or the group alone, or neither, as
-    /// far as the system allows.
-    fn keep_owner(&self, path: &str, metadata: &Metadata) {
-        let (uid, gid) = (metadata.uid(), metadata.gid());
-        let is_same = match fs::metadata(self.rt, path) {
-            Ok(new) => (new.uid(), new.gid()) == (uid, gid),
-            Err(_) => false,
-        };
-        if !is_same && chown(self.rt, path, Some(uid), Some(gid)).is_err() {
-            let _ = chown(self.rt, path, None, Some(gid));
-        }
+    fn status(&mut self, path: &str) -> io::Result<Status> {
+        let metadata = fs::metadata(self.rt, path)?;
+        Ok(Status {
+            version: Version::of(&metadata),
+            mode: metadata.permissions().mode(),
+            owner: metadata.uid(),
+            group: metadata.gid(),
+        })
     }
 
-    /// Syncs the directory of `path`, if the system can.
-    fn sync_directory(&self, path: &str) {
-        let Some(directory) = Path::new(path).parent() else {
-            return;
-        };
-        if let Ok(directory) = File::open(self.rt, directory) {
-            let _ = directory.sync_all();
-        }
-    }
-
-    /// Gives `file` the mode of `metadata` and the bytes, and syncs it.
-    fn fill(
-        &self,
-        mut file: R::File,
-        metadata: &Metadata,
-        bytes: &[u8],
-    ) -> Result<(), TargetError> {
-        file.set_permissions(metadata.permissions())?;
-        file.write_all(bytes)?;
-        file.sync_all()?;
+    fn create(&mut self, path: &str) -> io::Result<()> {
+        let mut options = OpenOptions::new();
+        let options = options.write(true).create_new(true);
+        self.file = Some(options.open(self.rt, path)?);
         Ok(())
     }
 
-    /// Renames `from` to `to` if that is of this version.
-    fn replace(&self, from: &str, to: &str, version: Version) -> Result<(), TargetError> {
-        if Version::of(&fs::metadata(self.rt, to)?) != version {
-            return Err(TargetError::Changed);
+    fn set_owner(&mut self, path: &str, owner: Option<u32>, group: u32) -> io::Result<()> {
+        chown(self.rt, path, owner, Some(group))
+    }
+
+    fn set_mode(&mut self, mode: u32) -> io::Result<()> {
+        match &self.file {
+            Some(file) => file.set_permissions(Permissions::from_mode(mode)),
+            None => Err(io::Error::from(ErrorKind::NotFound)),
         }
-        fs::rename(self.rt, from, to)?;
-        self.sync_directory(to);
-        Ok(())
+    }
+
+    fn write(&mut self, bytes: &[u8]) -> io::Result<()> {
+        match &mut self.file {
+            Some(file) => file.write_all(bytes),
+            None => Err(io::Error::from(ErrorKind::NotFound)),
+        }
+    }
+
+    fn sync(&mut self) -> io::Result<()> {
+        match &self.file {
+            Some(file) => file.sync_all(),
+            None => Err(io::Error::from(ErrorKind::NotFound)),
+        }
+    }
+
+    fn rename(&mut self, from: &str, to: &str) -> io::Result<()> {
+        fs::rename(self.rt, from, to)
+    }
+
+    fn sync_directory(&mut self, path: &str) -> io::Result<()> {
+        match Path::new(path).parent() {
+            Some(directory) => File::open(self.rt, directory)?.sync_all(),
+            None => Ok(()),
+        }
+    }
+
+    fn remove(&mut self, path: &str) -> io::Result<()> {
+        fs::remove_file(self.rt, path)
     }
 }
 
@@ -115,21 +130,10 @@ impl<'a, R: Files + AllocGlobal> Target for Disk<'a, R> {
         version: Version,
         bytes: &[u8],
     ) -> Result<(), TargetError> {
-        let target = fs::canonicalize(self.rt, path)?;
-        let target = target.as_path().as_str();
-        let metadata = fs::metadata(self.rt, target)?;
-        if Version::of(&metadata) != version {
-            return Err(TargetError::Changed);
-        }
-        let (file, beside) = self.create_beside(alloc, target)?;
-        self.keep_owner(beside.as_str(), &metadata);
-        let written = match self.fill(file, &metadata, bytes) {
-            Ok(()) => self.replace(beside.as_str(), target, version),
-            Err(error) => Err(error),
+        let mut calls = Calls {
+            rt: self.rt,
+            file: None,
         };
-        if written.is_err() {
-            let _ = fs::remove_file(self.rt, beside.as_str());
-        }
-        written
+        replace_file(alloc, &mut calls, path, version, bytes)
     }
 }

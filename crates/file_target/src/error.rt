@@ -1,25 +1,39 @@
 //! Errors of reading and writing.
 
 use std::alloc::{AllocError, AllocFailed};
+use std::error::Error;
+use std::fmt;
 use std::io::{self, ErrorKind};
-use thiserror::Error;
 
 /// The error type of [`Target`](crate::Target).
-#[derive(Debug, Drop, Error)]
+#[derive(Debug, Drop)]
 pub enum TargetError {
     /// There is no file at the path.
-    #[error("does not exist")]
     NotFound,
     /// The file is not of the version that is expected.
-    #[error("changed since it was read")]
     Changed,
     /// Out of memory.
-    #[error("out of memory")]
     NoMemory,
     /// The system returned an error.
-    #[error("{0}")]
     Io(io::Error),
 }
+
+impl fmt::Display for TargetError {
+    ghost use Rattle.file_target.specs.Errors.{target_message};
+
+    ghost output = { λ error. target_message error };
+
+    fn fmt<W: fmt::Write>(&self, f: &mut fmt::Formatter<W>) -> fmt::Result {
+        match self {
+            TargetError::NotFound => write!(f, "does not exist"),
+            TargetError::Changed => write!(f, "changed since it was read"),
+            TargetError::NoMemory => write!(f, "out of memory"),
+            TargetError::Io(error) => write!(f, "{error}"),
+        }
+    }
+}
+
+impl Error for TargetError {}
 
 impl From<AllocError> for TargetError {
     ghost use Rattle.file_target.specs.declared.error.TargetError.TheVariants.{NoMemory};

@@ -1,6 +1,7 @@
 //! Versions of a file.
 
 ghost use Rattle.std.specs.Prelude.{◌≡◌, ◌≢◌, ◌↔◌, IsTrue};
+ghost use Rattle.std.specs.Fs.{metadata_len};
 
 use std::fs::Metadata;
 use std::os::unix::fs::MetadataExt;
@@ -48,7 +49,9 @@ impl Version {
     }
 
     /// Returns the version of a file with this metadata.
-    pub(crate) fn of(metadata: &Metadata) -> Version {
+    pub(crate) fn of(metadata: &Metadata) -> Version
+        ensures { result.len ≡ metadata_len metadata.now }
+    {
         Version {
             device: metadata.dev(),
             inode: metadata.ino(),

@@ -11,3 +11,5 @@ mod files;
 mod folders;
 #[cfg(test)]
 mod lines;
+#[cfg(test)]
+mod replaced;
