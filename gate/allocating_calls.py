@@ -110,7 +110,7 @@ class Crate:
     def path(self, name, module):
         """Returns the path by which a crate above names a function of a module, or nothing."""
         front, _, last = module.rpartition("::")
-        if self.exported.get(name) == module:
+        if module == "lib" or self.exported.get(name) == module:
             return f"{self.name}::{name}"
         if module in self.public_modules or front and self.exported.get(last) == front:
             return f"{self.name}::{last}::{name}"

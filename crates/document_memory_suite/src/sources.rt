@@ -1,9 +1,12 @@
-//! Calls of a source that are no call of its document.
+//! Calls of a source that are no call of its document, and the renaming of a document.
 use crate::differences::range;
 use anyhow::bail;
 use memory_table::row::{Ask, Row};
+use renamer::rename;
+use rust_document::Document;
 use rust_source::{Edition, Source, SyntaxElement, SyntaxKind};
 use std::alloc::Global;
+use syntax_tree::TreeIds;
 
 /// The calls on a source.
 #[derive(Clone, Copy)]
@@ -14,6 +17,8 @@ pub(crate) enum SourceCall {
     Preview,
     /// Lists the places and ends of the messages about a text.
     RangedErrors(&'static str),
+    /// Renames a struct in a document.
+    Rename,
 }
 
 fn line_indent(alloc: Global) -> anyhow::Result<String> {
@@ -55,12 +60,29 @@ fn ranged_errors(alloc: Global, text: &str) -> anyhow::Result<String> {
     Ok(told)
 }
 
+/// Returns the text in which a struct is renamed. A call that fails is made again on the document that
+/// it left.
+fn renamed(alloc: Global, refused: &mut u32) -> anyhow::Result<String> {
+    let mut ids = TreeIds::new();
+    let text = "struct S; fn f(x: S) {}";
+    let mut document = Document::open(alloc, Edition::Edition2021, text, &mut ids)?;
+    if rename(alloc, &mut document, "S", "Tee", &mut ids).is_err() {
+        *refused = refused.saturating_add(1);
+        if document.text() != text {
+            bail!("the text has changed");
+        }
+        rename(alloc, &mut document, "S", "Tee", &mut ids)?;
+    }
+    Ok(String::from_str(alloc, document.text())?)
+}
+
 impl Ask for SourceCall {
-    fn answer(self, alloc: Global, _refused: &mut u32) -> anyhow::Result<String> {
+    fn answer(self, alloc: Global, refused: &mut u32) -> anyhow::Result<String> {
         match self {
             SourceCall::LineIndent => line_indent(alloc),
             SourceCall::Preview => preview(alloc),
             SourceCall::RangedErrors(text) => ranged_errors(alloc, text),
+            SourceCall::Rename => renamed(alloc, refused),
         }
     }
 }
@@ -80,5 +102,10 @@ pub(crate) const ROWS: &[Row<SourceCall>] = &[
         "rust_source::Source::ranged_errors",
         SourceCall::RangedErrors("const A: u8 = 0x;"),
         "14..16;",
+    ),
+    (
+        "renamer::rename",
+        SourceCall::Rename,
+        "struct Tee; fn f(x: Tee) {}",
     ),
 ];
