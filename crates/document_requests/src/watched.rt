@@ -38,6 +38,14 @@ impl<D> Watched<D> {
         }
     }
 
+    /// Returns the device.
+    pub fn into_device(self) -> D
+        ensures { result ≡ device_of self }
+    {
+        let Watched { device, .. } = self;
+        device
+    }
+
     /// How many calls were made.
     pub fn calls(&self) -> u64
         ensures { result ≡ calls_of self.now }

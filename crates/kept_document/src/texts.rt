@@ -67,14 +67,13 @@ fn answer_to(alloc: Global, request: &[u8]) -> Result<Answer, AllocError>
     ensures { IfOk result (λ answer. (answer.written.items ≡ (replies request.now).written)
         × (answer.status ≡ (replies request.now).status)) }
 {
-    let mut written = Vec::new(alloc);
-    let mut input = request;
-    let mut reader = Watched::new(&mut input);
-    let mut writer = Watched::new(&mut written);
-    match answer(alloc, &mut reader, &mut writer) {
-        Ok(status) => Ok(Answer { written, status }),
-        Err(_) => Err(AllocError),
-    }
+    let mut reader = Watched::new(request);
+    let mut writer = Watched::new(Vec::new(alloc));
+    let Ok(status) = answer(alloc, &mut reader, &mut writer) else {
+        return Err(AllocError);
+    };
+    let written = writer.into_device();
+    Ok(Answer { written, status })
 }
 
 /// Answers a request as `document_tool` does. A request with too deep a text is not run.
