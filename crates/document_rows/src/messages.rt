@@ -46,7 +46,8 @@ pub fn message_rows(alloc: Global, document: &Document) -> Result<MessageRows, A
         rows: Vec::new(alloc),
         words: String::new(alloc),
     };
-    for error in document.errors() {
+    let errors = document.errors();
+    for error in errors {
         push_message(alloc, *error, &mut found)?;
     }
     Ok(found)
