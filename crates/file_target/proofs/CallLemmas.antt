@@ -270,6 +270,6 @@ replaced bytes path from target at version status (Some calls) same expected p =
   whole = sym (ap new_file p.is.all) ∙ p.is.leaves;
 }
 
--- the same path
+-- a call at a path that is equal
 pub made-at : (bytes : List ℕ) (front : List Call) (path at : List ℕ) (known : Option (List Call)) → at ≡ path → IfSome known (IsAt bytes front (Some (empty_file path))) → IfSome known (IsAt bytes front (Some (empty_file at)))
 made-at bytes front path at known same s = subst (λ p. IfSome known (IsAt bytes front (Some (empty_file p)))) (sym same) s
