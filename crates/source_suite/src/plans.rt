@@ -116,6 +116,16 @@ fn views_have_objects(rt: HostRuntime) -> Result<(), Fail> {
     Ok(())
 }
 
+#[test]
+fn messages_are_in_order(rt: HostRuntime) -> Result<(), Fail> {
+    let text = "fn f() { \"abc\n";
+    let expected = "a.rs:1:10: unterminated literal\nfn f() { \"abc\n         ^\n\
+        a.rs:2:1: expected }\n\n^\n";
+    let shown = shown(rt.alloc(), View::Messages(Format::Text), text)?;
+    assert!(rt; shown.as_slice() == expected.as_bytes());
+    Ok(())
+}
+
 /// The files that are renamed in; the second one stays as it is.
 const PATHS: [&str; 2] = ["b.rs", "c.rs"];
 

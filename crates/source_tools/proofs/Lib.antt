@@ -3,6 +3,7 @@ pub mod KnownLemmas
 pub mod WriteLemmas
 pub mod ShowLemmas
 pub mod RowLemmas
+pub mod Orders
 pub mod PlanLemmas
 pub mod RenameLemmas
 pub mod DiffLemmas

@@ -1,6 +1,7 @@
 pub mod Decoded
 pub mod Rows
 pub mod Words
+pub mod Order
 pub mod Json
 pub mod Texts
 pub mod FileErrors

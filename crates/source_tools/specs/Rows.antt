@@ -1,25 +1,12 @@
 -- What is printed of a message: a row with its place and its words, then its line with a caret below.
-use Rattle.std.specs.Prelude.{ℕ, ◌+◌, ◌==◌, nat_le, nat_lt, List, [], ◌∷◌, ◌++◌, length, take, codes, if◌then◌else◌}
+use Rattle.std.specs.Prelude.{ℕ, ◌+◌, ◌==◌, List, [], ◌∷◌, ◌++◌, codes, if◌then◌else◌}
 use Rattle.std.specs.List.{flat_map}
 use Rattle.std.specs.Fmt.{decimal}
 use Rattle.line_index.specs.declared.encoding.Encoding.TheVariants.{Utf8, Utf32}
 use Rattle.line_index.specs.declared.line_col.LineCol.{LineCol}
 use Rattle.line_index.specs.Lines.{line_text}
 use Rattle.line_index.specs.Columns.{line_col}
-
--- a longer line is not shown: so a long line with many messages is not printed again and again
-abbrev pub MAX_SHOWN : ℕ
-MAX_SHOWN = 240
-
--- What is below a byte of the line, in front of the caret: a tab below a tab, a space below the first
--- byte of each other character.
-abbrev pub below : ℕ → List ℕ
-below b = if b == 9 then 9 ∷ [] else (if nat_lt b 128 then 32 ∷ [] else (if nat_lt b 192 then [] else 32 ∷ []))
-
--- the line, and a caret below the byte `col`
-abbrev pub excerpt : List ℕ → ℕ → List ℕ
-excerpt line col =
-    if nat_le (length line) MAX_SHOWN then line ++ (10 ∷ flat_map below (take col line) ++ codes "^\n") else []
+use Rattle.shown_lines.specs.Shown.{excerpt}
 
 -- path, line and column, both counted from 1, and words
 abbrev pub row : List ℕ → LineCol → List ℕ → List ℕ

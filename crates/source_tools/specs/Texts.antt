@@ -11,6 +11,7 @@ use Rattle.rust_document.specs.Reading.{Message, messages_in, tree_in}
 use Rattle.rust_document.specs.Step.{State}
 use Rattle.rust_document.specs.Tokens.{Span, tokens_of}
 use Rattle.source_tools.specs.Rows.{message_rows, range_text, token_row, quoted}
+use Rattle.source_tools.specs.Order.{in_order}
 use Rattle.source_tools.specs.Words.{kind_name, words}
 use Rattle.line_index.specs.declared.encoding.Encoding.TheVariants.{Utf32}
 use Rattle.line_index.specs.Columns.{line_col}
@@ -78,8 +79,8 @@ abbrev pub events_of : Dialect → List ℕ → List Event
 events_of dialect text = walk (Node (element_at 0 (tree_in dialect.grammar dialect.edition (chars text)) []).place)
 
 abbrev pub message_view : Format → List ℕ → Dialect → List ℕ → List ℕ
-message_view Text path dialect text = flat_map (rows_of_message path text) (messages_in dialect.grammar dialect.edition (chars text))
-message_view Json path dialect text = file_object path (codes "messages") (flat_map (item_of_message text) (messages_in dialect.grammar dialect.edition (chars text)))
+message_view Text path dialect text = flat_map (rows_of_message path text) (in_order (messages_in dialect.grammar dialect.edition (chars text)))
+message_view Json path dialect text = file_object path (codes "messages") (flat_map (item_of_message text) (in_order (messages_in dialect.grammar dialect.edition (chars text))))
 
 abbrev pub token_view : Format → List ℕ → Dialect → List ℕ → List ℕ
 token_view Text path dialect text = flat_map (row_of_token text) (tokens_of dialect.edition (chars text))

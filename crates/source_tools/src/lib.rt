@@ -5,6 +5,7 @@ mod decode;
 mod diffs;
 mod json;
 mod messages;
+mod order;
 mod plan;
 mod rename;
 mod renaming;
@@ -15,6 +16,7 @@ mod summary;
 mod tokens;
 mod tree;
 mod view;
+mod wording;
 mod writes;
 
 pub use decode::{encode, text_of};

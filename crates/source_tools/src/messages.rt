@@ -7,10 +7,13 @@ ghost use Rattle.rust_document.specs.Seen.{message_of_error};
 ghost use Rattle.line_index.specs.declared.encoding.Encoding.TheVariants.{Utf32};
 ghost use Rattle.line_index.specs.Columns.{line_col};
 ghost use Rattle.source_tools.specs.Json.{file_object};
+ghost use Rattle.source_tools.specs.Order.{in_order};
 ghost use Rattle.source_tools.specs.Texts.{item_of_message, rows_of_message};
 
 use crate::json::{push_message_item, push_object};
+use crate::order::in_order;
 use crate::rows::{Message, push_message};
+use crate::wording::error_words;
 use line_index::{Encoding, LineCol, LineIndex};
 use rust_document::{Document, SyntaxError};
 use std::alloc::{AllocError, Global};
@@ -36,7 +39,7 @@ fn push_error(
         ++ rows_of_message path.now index.now (message_of_error placed.now.error)) }
 {
     let error = placed.error;
-    let words = format!(in alloc; "{error}")?;
+    let words = error_words(alloc, &error.message)?;
     let message = Message {
         offset: error.offset,
         place: placed.place,
@@ -84,11 +87,12 @@ pub(crate) fn push_messages(
 ) -> Result<(), AllocError>
     ensures { OnOk result (rows.new.items ≡ rows.old.items
         ++ flat_map (rows_of_message path.now document.now.text)
-        (messages_in document.now.grammar document.now.edition
-        (chars document.now.text))) }
+        (in_order (messages_in document.now.grammar document.now.edition
+        (chars document.now.text)))) }
 {
     let index = LineIndex::try_new(alloc, document.text())?;
-    push_errors(alloc, path, &index, document.errors(), rows)?;
+    let errors = in_order(alloc, document.errors())?;
+    push_errors(alloc, path, &index, errors.as_slice(), rows)?;
     Ok(())
 }
 
@@ -105,7 +109,7 @@ fn push_error_item(
         ++ item_of_message index.now (message_of_error placed.now.error)) }
 {
     let error = placed.error;
-    let words = format!(in alloc; "{error}")?;
+    let words = error_words(alloc, &error.message)?;
     let message = Message {
         offset: placed.error.offset,
         place: placed.place,
@@ -149,12 +153,13 @@ pub(crate) fn push_message_list(
 ) -> Result<(), AllocError>
     ensures { OnOk result (rows.new.items ≡ rows.old.items ++ file_object path.now (codes "messages")
         (flat_map (item_of_message document.now.text)
-        (messages_in document.now.grammar document.now.edition
-        (chars document.now.text)))) }
+        (in_order (messages_in document.now.grammar document.now.edition
+        (chars document.now.text))))) }
 {
     let index = LineIndex::try_new(alloc, document.text())?;
+    let errors = in_order(alloc, document.errors())?;
     let mut items = Vec::new(alloc);
-    push_error_items(alloc, &index, document.errors(), &mut items)?;
+    push_error_items(alloc, &index, errors.as_slice(), &mut items)?;
     push_object(alloc, path, "messages", items.as_slice(), rows)?;
     Ok(())
 }

@@ -5,40 +5,11 @@ ghost use Rattle.std.specs.List.{flat_map};
 ghost use Rattle.line_index.specs.declared.encoding.Encoding.TheVariants.{Utf32};
 ghost use Rattle.line_index.specs.Columns.{line_col};
 ghost use Rattle.line_index.specs.Lines.{feeds};
-ghost use Rattle.source_tools.specs.Rows.{below, escaped, excerpt, message_rows, quoted, range_text, row, token_row};
+ghost use Rattle.source_tools.specs.Rows.{escaped, message_rows, quoted, range_text, row, token_row};
 
 use line_index::{Encoding, LineCol, LineIndex};
+use shown_lines::push_excerpt;
 use std::alloc::{AllocError, Global};
-
-/// The most bytes of a line that is shown.
-const MAX_SHOWN: usize = 240;
-
-/// Appends what is below `front`: a tab below a tab, a space below each other character.
-fn push_below(front: &[u8], rows: &mut Vec<u8>) -> Result<(), AllocError>
-    ensures { OnOk result (rows.new.items ≡ rows.old.items ++ flat_map below front.now) }
-{
-    for byte in front {
-        match *byte {
-            b'\t' => rows.push(b'\t')?,
-            0x80..=0xbf => {}
-            _ => rows.push(b' ')?,
-        }
-    }
-    Ok(())
-}
-
-/// Appends `line` and a caret below its byte `col`, if the line is short enough to be shown.
-fn push_excerpt(line: &[u8], col: usize, rows: &mut Vec<u8>) -> Result<(), AllocError>
-    ensures { OnOk result (rows.new.items ≡ rows.old.items ++ excerpt line.now col) }
-{
-    if line.len() <= MAX_SHOWN {
-        rows.extend_from_slice(line)?;
-        rows.push(b'\n')?;
-        push_below(&line[..col.min(line.len())], rows)?;
-        rows.extend_from_slice(b"^\n")?;
-    }
-    Ok(())
-}
 
 /// Returns the row of a message.
 fn row_of(alloc: Global, path: &str, place: LineCol, words: &str) -> Result<String, AllocError>
@@ -80,7 +51,7 @@ pub(crate) fn push_message(
     };
     let row = row_of(alloc, path, place, message.words)?;
     rows.extend_from_slice(row.as_str().as_bytes())?;
-    push_excerpt(line.as_bytes(), byte.col, rows)
+    push_excerpt(alloc, line, byte.col, rows)
 }
 
 /// Appends `text` in quotes. Line feeds, carriage returns, tabs, quotes and backslashes are escaped.

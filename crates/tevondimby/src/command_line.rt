@@ -15,8 +15,12 @@ or names no edition of Rust is named on standard error. Its grammar is the whole
 `--grammar profile` the part of it that a request is read by if it names no grammar.
 
 The exit status is 0; or 1 if `check` prints messages, if `rename` finds no identifier OLD, if with \
-`--check` a file would change, or if there is no file; or 2 after a fault: a file that cannot be read is named on standard error, and `check`, \
-`tokens` and `tree` still read the others.";
+`--check` a file would change or OLD would be left, or if there is no file; or 2 after a fault: a file \
+that cannot be read is named on standard error, and `check`, `tokens` and `tree` still read the others.
+
+One process reads one file after another. For more processors, or to leave files out:
+
+    find src -name '*.rs' ! -path '*/gen/*' -print0 | xargs -0 -P 4 -n 100 tevondimby check";
 
 const JSON: &str = "Prints an object in JSON for each file, on a line of its own";
 
@@ -56,6 +60,12 @@ The exit status is 0 at the end of the input, or 2 if reading, writing or memory
 const RENAME: &str = "\
 Renames each identifier OLD to NEW, in macro calls too. These are tokens: scopes, names in format \
 strings and names that macros make are not followed.
+
+After that, standard error names the places that still spell OLD, as `src/a.rs:4:17: OLD in a string`: \
+in strings and characters, comments, lifetimes and raw identifiers, where OLD is a word of its own; at \
+most 20, then how many more there are. A last line counts the names and files that change and the \
+places that are left. Without `--write` the places are those of the files as they are, else those of \
+the files as they are written.
 
 Without `--write` nothing is written, and a diff is printed that `patch -p1` and `git apply` take in the \
 current folder; if a file is outside of it, in the folder that is named on standard error. Of standard \

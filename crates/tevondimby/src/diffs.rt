@@ -64,19 +64,16 @@ fn name_changes(rt: &HostRuntime, changes: &mut [FileChange]) -> Result<(), Allo
     Ok(())
 }
 
-/// Prints the diffs of the changes. Returns the exit status.
-pub(crate) fn print_diffs(rt: &HostRuntime, changes: Vec<FileChange>) -> Result<u8> {
+/// Prints the diffs of the changes.
+pub(crate) fn print_diffs(rt: &HostRuntime, changes: Vec<FileChange>) -> Result<()> {
     let mut changes = changes;
     name_changes(rt, changes.as_mut_slice())?;
     let _written = unless_closed(write_diffs(rt.alloc(), changes.as_slice(), &mut rt.stdout()))?;
-    Ok(0)
+    Ok(())
 }
 
-/// The exit status of `--check` if a file would change.
-const WOULD_CHANGE: u8 = 1;
-
-/// Prints the paths of the files that would change. Returns the exit status.
-pub(crate) fn print_paths(rt: &HostRuntime, changes: &[FileChange]) -> Result<u8> {
+/// Prints the paths of the files that would change.
+pub(crate) fn print_paths(rt: &HostRuntime, changes: &[FileChange]) -> Result<()> {
     let mut output = rt.stdout();
     for change in changes {
         let line = format!(in rt.alloc(); "{}\n", change.path)?;
@@ -86,5 +83,5 @@ pub(crate) fn print_paths(rt: &HostRuntime, changes: &[FileChange]) -> Result<u8
             Err(error) => return Err(anyhow!("the output could not be written: {error}")),
         }
     }
-    Ok(if changes.is_empty() { 0 } else { WOULD_CHANGE })
+    Ok(())
 }

@@ -10,24 +10,25 @@ mod editions;
 mod file_ids;
 mod inputs;
 mod output;
+mod reasons;
 mod rename;
 mod report;
 mod rewrite;
 mod run;
 mod source_list;
+mod survey;
 mod view;
 
+use command_report::Outcome;
 use std::process::ExitCode;
 
-/// The exit status after a fault.
-const FAULT: u8 = 2;
-
 fn main(rt: HostRuntime) -> ExitCode {
-    match run::run(&rt) {
-        Ok(status) => ExitCode::from(status),
+    let outcome = match run::run(&rt) {
+        Ok(outcome) => outcome,
         Err(error) => {
             let _ = eprintln!(rt; "tevondimby: {error}");
-            ExitCode::from(FAULT)
+            Outcome::Fault
         }
-    }
+    };
+    ExitCode::from(outcome.status())
 }

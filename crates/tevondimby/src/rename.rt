@@ -5,26 +5,26 @@ use crate::dialects::Dialects;
 use crate::diffs::{print_diffs, print_paths};
 use crate::inputs::{Inputs, STANDARD_INPUT};
 use crate::output::is_closed;
-use crate::report::{report_unwritten, report_written, usage_error};
-use crate::run::{FAULT, files_of, path_of};
+use crate::report::{report_unwritten, usage_error};
+use crate::run::{files_of, path_of};
+use crate::survey::{Survey, survey_bytes, survey_files};
 use anyhow::{Result, anyhow};
 use clap::ArgMatches;
+use command_report::{Outcome, RenameCounts, tally_row, unchanged_row};
 use file_target::Target;
 use source_tools::{
     RenameFailure, RenameStop, Renaming, Source, plan_renames, rename_bytes, rename_files,
 };
+use std::alloc::AllocError;
 use std::io::Write;
 
-/// The exit status if nothing is renamed.
-const NOTHING: u8 = 1;
-
-/// Names the file that stopped a renaming, and says what leads on. Returns the exit status.
+/// Names the file that stopped a renaming, and says what leads on.
 fn report_stop(
     rt: &HostRuntime,
     renaming: &Renaming<'_>,
     sources: &[Source],
     stop: &RenameStop,
-) -> u8 {
+) -> Outcome {
     match stop {
         RenameStop::RefusedFile(RenameFailure { index, fault }) => {
             let path = path_of(sources, *index);
@@ -35,7 +35,7 @@ fn report_stop(
         }
         RenameStop::Unwritten(path, error) => report_unwritten(rt, path.as_str(), error),
     }
-    FAULT
+    Outcome::Fault
 }
 
 /// What a renaming says and does beside it.
@@ -44,24 +44,57 @@ struct Manner {
     is_written: bool,
     is_check: bool,
     is_quiet: bool,
+    /// The number of files that are read.
+    files: usize,
 }
 
-/// Says that no file has the identifier. Returns the exit status.
-fn report_nothing(rt: &HostRuntime, manner: Manner, old: &str, count: usize) -> u8 {
+/// Says where the old name is left, and how many names and files change. Returns what the renaming
+/// came to.
+fn report(
+    rt: &HostRuntime,
+    manner: Manner,
+    old: &str,
+    counts: RenameCounts,
+    left: &Survey,
+) -> Result<Outcome, AllocError> {
     if !manner.is_quiet {
-        let files = if count == 1 { "file" } else { "files" };
-        let _ = eprintln!(rt; "tevondimby: no identifier `{old}` in {count} {files}");
+        left.report(rt)?;
+        let row = if counts.files == 0 {
+            unchanged_row(rt.alloc(), old, manner.files)?
+        } else {
+            tally_row(rt.alloc(), counts.names, counts.files, counts.left)?
+        };
+        let _ = eprint!(rt; "tevondimby: {row}");
     }
-    NOTHING
+    Ok(counts.outcome(manner.is_check))
 }
 
-/// Renames in standard input, and prints the new text. Returns the exit status.
+/// Says where the old name is left in standard input, and how many names change.
+fn report_input(
+    rt: &HostRuntime,
+    renaming: &Renaming<'_>,
+    manner: Manner,
+    source: Source,
+    texts: (&[u8], &[u8]),
+) -> Result<Outcome, AllocError> {
+    let (old, new) = texts;
+    let before = survey_bytes(rt, &source, old, renaming.old)?;
+    let after = survey_bytes(rt, &source, new, renaming.old)?;
+    let counts = RenameCounts {
+        names: before.names,
+        files: if old == new { 0 } else { 1 },
+        left: after.left,
+    };
+    report(rt, manner, renaming.old, counts, &after)
+}
+
+/// Renames in standard input, and prints the new text.
 fn rename_input(
     rt: &HostRuntime,
     renaming: &Renaming<'_>,
     manner: Manner,
     matches: &ArgMatches<'_>,
-) -> Result<u8> {
+) -> Result<Outcome> {
     let alloc = rt.alloc();
     let dialect = Dialects::new(rt, matches).dialect(STANDARD_INPUT)?;
     let contents = match Inputs::new(rt).read(alloc, STANDARD_INPUT) {
@@ -76,54 +109,64 @@ fn rename_input(
     let mut output = rt.stdout();
     match output.write_all(new.as_slice()) {
         Ok(()) => {}
-        Err(error) if is_closed(&error) => return Ok(0),
+        Err(error) if is_closed(&error) => return Ok(Outcome::Done),
         Err(error) => return Err(anyhow!("the output could not be written: {error}")),
     }
-    if new.as_slice() == old {
-        return Ok(report_nothing(rt, manner, renaming.old, 1));
-    }
-    Ok(0)
+    let source = Source {
+        path: String::from_str(alloc, STANDARD_INPUT)?,
+        dialect,
+    };
+    Ok(report_input(rt, renaming, manner, source, (old, new.as_slice()))?)
 }
 
-/// Renames in files, and writes them. Returns the exit status.
+/// Renames in files, and writes them.
 fn rename_written(
     rt: &HostRuntime,
     renaming: &Renaming<'_>,
     manner: Manner,
     sources: &[Source],
-) -> u8 {
-    let mut inputs = Inputs::new(rt);
-    match rename_files(rt.alloc(), renaming, &mut inputs, sources) {
-        Ok(0) => report_nothing(rt, manner, renaming.old, sources.len()),
-        Ok(count) => {
-            if !manner.is_quiet {
-                report_written(rt, count);
-            }
-            0
+) -> Result<Outcome> {
+    let before = survey_files(rt, sources, renaming.old)?;
+    match rename_files(rt.alloc(), renaming, &mut Inputs::new(rt), sources) {
+        Ok(files) => {
+            let after = survey_files(rt, sources, renaming.old)?;
+            let counts = RenameCounts {
+                names: before.names,
+                files,
+                left: after.left,
+            };
+            Ok(report(rt, manner, renaming.old, counts, &after)?)
         }
-        Err(stop) => report_stop(rt, renaming, sources, &stop),
+        Err(stop) => Ok(report_stop(rt, renaming, sources, &stop)),
     }
 }
 
-/// Renames in files, and prints a diff, or the paths of the files that would change. Returns the exit
-/// status.
+/// Renames in files, and prints a diff, or the paths of the files that would change.
 fn rename_shown(
     rt: &HostRuntime,
     renaming: &Renaming<'_>,
     manner: Manner,
     sources: &[Source],
-) -> Result<u8> {
-    match plan_renames(rt.alloc(), renaming, &Inputs::new(rt), sources) {
-        Ok(changes) if manner.is_check => print_paths(rt, changes.as_slice()),
-        Ok(changes) if changes.is_empty() => {
-            Ok(report_nothing(rt, manner, renaming.old, sources.len()))
-        }
-        Ok(changes) => print_diffs(rt, changes),
+) -> Result<Outcome> {
+    let changes = match plan_renames(rt.alloc(), renaming, &Inputs::new(rt), sources) {
+        Ok(changes) => changes,
         Err(failure) => {
             let stop = RenameStop::RefusedFile(failure);
-            Ok(report_stop(rt, renaming, sources, &stop))
+            return Ok(report_stop(rt, renaming, sources, &stop));
         }
+    };
+    let before = survey_files(rt, sources, renaming.old)?;
+    let counts = RenameCounts {
+        names: before.names,
+        files: changes.len(),
+        left: before.left,
+    };
+    if manner.is_check {
+        print_paths(rt, changes.as_slice())?;
+    } else {
+        print_diffs(rt, changes)?;
     }
+    Ok(report(rt, manner, renaming.old, counts, &before)?)
 }
 
 /// Returns `true` if standard input is one of the files.
@@ -137,19 +180,20 @@ fn has_input(paths: &[&str]) -> bool {
 }
 
 /// Renames in files, and writes them or prints a diff; of standard input the new text is printed.
-pub(crate) fn rename(rt: &HostRuntime, matches: &ArgMatches<'_>) -> Result<u8> {
+pub(crate) fn rename(rt: &HostRuntime, matches: &ArgMatches<'_>) -> Result<Outcome> {
     let renaming = Renaming {
         old: matches.get_str("old").unwrap_or(""),
         new: matches.get_str("new").unwrap_or(""),
         merge: matches.get_flag("merge"),
     };
-    let manner = Manner {
+    let mut manner = Manner {
         is_written: matches.get_flag("write"),
         is_check: matches.get_flag("check"),
         is_quiet: matches.get_flag("quiet"),
+        files: 1,
     };
-    if renaming.old == renaming.new {
-        return Ok(usage_error(rt, "the old name and the new name are the same"));
+    if renaming.old == renaming.new || renaming.old.is_empty() {
+        return Ok(usage_error(rt, "the old name is empty, or is the new name"));
     }
     let paths = matches.get_strs("files").unwrap_or([].as_slice());
     if has_input(paths) {
@@ -164,11 +208,12 @@ pub(crate) fn rename(rt: &HostRuntime, matches: &ArgMatches<'_>) -> Result<u8> {
     }
     let list = files_of(rt, matches)?;
     if list.has_faults {
-        return Ok(FAULT);
+        return Ok(Outcome::Fault);
     }
     let sources = list.sources.as_slice();
+    manner.files = sources.len();
     if manner.is_written {
-        Ok(rename_written(rt, &renaming, manner, sources))
+        rename_written(rt, &renaming, manner, sources)
     } else {
         rename_shown(rt, &renaming, manner, sources)
     }

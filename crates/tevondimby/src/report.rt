@@ -1,13 +1,13 @@
 //! Lines on standard error.
 
-use crate::run::FAULT;
+use command_report::Outcome;
 use file_target::TargetError;
 use std::io::IsTerminal;
 
-/// Says what is wrong with the command line. Returns the exit status.
-pub(crate) fn usage_error(rt: &HostRuntime, words: &str) -> u8 {
+/// Says what is wrong with the command line.
+pub(crate) fn usage_error(rt: &HostRuntime, words: &str) -> Outcome {
     let _ = eprintln!(rt; "tevondimby: {words}\n\nFor more information, try '--help'.");
-    FAULT
+    Outcome::Fault
 }
 
 /// Names a file that could not be written.

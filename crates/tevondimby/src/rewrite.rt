@@ -4,10 +4,11 @@ use crate::dialects::Dialects;
 use crate::diffs::{print_diffs, print_paths};
 use crate::file_ids::file_id;
 use crate::inputs::{Inputs, STANDARD_INPUT};
+use crate::reasons::why_no_command;
 use crate::report::{report_unwritten, report_written, usage_error};
-use crate::run::FAULT;
 use anyhow::{Result, anyhow};
 use clap::ArgMatches;
+use command_report::Outcome;
 use document_requests::{CommitRule, commands_of};
 use file_paths::{FileId, first_same};
 use file_target::Target;
@@ -62,8 +63,8 @@ fn rewrites_of<'a>(
     Ok(rewrites)
 }
 
-/// Names the file that stopped a rewrite. Returns the exit status.
-fn report_stop(rt: &HostRuntime, rewrites: &[Rewrite<'_>], stop: &RewriteStop) -> u8 {
+/// Names the file that stopped a rewrite.
+fn report_stop(rt: &HostRuntime, rewrites: &[Rewrite<'_>], stop: &RewriteStop) -> Outcome {
     match stop {
         RewriteStop::RefusedFile(RewriteFailure { index, fault }) => {
             let path = match rewrites.get(*index) {
@@ -74,7 +75,7 @@ fn report_stop(rt: &HostRuntime, rewrites: &[Rewrite<'_>], stop: &RewriteStop) -
         }
         RewriteStop::Unwritten(path, error) => report_unwritten(rt, path.as_str(), error),
     }
-    FAULT
+    Outcome::Fault
 }
 
 /// Rewrites files, and writes them or prints a diff.
@@ -82,7 +83,7 @@ fn run_rewrites(
     rt: &HostRuntime,
     matches: &ArgMatches<'_>,
     rewrites: &[Rewrite<'_>],
-) -> Result<u8> {
+) -> Result<Outcome> {
     let rule = if matches.get_flag("allow-messages") {
         CommitRule::Faithful
     } else {
@@ -96,17 +97,26 @@ fn run_rewrites(
                     if !matches.get_flag("quiet") {
                         report_written(rt, count);
                     }
-                    0
+                    Outcome::Done
                 }
                 Err(stop) => report_stop(rt, rewrites, &stop),
             },
         );
     }
-    match plan_rewrites(rt.alloc(), rule, &inputs, rewrites) {
-        Ok(changes) if matches.get_flag("check") => print_paths(rt, changes.as_slice()),
-        Ok(changes) => print_diffs(rt, changes),
-        Err(failure) => Ok(report_stop(rt, rewrites, &RewriteStop::RefusedFile(failure))),
+    let changes = match plan_rewrites(rt.alloc(), rule, &inputs, rewrites) {
+        Ok(changes) => changes,
+        Err(failure) => return Ok(report_stop(rt, rewrites, &RewriteStop::RefusedFile(failure))),
+    };
+    if !matches.get_flag("check") {
+        print_diffs(rt, changes)?;
+        return Ok(Outcome::Done);
     }
+    print_paths(rt, changes.as_slice())?;
+    Ok(if changes.is_empty() {
+        Outcome::Done
+    } else {
+        Outcome::Found
+    })
 }
 
 /// Returns `true` if standard input is one of the files.
@@ -150,16 +160,18 @@ fn why_no_commands(
             return Ok(anyhow!("{path}: {name}: is no list of commands"));
         };
         if let Some(index) = no_command(rt, grammar, values.as_slice())? {
-            return Ok(anyhow!(
-                "{path}: {name}, command {index}: is no command: its members are wrong, or a kind is"
-            ));
+            let why = match values.as_slice().get(index) {
+                Some(value) => why_no_command(rt.alloc(), value)?,
+                None => String::new(rt.alloc()),
+            };
+            return Ok(anyhow!("{path}: {name}, command {index}: {why}"));
         }
     }
     Ok(anyhow!("{path}: is no object of lists of commands"))
 }
 
 /// Rewrites files by the commands in a file.
-pub(crate) fn rewrite(rt: &HostRuntime, matches: &ArgMatches<'_>) -> Result<u8> {
+pub(crate) fn rewrite(rt: &HostRuntime, matches: &ArgMatches<'_>) -> Result<Outcome> {
     let path = matches.get_str("commands").unwrap_or("");
     let contents = match Inputs::new(rt).read(rt.alloc(), path) {
         Ok(contents) => contents,

@@ -9,13 +9,11 @@ use crate::source_list::{SourceList, source_list};
 use crate::view::view;
 use anyhow::{Context, Result};
 use clap::ArgMatches;
+use command_report::Outcome;
 use document_requests::{Watched, serve_lines};
 use source_tools::{Format, Source, View};
 use std::alloc::AllocError;
 use std::env;
-
-/// The exit status after a fault.
-pub(crate) const FAULT: u8 = 2;
 
 /// Returns the files of a command.
 pub(crate) fn files_of(
@@ -45,29 +43,33 @@ fn format_of(matches: &ArgMatches<'_>) -> Format {
 }
 
 /// Answers the requests on standard input, one a line.
-fn serve(rt: &HostRuntime) -> Result<u8> {
+fn serve(rt: &HostRuntime) -> Result<Outcome> {
     let mut writer = Watched::new(rt.stdout());
     match serve_lines(rt.alloc(), rt.stdin(), &mut writer) {
-        Ok(()) => Ok(0),
+        Ok(()) => Ok(Outcome::Done),
         Err(fault) => {
             let _ = eprintln!(rt; "tevondimby: {fault}");
-            Ok(FAULT)
+            Ok(Outcome::Fault)
         }
     }
 }
 
-/// Runs the command of the command line. Returns its exit status.
-pub(crate) fn run(rt: &HostRuntime) -> Result<u8> {
+/// Runs the command of the command line.
+pub(crate) fn run(rt: &HostRuntime) -> Result<Outcome> {
     let alloc = rt.alloc();
     let words = env::args(rt).context("the arguments cannot be read; each has to be UTF-8")?;
     let words: Vec<String> = words.collect(alloc)?;
     let matches = match command(alloc)?.try_get_matches_from(words.as_slice()) {
         Ok(matches) => matches,
         Err(error) => {
-            let status = if error.exit_code() == 0 { 0 } else { FAULT };
+            let outcome = if error.exit_code() == 0 {
+                Outcome::Done
+            } else {
+                Outcome::Fault
+            };
             return match error.print(rt) {
-                Ok(()) => Ok(status),
-                Err(error) if is_closed(&error) => Ok(status),
+                Ok(()) => Ok(outcome),
+                Err(error) if is_closed(&error) => Ok(outcome),
                 Err(error) => Err(anyhow::Error::from(error)),
             };
         }
@@ -79,6 +81,6 @@ pub(crate) fn run(rt: &HostRuntime) -> Result<u8> {
         Some(("rename", matches)) => rename(rt, matches),
         Some(("rewrite", matches)) => rewrite(rt, matches),
         Some(("serve", _)) => serve(rt),
-        _ => Ok(FAULT),
+        _ => Ok(Outcome::Fault),
     }
 }

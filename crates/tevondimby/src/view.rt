@@ -2,17 +2,15 @@
 
 use crate::inputs::Inputs;
 use crate::output::unless_closed;
-use crate::run::{FAULT, files_of, path_of};
+use crate::run::{files_of, path_of};
 use anyhow::Result;
 use clap::ArgMatches;
-use source_tools::{FileFault, Source, View, show};
+use command_report::Outcome;
+use source_tools::{FileFault, Source, Summary, View, show};
 use std::io::IsTerminal;
 
 /// How many files are shown before the line of progress is written again.
 const STEP: usize = 100;
-
-/// The exit status if there is no file.
-const NO_FILE: u8 = 1;
 
 /// Names the files that are left out.
 fn report(rt: &HostRuntime, sources: &[Source], faults: &[FileFault]) {
@@ -28,16 +26,29 @@ fn write_progress(rt: &HostRuntime, shown: usize, count: usize) {
     let _ = eprint!(rt; "\r{shown} of {count} files\r");
 }
 
+/// Returns what files that are shown came to.
+fn outcome_of(summary: &Summary) -> Outcome {
+    match summary.status() {
+        0 => Outcome::Done,
+        1 => Outcome::Found,
+        _ => Outcome::Fault,
+    }
+}
+
 /// Shows files, and writes a line of progress if standard error is a terminal and they are many.
-pub(crate) fn view(rt: &HostRuntime, view: View, matches: &ArgMatches<'_>) -> Result<u8> {
+pub(crate) fn view(rt: &HostRuntime, view: View, matches: &ArgMatches<'_>) -> Result<Outcome> {
     let list = files_of(rt, matches)?;
     let inputs = Inputs::new(rt);
     let sources = list.sources.as_slice();
     let has_progress = sources.len() > STEP && rt.stderr().is_terminal();
-    let mut status = if list.has_faults { FAULT } else { 0 };
+    let mut outcome = if list.has_faults {
+        Outcome::Fault
+    } else {
+        Outcome::Done
+    };
     if sources.is_empty() && !list.has_faults {
         let _ = eprintln!(rt; "tevondimby: no file");
-        return Ok(NO_FILE);
+        return Ok(Outcome::Found);
     }
     let mut shown: usize = 0;
     for part in sources.chunks(STEP) {
@@ -46,11 +57,11 @@ pub(crate) fn view(rt: &HostRuntime, view: View, matches: &ArgMatches<'_>) -> Re
         }
         let shown_part = show(rt.alloc(), view, &inputs, part, &mut rt.stdout());
         let Some(summary) = unless_closed(shown_part)? else {
-            return Ok(status);
+            return Ok(outcome);
         };
         report(rt, part, summary.faults.as_slice());
-        status = status.max(summary.status());
+        outcome = outcome.and(outcome_of(&summary));
         shown = shown.saturating_add(part.len());
     }
-    Ok(status)
+    Ok(outcome)
 }

@@ -4,7 +4,6 @@ use Rattle.rust_document.specs.Seen.{fault_of}
 use Rattle.source_tools.specs.Json.{message_item}
 use Rattle.source_tools.specs.Words.{words}
 use Rattle.source_tools.proofs.RowLemmas.{line-fits, col-fits}
-use Rattle.source_tools.proofs.WordLemmas.{words-are}
 use Rattle.source_tools.proofs.messages.push_error_item.Goals as goal
 
 pub push_message_item-requires-clause-line : goal.push_message_item-requires-clause-line
@@ -18,5 +17,5 @@ returns c =
     let error = c.args.placed.now.error in
     c.in_ok-push_message_item.ensures
     ∙ ap (λ (said : List ℕ). c.args.items.now.items ++ message_item c.args.placed.now.place error.offset said)
-    (c.as_str.ensures.value ∙ c.in_ok-words.ensures.ok ∙ words-are error.message)
+    (c.as_str.ensures.value ∙ c.in_ok-words.ensures)
     ∙ ap (λ (place : LineCol). c.args.items.now.items ++ message_item place error.offset (words (fault_of error.message))) c.requires.place

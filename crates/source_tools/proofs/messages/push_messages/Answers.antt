@@ -9,5 +9,5 @@ push_errors-requires c =
 pub returns : goal.returns
 returns c =
     let same : c.in_ok-index.index ≡ c.args.document.now.text = c.in_ok-index.ensures ∙ c.text.ensures.text in
-    let said = rw (same, c.errors.ensures) at c.in_ok-push_errors.ensures in
+    let said = rw (same, c.as_slice.ensures.value, c.in_ok-errors.ensures, c.errors.ensures) at c.in_ok-push_errors.ensures in
     said
