@@ -27,6 +27,7 @@ BROKEN = re.compile(r"(?:\./)?(src/\S+?):(\d+):\d+: error\b")
 UNKNOWN = re.compile(r".*error: `[^`]*` has no function `([^`]*)`")
 # The folder of a cycle of calls, below that of its module.
 CYCLE = re.compile(r"proofs/(.*?)/?\+\w+/")
+IN_CYCLE = re.compile(r"\bproofs/(?:[^\s/]+/)*\+\w+(?=/)")
 
 
 def read(path):
@@ -196,14 +197,27 @@ def is_named(body, name):
     return name == body.name or body.is_method and name.endswith(f"::{body.name}")
 
 
+def cycle_of(line):
+    """Returns the folder of the cycle of calls in whose proof an error lies, or nothing."""
+    found = IN_CYCLE.search(line)
+    return found and found[0]
+
+
+def meant_in(wrong, tried):
+    """Returns those of the wrong functions for which a check counts: all, if edits change all of them. A wrong function that no edit
+    changes voids the check, but where another of its cycle of calls is changed and wrong, it voids that cycle alone."""
+    changed = {name for name in wrong if any(is_named(body, name) for _, body, _ in tried)}
+    unclear = {cycle_of(line) for name, line in wrong.items() if name not in changed}
+    if None in unclear or not unclear <= {cycle_of(wrong[name]) for name in changed}:
+        return {}
+    return {name: line for name, line in wrong.items() if cycle_of(line) not in unclear}
+
+
 def refused_in(lines, tried):
     """Returns the edits of a round that a check refused, each with a line of the check.
 
-    If a function is wrong that no edit changes, the check counts for no edit. If methods of several types have one name, as many of
-    them have to be wrong as were changed."""
-    wrong, groups, found = wrong_in(lines), {}, {}
-    if any(not any(is_named(body, name) for _, body, _ in tried) for name in wrong):
-        return {}
+    If methods of several types have one name, as many of them have to be wrong as were changed."""
+    wrong, groups, found = meant_in(wrong_in(lines), tried), {}, {}
     for edit, body, _ in tried:
         groups.setdefault((body.name, body.is_method), []).append((edit, body))
     for group in groups.values():

@@ -156,6 +156,12 @@ class Together(unittest.TestCase):
         for left_out in range(len(WRONG)):
             self.assertEqual(together.refused_in(CHECK.splitlines(), WRONG[:left_out] + WRONG[left_out + 1 :]), {})
 
+    def test_error_in_unchanged_function_of_a_cycle_leaves_the_edits_of_the_cycle_open(self):
+        lines = ["./proofs/other/+words/Answers.antt:19:1: error: `part::other-returns-clause`: expected", *CHECK.splitlines()]
+        self.assertEqual({*together.refused_in(lines, WRONG)}, {*"acde"})
+        lines[0] = lines[0].replace("+words", "+lines")
+        self.assertEqual(together.refused_in(lines, WRONG), {})
+
     def test_methods_with_one_name_are_all_wrong_or_stay_open(self):
         lines = CHECK.replace("One::", "a::One::").replace("Two::", "b::One::").splitlines()
         self.assertEqual({*together.refused_in(lines, WRONG)}, {*"abcde"})
