@@ -93,7 +93,7 @@ def write(line):
 def select(copied, mode):
     """Returns the edits to try in a copy of the tree; fails if their sums or the ledgers cannot be read."""
     try:
-        return Selection(copied, ledger.Sums(copied).edits(), ledger.recorded(copied), tries_all=mode == "--edits")
+        return Selection(copied, ledger.Sums(copied).edits(), ledger.recorded_edits(copied), tries_all=mode == "--edits")
     except (OSError, ValueError, LookupError) as error:
         fail(f"the sums of the edits cannot be computed: {error!r}")
 

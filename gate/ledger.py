@@ -152,19 +152,33 @@ def ledger_of(root, name):
 
 
 def crate_rows(root, name):
-    """Returns the rows of a crate's ledger, by the edit's path: the sum and how the refusal was seen."""
-    path = ledger_of(root, name)
+    """Returns the rows of a crate's ledger, by the edit's path: the sum and how the refusal was seen.
+
+    Raises ValueError if a row is none, or is the second one of an edit."""
+    path, found = ledger_of(root, name), {}
     lines = read(path).decode().splitlines() if os.path.isfile(path) else []
-    rows = [line.split() for line in lines if line and not line.startswith("#")]
-    for row in rows:
+    for row in (line.split() for line in lines if line and not line.startswith("#")):
         if len(row) != 3 or row[1] not in (ALONE, TOGETHER, UNKNOWN):
             raise ValueError(f"{path} has a row that is no sum, mark and file: {' '.join(row)}")
-    return {f"crates/{name}/must-fail/{file}": (key, how) for key, how, file in rows}
+        edit = f"crates/{name}/must-fail/{row[2]}"
+        if edit in found:
+            raise ValueError(f"{path} has two rows of {row[2]}")
+        found[edit] = row[0], row[1]
+    return found
 
 
 def recorded(root):
     """Returns the rows of all ledgers of a tree, by the edit's path."""
     return {edit: row for name in crate_lines(root) for edit, row in crate_rows(root, name).items()}
+
+
+def recorded_edits(root):
+    """Returns the rows of all ledgers of a tree, by the edit's path. Raises ValueError if one is of an edit that is not there."""
+    found = recorded(root)
+    for edit in sorted(found):
+        if not os.path.isfile(f"{root}/{edit}"):
+            raise ValueError(f"the ledger of {crate_of(edit)} has a row of {os.path.basename(edit)}, which is no edit of the crate")
+    return found
 
 
 def record(root, name, tried, refused):
