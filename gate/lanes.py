@@ -2,8 +2,9 @@
 
 'rt ci' with no names gives a proof the processors that are idle when it begins. The crates that all others wait for begin beside many
 small ones: each gets one processor, and keeps it to its end while others idle. 'rt ci NAME' proves a crate on half of the processors.
-Here two crates at most are proved at a time, those with the longest chain of crates above them first. What passes is kept on this
-machine, and the 'rt ci' that follows takes it from there.
+Here three crates at most are proved at a time, those with the longest chain of crates above them first, and the others take what that
+one leaves: the end of a proof, often one long function, needs one core. What passes is kept on this machine, and the 'rt ci' that follows
+takes it from there.
 """
 import importlib.machinery
 import importlib.util
@@ -18,7 +19,7 @@ import repository
 from selection import CYCLES
 
 # The crates that are proved beside each other. More of them take more memory, and end no sooner.
-LANES = 2
+LANES = 3
 # Beside a crate of CYCLES, which takes most of the memory, only crates of fewer lines than this are proved. It begins by itself: 'rt'
 # counts the memory that is free then, and proves it on one processor if that is not twice what it may take.
 LINES_BESIDE_A_CYCLE = 12_000
@@ -96,13 +97,14 @@ class Lanes:
     def start(self):
         """Begins proofs while there is room."""
         while not self.is_stopped and len(self.running) < LANES and (name := self.next()):
+            yields = any(self.plan.chain(other) >= self.plan.chain(name) for other in self.running)
             self.left.remove(name)
-            self.running[name] = threading.Thread(target=self.prove, args=(name,))
+            self.running[name] = threading.Thread(target=self.prove, args=(name, yields))
             self.running[name].start()
 
-    def prove(self, name):
-        """Proves a crate."""
-        with repository.start_rt(self.root, "ci", name) as ran:
+    def prove(self, name, yields):
+        """Proves a crate. It yields if one that is being proved has a longer chain above it."""
+        with repository.start_rt(self.root, "ci", name, yields=yields) as ran:
             lines = [*ran.stdout]
         with self.turn:
             # (of the crates below it says that they are kept)

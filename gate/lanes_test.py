@@ -8,7 +8,7 @@ import lanes
 import progress
 from stand_in import Repository, read, write
 
-LINES = "low:\nother:\ntop: low other\ngrammar_reader: low\nlarge:\n"
+LINES = "low:\nother:\ntop: low other\ngrammar_reader: low\nlarge:\nsmall:\n"
 
 
 class Order(Repository):
@@ -41,29 +41,33 @@ class Room(unittest.TestCase):
         room = tempfile.TemporaryDirectory(prefix="gate-test-")
         self.addCleanup(room.cleanup)
         write(f"{room.name}/crates.txt", LINES)
-        for name in ("low", "other", "grammar_reader", "large"):
+        for name in ("low", "other", "grammar_reader", "large", "small"):
             write(f"{room.name}/crates/{name}/src/lib.rt", "\n" * (lanes.LINES_BESIDE_A_CYCLE if name == "large" else 1))
         write(f"{room.name}/crates/top/src/main.rt", "")
-        self.root, self.begun = room.name, []
+        self.root, self.begun, self.yielding = room.name, [], set()
 
     def make(self, *kept):
         """Returns the lanes over the tree, where these crates are kept, and begins what can begin. Stores the crates."""
         with mock.patch("progress.weights", return_value={}):
             made = lanes.Lanes(self.root, progress.Plan(self.root), {*kept}, None)
-        made.prove = self.begun.append
+        made.prove = lambda name, yields: self.begun.append(name) or self.yielding.update({name} if yields else ())
         made.start()
         return made
 
-    def test_two_crates_are_proved_at_a_time(self):
-        self.make("large", "grammar_reader")
-        self.assertEqual(self.begun, ["low", "other"])
+    def test_three_crates_are_proved_at_a_time(self):
+        self.make("grammar_reader")
+        self.assertEqual(self.begun, ["low", "other", "large"])
+
+    def test_all_yield_to_the_crate_with_the_longest_chain(self):
+        self.make("grammar_reader", "small")
+        self.assertEqual(self.yielding, {"other", "large"})
 
     def test_crate_waits_for_its_libraries(self):
-        self.make("low", "large", "grammar_reader")
+        self.make("low", "large", "grammar_reader", "small")
         self.assertEqual(self.begun, ["other"])
 
     def test_cycle_waits_for_those_that_are_proved_and_others_for_it(self):
-        made = self.make("other", "top", "large")
+        made = self.make("other", "top", "large", "small")
         self.assertEqual(self.begun, ["low"])
         made.proved.add("low")
         made.left.append("large")
@@ -74,7 +78,7 @@ class Room(unittest.TestCase):
         self.assertEqual(self.begun, ["low", "grammar_reader"])
 
     def test_no_large_crate_is_proved_beside_a_cycle(self):
-        made = self.make("low", "other", "top")
+        made = self.make("low", "other", "top", "small")
         self.assertEqual((self.begun, made.left), (["grammar_reader"], ["large"]))
         made.left.append("top")
         made.start()

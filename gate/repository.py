@@ -78,10 +78,10 @@ def restore_builds(copied):
                 shutil.move(f"{source}/{new}", target)
 
 
-def start_rt(at, *words):
-    """Starts 'rt' in a folder; its standard output can be read by lines."""
+def start_rt(at, *words, yields=False):
+    """Starts 'rt' in a folder; its standard output can be read by lines. One that yields takes what other processes leave of the cores."""
     how = {"cwd": at, "env": environment(), "stdout": subprocess.PIPE, "stdin": subprocess.DEVNULL, "errors": "replace"}
-    return subprocess.Popen(["rt", *words], **how)
+    return subprocess.Popen([*(["nice"] if yields else []), "rt", *words], **how)
 
 
 def output_of(words):
