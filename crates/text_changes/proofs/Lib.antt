@@ -1,0 +1,4 @@
+pub mod FloorLemmas
+pub mod PlaceLemmas
+pub mod DifferenceLemmas
+pub mod ChangeLemmas

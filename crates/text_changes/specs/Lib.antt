@@ -1,0 +1,4 @@
+pub mod Places
+pub mod Changes
+pub mod Differences
+pub mod Laws
