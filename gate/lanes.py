@@ -1,10 +1,9 @@
 """Proves the crates of a tree beside each other, each by 'rt ci NAME'.
 
-'rt ci' with no names gives a proof the processors that are idle when it begins. The crates that all others wait for begin beside many
-small ones: each gets one processor, and keeps it to its end while others idle. 'rt ci NAME' proves a crate on half of the processors.
-Here three crates at most are proved at a time, those with the longest chain of crates above them first, and the others take what that
-one leaves: the end of a proof, often one long function, needs one core. What passes is kept on this machine, and the 'rt ci' that follows
-takes it from there.
+Each by one job: a second job has the prover compute again, in a process of its own, what the first has computed, and takes up to five
+times the processor seconds (DECISIONS). As many crates are proved at a time as there are cores, those with the longest chain of crates
+above them first, and the others take what that one leaves. What passes is kept on this machine, and the 'rt ci' that follows takes it
+from there.
 """
 import importlib.machinery
 import importlib.util
@@ -18,11 +17,8 @@ import ledger
 import repository
 from selection import CYCLES
 
-# The crates that are proved beside each other. More of them take more memory, and end no sooner.
-LANES = 3
-# Beside a crate of CYCLES, which takes most of the memory, only crates of fewer lines than this are proved. It begins by itself: 'rt'
-# counts the memory that is free then, and proves it on one processor if that is not twice what it may take.
-LINES_BESIDE_A_CYCLE = 12_000
+# The bytes that a proof takes at most, but for those of CYCLES. Beside one of these only crates of fewer lines than this are proved.
+BYTES, LINES_BESIDE_A_CYCLE = 5_000_000_000, 12_000
 # What 'rt' says if it cannot keep proofs: then each crate would have all below it proved again.
 NOT_KEPT = re.compile(r"rt: note: .*(nothing is kept|not kept)")
 NOT_PROVED = re.compile(r"rt: .* NOT PROVED")
@@ -71,17 +67,23 @@ class Lanes:
         self.failed, self.is_stopped = [], False
         self.left = sorted((name for name in plan.crates if name not in self.proved), key=plan.chain, reverse=True)
         self.turn = threading.Condition()
+        # The number of crates that are proved beside each other: one a core, as far as memory goes.
+        self.most = max(1, min(repository.cores(), repository.memory() // BYTES))
 
     def lines_of(self, name):
         """Returns the number of lines of a crate's files."""
         files = [file for part in ledger.PARTS for file in ledger.files_below(f"{self.root}/crates/{name}/{part}")]
         return sum(ledger.read(file).count(b"\n") for file in files)
 
+    def is_small(self, name):
+        """Returns `True` if a crate can be proved beside one of CYCLES."""
+        return self.lines_of(name) < LINES_BESIDE_A_CYCLE
+
     def has_room(self, name):
         """Returns `True` if a crate can be proved beside those that are being proved."""
-        if not self.running:
-            return True
-        return name not in CYCLES and (not CYCLES & {*self.running} or self.lines_of(name) < LINES_BESIDE_A_CYCLE)
+        if name in CYCLES:
+            return all(map(self.is_small, self.running))
+        return not CYCLES & {*self.running} or self.is_small(name)
 
     def ready(self):
         """Returns the crates whose libraries are proved, those with the longest chain above first."""
@@ -89,14 +91,14 @@ class Lanes:
         return [name for name in self.left if libraries[name] <= self.proved]
 
     def next(self):
-        """Returns the crate whose proof begins next, or nothing. One of CYCLES waits until no other is being proved, and the others for it."""
+        """Returns the crate whose proof begins next, or nothing. While one of CYCLES waits, only small ones begin."""
         ready = self.ready()
-        first = [name for name in ready if name in CYCLES] or ready
-        return next((name for name in first if self.has_room(name)), None)
+        waits = CYCLES & {*ready}
+        return next((name for name in ready if self.has_room(name) and (not waits or name in waits or self.is_small(name))), None)
 
     def start(self):
         """Begins proofs while there is room."""
-        while not self.is_stopped and len(self.running) < LANES and (name := self.next()):
+        while not self.is_stopped and len(self.running) < self.most and (name := self.next()):
             yields = any(self.plan.chain(other) >= self.plan.chain(name) for other in self.running)
             self.left.remove(name)
             self.running[name] = threading.Thread(target=self.prove, args=(name, yields))
@@ -104,7 +106,7 @@ class Lanes:
 
     def prove(self, name, yields):
         """Proves a crate. It yields if one that is being proved has a longer chain above it."""
-        with repository.start_rt(self.root, "ci", name, yields=yields) as ran:
+        with repository.start_rt(self.root, "ci", name, jobs=1, yields=yields) as ran:
             lines = [*ran.stdout]
         with self.turn:
             # (of the crates below it says that they are kept)

@@ -44,19 +44,24 @@ class Room(unittest.TestCase):
         for name in ("low", "other", "grammar_reader", "large", "small"):
             write(f"{room.name}/crates/{name}/src/lib.rt", "\n" * (lanes.LINES_BESIDE_A_CYCLE if name == "large" else 1))
         write(f"{room.name}/crates/top/src/main.rt", "")
-        self.root, self.begun, self.yielding = room.name, [], set()
+        self.root, self.begun, self.yielding, self.memory = room.name, [], set(), 9 * lanes.BYTES
 
     def make(self, *kept):
         """Returns the lanes over the tree, where these crates are kept, and begins what can begin. Stores the crates."""
-        with mock.patch("progress.weights", return_value={}):
+        with mock.patch("progress.weights", return_value={}), mock.patch("repository.cores", return_value=3), mock.patch("repository.memory", return_value=self.memory):
             made = lanes.Lanes(self.root, progress.Plan(self.root), {*kept}, None)
         made.prove = lambda name, yields: self.begun.append(name) or self.yielding.update({name} if yields else ())
         made.start()
         return made
 
-    def test_three_crates_are_proved_at_a_time(self):
+    def test_a_crate_a_core_is_proved_at_a_time(self):
         self.make("grammar_reader")
         self.assertEqual(self.begun, ["low", "other", "large"])
+
+    def test_no_more_crates_are_proved_than_memory_holds(self):
+        self.memory = 2 * lanes.BYTES
+        self.make("grammar_reader")
+        self.assertEqual(self.begun, ["low", "other"])
 
     def test_all_yield_to_the_crate_with_the_longest_chain(self):
         self.make("grammar_reader", "small")
@@ -66,16 +71,15 @@ class Room(unittest.TestCase):
         self.make("low", "large", "grammar_reader", "small")
         self.assertEqual(self.begun, ["other"])
 
-    def test_cycle_waits_for_those_that_are_proved_and_others_for_it(self):
-        made = self.make("other", "top", "large", "small")
-        self.assertEqual(self.begun, ["low"])
-        made.proved.add("low")
-        made.left.append("large")
+    def test_cycle_waits_for_large_crates_and_they_for_it(self):
+        made = self.make("low", "other", "top", "small", "grammar_reader")
+        self.assertEqual(self.begun, ["large"])
+        made.left += ["grammar_reader", "small"]
         made.start()
-        self.assertEqual(self.begun, ["low"])
-        made.running.clear()
+        self.assertEqual(self.begun, ["large", "small"])
+        del made.running["large"]
         made.start()
-        self.assertEqual(self.begun, ["low", "grammar_reader"])
+        self.assertEqual(self.begun, ["large", "small", "grammar_reader"])
 
     def test_no_large_crate_is_proved_beside_a_cycle(self):
         made = self.make("low", "other", "top", "small")

@@ -7,7 +7,6 @@ import time
 
 import ledger
 import repository
-from lanes import LANES
 from processes import PROOF, TESTS, Checks
 
 WEIGHTS = f"{os.path.dirname(os.path.realpath(__file__))}/weights.txt"
@@ -115,12 +114,12 @@ class Progress:
     def left(self):
         """Returns an estimate of the seconds left.
 
-        The work left takes at least its processor seconds on all cores, and at least its longest chain on a lane's cores."""
+        The work left takes at least its processor seconds on all cores, and at least those of its longest chain on one."""
         left = {}
         for key, weight in self.plan.tasks.items():
             if key not in self.done:
                 left[key] = max(weight - self.seconds(key), LEAST_LEFT * weight)
-        return self.stretch() * max(sum(left.values()) / self.cores, self.plan.longest_chain(left) / max(1, self.cores // LANES))
+        return self.stretch() * max(sum(left.values()) / self.cores, self.plan.longest_chain(left))
 
     def stretch(self):
         """Returns how many seconds a processor second of the proofs has taken so far, at least 1: more on a busy machine."""

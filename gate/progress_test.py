@@ -42,10 +42,6 @@ class Progress(unittest.TestCase):
         write(f"{room.name}/crates.txt", "low:\ntop: low\nside:\nunlisted:\n")
         with mock.patch("progress.weights", return_value=WEIGHTS):
             self.plan = progress.Plan(room.name)
-        # Each crate is proved by one of the four cores.
-        lanes = mock.patch("progress.LANES", 4)
-        lanes.start()
-        self.addCleanup(lanes.stop)
         self.now, self.lines, self.checks = 0.0, [], StandInChecks()
         self.progress = progress.Progress(self.plan, 4, self.checks, lambda: self.now, self.lines.append)
 
@@ -69,10 +65,6 @@ class Progress(unittest.TestCase):
         self.assertEqual(self.progress.left(), 100 + 40 + 60)
         self.progress.cores = 1
         self.assertEqual(self.progress.left(), sum(self.plan.tasks.values()))
-
-    def test_chain_takes_less_time_on_more_cores(self):
-        with mock.patch("progress.LANES", 2):
-            self.assertEqual(self.progress.left(), (100 + 40 + 60) / 2)
 
     def test_time_left_shrinks_while_a_check_runs_and_grows_on_a_busy_machine(self):
         before = self.progress.left()

@@ -33,10 +33,14 @@ def cores():
     return len(os.sched_getaffinity(0))
 
 
+def memory():
+    """Returns the bytes of memory of this machine."""
+    return os.sysconf("SC_PAGE_SIZE") * os.sysconf("SC_PHYS_PAGES")
+
+
 def environment():
     """Returns the environment of 'rt ci': on a machine with little memory, one job a core."""
-    memory = os.sysconf("SC_PAGE_SIZE") * os.sysconf("SC_PHYS_PAGES")
-    is_short = memory < BYTES_A_CORE * cores()
+    is_short = memory() < BYTES_A_CORE * cores()
     return {"RT_JOBS": str(cores()), **os.environ} if is_short else dict(os.environ)
 
 
@@ -78,9 +82,11 @@ def restore_builds(copied):
                 shutil.move(f"{source}/{new}", target)
 
 
-def start_rt(at, *words, yields=False):
-    """Starts 'rt' in a folder; its standard output can be read by lines. One that yields takes what other processes leave of the cores."""
-    how = {"cwd": at, "env": environment(), "stdout": subprocess.PIPE, "stdin": subprocess.DEVNULL, "errors": "replace"}
+def start_rt(at, *words, jobs=0, yields=False):
+    """Starts 'rt' in a folder, with a number of jobs if it is not to choose that; its standard output can be read by lines. One that
+    yields takes what other processes leave of the cores."""
+    chosen = {"RT_JOBS": str(jobs)} if jobs else {}
+    how = {"cwd": at, "env": {**environment(), **chosen}, "stdout": subprocess.PIPE, "stdin": subprocess.DEVNULL, "errors": "replace"}
     return subprocess.Popen([*(["nice"] if yields else []), "rt", *words], **how)
 
 
