@@ -2,6 +2,8 @@
 #![tactic(auto)]
 
 #[cfg(test)]
+mod changes;
+#[cfg(test)]
 mod columns;
 #[cfg(test)]
 mod diffs;
@@ -11,5 +13,7 @@ mod files;
 mod folders;
 #[cfg(test)]
 mod lines;
+#[cfg(test)]
+mod messages;
 #[cfg(test)]
 mod replaced;
