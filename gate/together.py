@@ -153,7 +153,7 @@ def check(folder, texts, names):
         for file, text in texts.items():
             write(f"{folder}/{file}", text)
         how = {"cwd": folder, "stdout": subprocess.PIPE, "stderr": subprocess.STDOUT, "stdin": subprocess.DEVNULL, "errors": "replace"}
-        return subprocess.run(["rt", "check", *only], **how).stdout.splitlines()
+        return subprocess.run(["rt", "check", "--jobs", "1", *only], **how).stdout.splitlines()
     finally:
         for file, text in own.items():
             write(f"{folder}/{file}", text)

@@ -90,8 +90,7 @@ def try_crate(root, name, tried, write, alone=True):
 
 def workers():
     """Returns the number of checks that run beside each other."""
-    memory = os.sysconf("SC_PAGE_SIZE") * os.sysconf("SC_PHYS_PAGES")
-    return max(1, min(repository.cores(), memory // BYTES_OF_A_CHECK))
+    return max(1, min(repository.cores(), repository.memory() // BYTES_OF_A_CHECK))
 
 
 def try_all(root, groups, write, alone=lambda name: True):
