@@ -25,11 +25,12 @@ pub struct Bounds {
 }
 
 /// Returns the first node below `node`, in preorder, that has the bounds. The node's text starts at `at`.
+#[tactic(auto, using(tree_patterns::proofs::LeafLists::child_facts))]
 fn node_over<'a>(node: &GreenNodeRef<'a>, at: u32, bounds: Bounds) -> Option<GreenNodeRef<'a>> {
     let mut at = at;
     for child in node.children() {
         let start = at;
-        at = start + child.text_len().0;
+        at = start.saturating_add(child.text_len().0);
         if let NodeOrToken::Node(inner) = child {
             if start == bounds.start && at == bounds.end {
                 return Some(inner);
@@ -70,7 +71,7 @@ pub fn read_as(
     let start = before.len() as u32;
     let bounds = Bounds {
         start,
-        end: start + text.len() as u32,
+        end: start.saturating_add(text.len() as u32),
     };
     let root = document.root().cursor().green().as_ref();
     match node_over(&root, 0, bounds) {
