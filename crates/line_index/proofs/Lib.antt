@@ -4,3 +4,4 @@ pub mod ColumnLemmas
 pub mod PlaceLemmas
 pub mod EncodeLemmas
 pub mod IndexLemmas
+pub mod Bounds

@@ -4,9 +4,7 @@ use crate::error::PatternError;
 use crate::spelling::StandIn;
 use crate::stand_ins::{may_be_spelled, only_stand_in, stand_in_of};
 use parser_input::SyntaxKind;
-use rowan_green::{
-    GreenElement, GreenElementRef, GreenError, GreenNode, GreenNodeRef, GreenToken, NodeOrToken,
-};
+use rowan_green::{GreenElement, GreenError, GreenNode, GreenNodeRef, GreenToken, NodeOrToken};
 use std::alloc::Global;
 use tree_patterns::bones::is_bone;
 use tree_patterns::kinds::{LISTS, is_among};
@@ -70,33 +68,58 @@ fn compiled_leaf(
     place_leaf(alloc, place, stand_in.name.as_str())
 }
 
-/// Returns the element of a pattern that an element in a node of kind `parent` is.
-#[tactic(auto, using(tree_patterns::proofs::LeafLists::child_facts))]
-pub fn compiled(
+/// Returns the leaf of a pattern that a node in one of kind `parent` is, if it is a place.
+fn placed(
     alloc: Global,
     stand_ins: &[StandIn],
     parent: u16,
-    element: &GreenElementRef<'_>,
-) -> Result<GreenElement, PatternError> {
-    let node = match element {
-        NodeOrToken::Token(leaf) => return compiled_leaf(alloc, stand_ins, parent, leaf),
-        NodeOrToken::Node(node) => node,
-    };
-    if let Some((place, number)) = place_of(alloc, stand_ins, parent, node)? {
-        if number < stand_ins.len() {
-            return place_leaf(alloc, place, stand_ins[number].name.as_str());
+    node: &GreenNodeRef<'_>,
+) -> Result<Option<GreenElement>, PatternError> {
+    match place_of(alloc, stand_ins, parent, node)? {
+        Some((place, number)) if number < stand_ins.len() => {
+            let leaf = place_leaf(alloc, place, stand_ins[number].name.as_str())?;
+            Ok(Some(leaf))
         }
+        _ => Ok(None),
     }
+}
+
+/// Returns the node of a pattern that a node is.
+#[tactic(auto, using(tree_patterns::proofs::LeafLists::child_facts))]
+fn compiled_node(
+    alloc: Global,
+    stand_ins: &[StandIn],
+    node: &GreenNodeRef<'_>,
+) -> Result<GreenElement, PatternError> {
     let kind = node.kind();
     let mut children = Vec::new(alloc);
     for child in node.children() {
         if is_bone(kind.0, child.kind().0) {
-            children.push(compiled(alloc, stand_ins, kind.0, &child)?)?;
+            let element = match child {
+                NodeOrToken::Token(leaf) => compiled_leaf(alloc, stand_ins, kind.0, &leaf)?,
+                NodeOrToken::Node(inner) => match placed(alloc, stand_ins, kind.0, &inner)? {
+                    Some(leaf) => leaf,
+                    None => compiled_node(alloc, stand_ins, &inner)?,
+                },
+            };
+            children.push(element)?;
         }
     }
     match GreenNode::new(alloc, kind, children.into_iter()) {
         Ok(node) => Ok(NodeOrToken::Node(node)),
         Err(GreenError::TooLong) => Err(PatternError::TooLong),
         Err(_) => Err(PatternError::NoMemory),
+    }
+}
+
+/// Returns the element of a pattern that the node of a fragment is.
+pub fn compiled(
+    alloc: Global,
+    stand_ins: &[StandIn],
+    node: &GreenNodeRef<'_>,
+) -> Result<GreenElement, PatternError> {
+    match placed(alloc, stand_ins, 0, node)? {
+        Some(leaf) => Ok(leaf),
+        None => compiled_node(alloc, stand_ins, node),
     }
 }

@@ -8,7 +8,7 @@ use crate::pieces::{Piece, pieces_of, trimmed};
 use crate::reading::{Dialect, opened, read_as};
 use crate::spelling::{Spelling, StandIn, free_prefix, spelled_text, stand_ins};
 use crate::stand_ins::spellings;
-use rowan_green::{GreenElement, GreenElementRef, GreenNode, NodeOrToken};
+use rowan_green::{GreenElement, GreenNode, NodeOrToken};
 use rust_document::Document;
 use std::alloc::Global;
 use tree_patterns::fragment::FRAGMENTS;
@@ -51,12 +51,11 @@ fn pattern_as(
     fragment: Fragment,
     pieces: &[Piece<'_>],
     stand_ins: &[StandIn],
-) -> Result<Option<rowan_green::GreenElement>, PatternError> {
+) -> Result<Option<GreenElement>, PatternError> {
     let Some(tree) = read_pattern(alloc, dialect, fragment, pieces, stand_ins)? else {
         return Ok(None);
     };
-    let root: GreenElementRef<'_> = NodeOrToken::Node(tree.as_ref());
-    let element = compiled(alloc, stand_ins, 0, &root)?;
+    let element = compiled(alloc, stand_ins, &tree.as_ref())?;
     let places = match &element {
         NodeOrToken::Node(node) => count_places(alloc, &node.as_ref())?,
         NodeOrToken::Token(_) => 1,

@@ -54,6 +54,14 @@ pub fn opened(alloc: Global, dialect: Dialect, text: &str) -> Result<Document, P
     }
 }
 
+/// Returns the number of bytes of a text.
+fn size_of(text: &str) -> Result<u32, PatternError> {
+    match u32::try_from(text.len()) {
+        Ok(size) => Ok(size),
+        Err(_) => Err(PatternError::TooLong),
+    }
+}
+
 /// Returns the one node that a text is as a fragment, if it reads so without messages.
 pub fn read_as(
     alloc: Global,
@@ -68,10 +76,10 @@ pub fn read_as(
     if !document.errors().is_empty() {
         return Ok(None);
     }
-    let start = before.len() as u32;
+    let start = size_of(before)?;
     let bounds = Bounds {
         start,
-        end: start.saturating_add(text.len() as u32),
+        end: start.saturating_add(size_of(text)?),
     };
     let root = document.root().cursor().green().as_ref();
     match node_over(&root, 0, bounds) {

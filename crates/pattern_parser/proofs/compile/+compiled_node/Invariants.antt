@@ -2,10 +2,10 @@
 use Rattle.std.proofs.Common.{◌≤◌}
 use Rattle.rowan_green.specs.Forest.{forest_count, tree_count}
 use Rattle.rowan_green.specs.Term.{forest_of, term_count}
-use Rattle.pattern_parser.proofs.compile.+compiled.Given as goal
+use Rattle.pattern_parser.proofs.compile.+compiled_node.Given as goal
 
-abbrev pub decreases-compiled : goal.decreases-compiled
-decreases-compiled l = term_count l.element.now
+abbrev pub decreases-compiled_node : goal.decreases-compiled_node
+decreases-compiled_node l = tree_count l.node.now
 
 abbrev pub invariant-loop-child : goal.invariant-loop-child
 invariant-loop-child l = record {
