@@ -23,3 +23,8 @@ worse Found Found = Found
 abbrev pub rename_outcome : Bool → RenameCounts → Outcome
 rename_outcome true c = if not (c.files == 0) || not (c.left == 0) then Found else Done
 rename_outcome false c = if c.files == 0 then Found else Done
+
+-- what a search came to: without a match there is nothing to do
+abbrev pub search_outcome : ℕ → Bool → Outcome
+search_outcome count true = Fault
+search_outcome count false = if count == 0 then Found else Done

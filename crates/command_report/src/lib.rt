@@ -4,5 +4,5 @@
 mod outcome;
 mod rows;
 
-pub use outcome::{Outcome, RenameCounts};
+pub use outcome::{Outcome, RenameCounts, search_outcome};
 pub use rows::{MAX_ROWS, place_row, push_row, rest_row, tally_row, unchanged_row};

@@ -1,7 +1,7 @@
 //! What a command came to.
 
 ghost use Rattle.std.specs.Prelude.{◌≡◌, ◌==◌, if◌then◌else◌};
-ghost use Rattle.command_report.specs.Outcomes.{rename_outcome, status_of, worse};
+ghost use Rattle.command_report.specs.Outcomes.{rename_outcome, search_outcome, status_of, worse};
 
 /// What a command came to. Of several, the last in this list counts.
 #[derive(Clone, Copy, Debug, PartialEq, Eq, Drop)]
@@ -35,6 +35,18 @@ impl Outcome {
             (Outcome::Found, _) | (_, Outcome::Found) => Outcome::Found,
             (Outcome::Done, Outcome::Done) => Outcome::Done,
         }
+    }
+}
+
+/// Returns what a search came to that found `count` matches. If there is none, that is told as what is found is by other
+/// commands, by status 1, as `grep` does.
+pub fn search_outcome(count: usize, has_faults: bool) -> Outcome
+    ensures { result ≡ search_outcome count has_faults }
+{
+    match (has_faults, count) {
+        (true, _) => Outcome::Fault,
+        (false, 0) => Outcome::Found,
+        (false, _) => Outcome::Done,
     }
 }
 

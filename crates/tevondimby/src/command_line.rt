@@ -14,7 +14,7 @@ of `--edition`, or else of the nearest `Cargo.toml`, or else 2021; a `Cargo.toml
 or names no edition of Rust is named on standard error. Its grammar is the whole language, or with \
 `--grammar profile` the part of it that a request is read by if it names no grammar.
 
-The exit status is 0; or 1 if `check` prints messages, if `rename` finds no identifier OLD, if with \
+The exit status is 0; or 1 if `check` prints messages, if `search` finds no match, if `rename` finds no identifier OLD, if with \
 `--check` a file would change or OLD would be left, or if there is no file; or 2 after a fault: a file \
 that cannot be read is named on standard error, and `check`, `tokens` and `tree` still read the others.
 
@@ -74,6 +74,22 @@ input, `-`, the new text is printed; no other FILE and no `--write` goes with it
 No file is written unless all of them can be renamed in. A file in which NEW is an identifier \
 already is refused unless `--merge` is given, and so is one whose new text would read as another \
 tree.";
+
+const SEARCH: &str = "\
+Prints the matches of PATTERN, a fragment of Rust in which `$a` stands for an expression, a type, a pattern, a path or a \
+name, whatever can stand there, and `$$$a` for any number of elements of a list. Places of one name stand for the same \
+tokens; `$_` and `$$$` stand for anything.
+
+    tevondimby search '$a.unwrap()' src
+    tevondimby search 'fn $f($$$) -> Option<$t> { $$$ }' src
+
+Whitespace, comments and the commas at the ends of lists say nothing, and nothing else is optional: `fn $f() {}` does not \
+match `pub fn f() {}`. Matches are not looked for inside macro calls, nor in what the pattern itself fixes.
+
+A row has the path, line and column of a match, and its first line. The exit status is 0 if there is a match, 1 if there is \
+none, and 2 after a fault: a file that cannot be read, or whose edition does not read the pattern, is left out.";
+
+const AS: &str = "What the pattern is read as; else the first of these that it reads as";
 
 fn edition<'a>(alloc: Global) -> Arg<'a> {
     Arg::new(alloc, "edition")
@@ -154,6 +170,23 @@ fn with_names<'a>(alloc: Global, command: Command<'a>) -> Result<Command<'a>, Al
     command.arg(merge)?.arg(old)?.arg(new)
 }
 
+/// Returns the command that searches.
+fn searching<'a>(alloc: Global) -> Result<Command<'a>, AllocError> {
+    let fragment = Arg::new(alloc, "as")
+        .long("as")
+        .value_name("FRAGMENT")
+        .value_parser(["expression", "type", "pattern", "statement", "item"].as_slice())
+        .help(AS)
+        .action(ArgAction::Set);
+    let pattern = word(alloc, "pattern", "PATTERN", "A fragment of Rust with places");
+    let command = Command::new(alloc, "search")
+        .about("Prints the matches of a pattern")
+        .long_about(SEARCH)
+        .arg(fragment)?
+        .arg(pattern)?;
+    with_dialect(alloc, command)?.arg(files(alloc))
+}
+
 /// Returns the command that renames.
 fn renaming<'a>(alloc: Global) -> Result<Command<'a>, AllocError> {
     let command = Command::new(alloc, "rename")
@@ -214,8 +247,9 @@ pub(crate) fn command<'a>(alloc: Global) -> Result<Command<'a>, AllocError> {
         "Prints the trees of files, a row for each element",
     )?;
     let command = bare_command(alloc).subcommand(check)?.subcommand(tokens)?;
-    let command = command.subcommand(tree)?.subcommand(renaming(alloc)?)?;
+    let command = command.subcommand(tree)?.subcommand(searching(alloc)?)?;
     command
+        .subcommand(renaming(alloc)?)?
         .subcommand(rewriting(alloc)?)?
         .subcommand(serving(alloc))
 }

@@ -1,5 +1,5 @@
-//! The command `tevondimby`: messages, tokens and trees of source files, renamings and rewrites of
-//! them, and answers to requests.
+//! The command `tevondimby`: messages, tokens and trees of source files, matches of patterns in them,
+//! renamings and rewrites of them, and answers to requests.
 #![tactic(auto)]
 
 mod advice;
@@ -15,6 +15,7 @@ mod rename;
 mod report;
 mod rewrite;
 mod run;
+mod search;
 mod source_list;
 mod survey;
 mod view;

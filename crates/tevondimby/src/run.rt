@@ -5,6 +5,7 @@ use crate::dialects::Dialects;
 use crate::output::is_closed;
 use crate::rename::rename;
 use crate::rewrite::rewrite;
+use crate::search::search;
 use crate::source_list::{SourceList, source_list};
 use crate::view::view;
 use anyhow::{Context, Result};
@@ -78,6 +79,7 @@ pub(crate) fn run(rt: &HostRuntime) -> Result<Outcome> {
         Some(("check", matches)) => view(rt, View::Messages(format_of(matches)), matches),
         Some(("tokens", matches)) => view(rt, View::Tokens(format_of(matches)), matches),
         Some(("tree", matches)) => view(rt, View::Tree(format_of(matches)), matches),
+        Some(("search", matches)) => search(rt, matches),
         Some(("rename", matches)) => rename(rt, matches),
         Some(("rewrite", matches)) => rewrite(rt, matches),
         Some(("serve", _)) => serve(rt),
