@@ -1,13 +1,14 @@
 # Completions of tevondimby for fish: copy this file to ~/.config/fish/completions
-set -l commands check tokens tree rename rewrite serve
+set -l commands check tokens tree search rename rewrite serve
 complete -c tevondimby -f -n "not __fish_seen_subcommand_from $commands" -a check -d "Messages, with their lines"
 complete -c tevondimby -f -n "not __fish_seen_subcommand_from $commands" -a tokens -d "Tokens, a row each"
 complete -c tevondimby -f -n "not __fish_seen_subcommand_from $commands" -a tree -d "Trees, a row for each element"
 complete -c tevondimby -f -n "not __fish_seen_subcommand_from $commands" -a rename -d "Rename identifiers"
+complete -c tevondimby -f -n "not __fish_seen_subcommand_from $commands" -a search -d "Matches of a pattern"
 complete -c tevondimby -f -n "not __fish_seen_subcommand_from $commands" -a rewrite -d "Rewrite by commands"
 complete -c tevondimby -f -n "not __fish_seen_subcommand_from $commands" -a serve -d "Answer requests, one a line"
-complete -c tevondimby -n "__fish_seen_subcommand_from check tokens tree rename rewrite" -l edition -x -a "2015 2018 2021 2024 next" -d "The edition of all files"
-complete -c tevondimby -n "__fish_seen_subcommand_from check tokens tree rename rewrite" -l grammar -x -a "whole profile" -d "The grammar of all files"
+complete -c tevondimby -n "__fish_seen_subcommand_from check tokens tree search rename rewrite" -l edition -x -a "2015 2018 2021 2024 next" -d "The edition of all files"
+complete -c tevondimby -n "__fish_seen_subcommand_from check tokens tree search rename rewrite" -l grammar -x -a "whole profile" -d "The grammar of all files"
 complete -c tevondimby -n "__fish_seen_subcommand_from check tokens tree" -l json -d "An object in JSON for each file"
 complete -c tevondimby -n "__fish_seen_subcommand_from rename rewrite" -s w -l write -d "Write the files"
 complete -c tevondimby -n "__fish_seen_subcommand_from rename rewrite" -l diff -d "Print a diff"
@@ -15,3 +16,4 @@ complete -c tevondimby -n "__fish_seen_subcommand_from rename rewrite" -l check 
 complete -c tevondimby -n "__fish_seen_subcommand_from rename rewrite" -s q -l quiet -d "Say nothing but faults"
 complete -c tevondimby -n "__fish_seen_subcommand_from rename" -l merge -d "NEW may be an identifier already"
 complete -c tevondimby -n "__fish_seen_subcommand_from rewrite" -l allow-messages -d "The texts may have messages"
+complete -c tevondimby -n "__fish_seen_subcommand_from search" -l as -x -a "expression type pattern statement item" -d "What the pattern is read as"

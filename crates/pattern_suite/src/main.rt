@@ -3,6 +3,9 @@
 //! and the numbers of passed and failed cases.
 #![tactic(auto)]
 
+#[cfg(test)]
+mod rows;
+
 use anyhow::Context;
 use parser_input::Edition;
 use pattern_parser::{Dialect, PatternError, other_fragments, parse_pattern};

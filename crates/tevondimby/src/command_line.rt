@@ -178,7 +178,12 @@ fn searching<'a>(alloc: Global) -> Result<Command<'a>, AllocError> {
         .value_parser(["expression", "type", "pattern", "statement", "item"].as_slice())
         .help(AS)
         .action(ArgAction::Set);
-    let pattern = word(alloc, "pattern", "PATTERN", "A fragment of Rust with places");
+    let pattern = word(
+        alloc,
+        "pattern",
+        "PATTERN",
+        "A fragment of Rust with places",
+    );
     let command = Command::new(alloc, "search")
         .about("Prints the matches of a pattern")
         .long_about(SEARCH)

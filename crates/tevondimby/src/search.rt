@@ -89,7 +89,9 @@ fn report_fragments(
             let read = pattern.fragment().name();
             for other in others {
                 let name = other.name();
-                let _ = eprintln!(rt; "tevondimby: the pattern is read as: {read}; also with --as {name}");
+                let _ = eprintln!(rt;
+                    "tevondimby: the pattern is read as: {read}; also with --as {name}"
+                );
             }
             Ok(())
         }
