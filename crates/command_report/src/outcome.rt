@@ -38,8 +38,7 @@ impl Outcome {
     }
 }
 
-/// Returns what a search came to that found `count` matches. If there is none, that is told as what is found is by other
-/// commands, by status 1, as `grep` does.
+/// Returns what a search came to that found `count` matches. Without a match its status is 1, as `grep`'s.
 pub fn search_outcome(count: usize, has_faults: bool) -> Outcome
     ensures { result ≡ search_outcome count has_faults }
 {
