@@ -15,6 +15,7 @@ mod rename;
 mod report;
 mod rewrite;
 mod run;
+mod serve;
 mod source_list;
 mod survey;
 mod view;
