@@ -1,4 +1,5 @@
-"""The public calls that can run out of memory, and whether a table of `memory_suite` or `document_memory_suite` has each.
+"""The public calls that can run out of memory, and whether a table of `memory_suite`, of `document_memory_suite`, of
+`file_memory_suite` or of `command_suite` has each.
 
     python3 gate/allocating_calls.py    prints the calls that the tables lack, and the names in them that no call has
 
@@ -14,13 +15,19 @@ import ledger
 from repository import TOP
 
 # The crates with the tables.
-TABLES = "*memory_suite"
-# Crates whose calls are not the product's own come after this line of crates.txt: programs, tests, measurements, and crates that no
-# program uses yet, whose tests make a refused call again (`rt try --test --fail-alloc N`).
-END_OF_PRODUCT = "# Its program"
+TABLES = ("*memory_suite", "command_suite")
+# Crates whose calls are not the product's own come after this line of crates.txt: tests, measurements, and crates that no program uses
+# yet, whose tests make a refused call again (`rt try --test --fail-alloc N`).
+END_OF_PRODUCT = "# Patterns, which no program uses yet"
 # Calls that are steps of others, and those of the table that make them: the changes of a plan, for one, are known to `tree_rewrite`
-# alone. A call of `rust_source` is the document's, with the allocator and the numbers that the source holds.
+# alone. A call of `rust_source` is the document's, with the allocator and the numbers that the source holds. A disk's read and write ask
+# the system, and make what they allocate as a file in memory and `replace_file` do; both run where a program has files.
 MADE_BY = {
+    "file_target::Disk::read": "file_target::Memory::read",
+    "file_target::Disk::write": "file_target::replace_file",
+    "file_target::Target::read": "file_target::Memory::read",
+    "file_target::Target::write": "file_target::Memory::write",
+    "line_reader::Client::answer": "document_requests::Dialogue::answer",
     "parser_events::StrSink::step": "rust_document::Document::open",
     "parser_events::shortcuts::intersperse_trivia": "rust_document::Document::open",
     "parser_input::LexedStr::from_tokens": "rust_document::Document::edit",
@@ -32,19 +39,17 @@ MADE_BY = {
     "rust_source::Source::edit": "rust_document::Document::edit",
     "rust_source::Source::editor": "rust_document::Document::editor",
     "rust_source::Source::find": "rust_document::Document::find",
-    "rust_source::Source::insert_on_line_after": "syntax_editor::SyntaxEditor::insert_all",
-    "rust_source::Source::insert_on_line_before": "syntax_editor::SyntaxEditor::insert_all",
     "rust_source::Source::make_token": "syntax_editor::SyntaxFactory::token",
     "rust_source::Source::open": "rust_document::Document::open",
     "rust_source::Source::open_by": "rust_document::Document::open_by",
     "rust_source::Source::payload": "rust_document::payload",
-    "rust_source::Source::payload_attribute": "rust_document::payload",
-    "rust_source::Source::payload_item": "rust_document::payload",
-    "rust_source::Source::payload_node": "rust_document::payload",
-    "rust_source::Source::payload_statement": "rust_document::payload",
-    "rust_source::Source::rename": "rust_document::Document::commit",
     "rust_source::Source::try_commit": "rust_document::Document::try_commit",
-    "rust_source::ancestor_below": "syntax_tree::SyntaxNode::parent",
+    "source_rewrites::commands_of_files": "source_rewrites::rewrite_files",
+    "source_rewrites::rewrite_bytes": "source_rewrites::plan_rewrites",
+    "source_tools::encode": "source_tools::rename_bytes",
+    "source_tools::view_bytes": "source_tools::show",
+    "source_tools::view_file": "source_tools::show",
+    "source_tools::write_changes": "source_tools::rename_files",
     "syntax_tree::Element::syntax_element": "syntax_tree::SyntaxNode::syntax_element",
     "syntax_tree::elements::node": "syntax_tree::SyntaxToken::detached",
     "tree_rewrite::Change::into_tree_change": "syntax_editor::SyntaxEditor::rewritten",
@@ -76,7 +81,7 @@ USE = re.compile(r"^use (?:crate|super)(?:::(\w+))?::(?:\{([^}]*)\}|(\w+));", re
 TYPE = re.compile(r"^pub (?:struct|enum|trait|type) (\w+)", re.M)
 # The variant, or the field's type, by which an error tells that memory was refused.
 ERROR = re.compile(r"^pub (?:enum|struct) (\w+)[^{;]*\{([^}]*)\}", re.M)
-SAYS_MEMORY = re.compile(r"\b(?:NoMemory|Memory|error: \w+Error)\b|\(\w+Error\)")
+SAYS_MEMORY = re.compile(r"\b(?:NoMemory|Memory|error: \w+Error|fault: \w+Fault)\b|\(\w+(?:Error|Failure)\)")
 ITEM = re.compile(r"^(?:(impl\b|pub trait )([^{]*)|( *)(pub )?fn (\w+)([^{;]*))", re.M)
 RESULT = re.compile(r"-> Result<.*?, ((?:\w+::)?\w+)(?:<[^<>]*>)?>\s*(?:requires|ensures|where|$)", re.S)
 ROW = re.compile(r'^ +\(?\s*"((?:\w+::)[^"]*)",', re.M)
@@ -188,14 +193,18 @@ def calls(root):
     return set().union(*(Calls(crate, errors).found for crate in crates))
 
 
+def named_in(row):
+    """Returns the calls that a row names: `a::b, c::d over files` or `a::B::{c, d}`."""
+    front, brace, group = row.partition("{")
+    if brace:
+        return [f"{front}{call}" for call in names_in(group.rstrip("}"))]
+    return [call.split()[0] for call in row.split(", ")]
+
+
 def table(root):
-    """Returns the names that the rows of the table have. A row may have several: `a::B::{c, d}`."""
-    named = set()
-    for path in glob.glob(f"{root}/crates/{TABLES}/src/*.rt"):
-        for name in ROW.findall(ledger.read(path).decode()):
-            front, _, group = name.partition("{")
-            named.update(f"{front}{call}" for call in names_in(group.rstrip("}")) or [""])
-    return named
+    """Returns the names that the rows of the tables have."""
+    paths = [path for crate in TABLES for path in glob.glob(f"{root}/crates/{crate}/src/*.rt")]
+    return {call for path in paths for row in ROW.findall(ledger.read(path).decode()) for call in named_in(row)}
 
 
 def differences(root):

@@ -111,16 +111,23 @@ ROWS = """pub(crate) const ROWS: &[Row<Call>] = &[
 """
 
 
+HIGH_ROWS = """pub(crate) const ROWS: &[Row<Call>] = &[
+    ("low::open::read over files, low::made", Call::Read, ""),
+];
+"""
+
+
 class Listed(unittest.TestCase):
     def setUp(self):
         room = tempfile.TemporaryDirectory(prefix="gate-test-")
         self.addCleanup(room.cleanup)
         self.top = room.name
-        write(f"{self.top}/crates.txt", "# The product.\nlow: memchr\n\n# Its program, and more.\ntool: low\n")
+        write(f"{self.top}/crates.txt", "# The product.\nlow: memchr\n\n# Patterns, which no program uses yet\ntool: low\n")
         for name, text in (("lib", HEAD), ("inner", INNER), ("open", OPEN), ("kept", KEPT), ("tests", TESTS), ("tests/more", TESTS)):
             write(f"{self.top}/crates/low/src/{name}.rt", text)
         write(f"{self.top}/crates/tool/src/lib.rt", INNER)
         write(f"{self.top}/crates/memory_suite/src/low.rt", ROWS)
+        write(f"{self.top}/crates/command_suite/src/high.rt", HIGH_ROWS)
 
     def differences(self, made_by):
         with mock.patch.object(allocating_calls, "MADE_BY", made_by):
@@ -130,10 +137,10 @@ class Listed(unittest.TestCase):
         self.assertEqual(allocating_calls.calls(self.top), FOUND)
 
     def test_rows_are_read(self):
-        self.assertEqual(allocating_calls.table(self.top), {"low::made", "low::Node::grow", "low::Node::shrink"})
+        self.assertEqual(allocating_calls.table(self.top), {"low::made", "low::Node::grow", "low::Node::shrink", "low::open::read"})
 
     def test_lacking_and_unknown_calls_are_told(self):
-        self.assertEqual(self.differences({}), ["low::&Node::clone", "low::Sink::step", "low::open::read", "low::Node::shrink"])
+        self.assertEqual(self.differences({}), ["low::&Node::clone", "low::Sink::step", "low::Node::shrink"])
 
     def test_steps_of_other_calls_are_not_lacking(self):
         made_by = {"low::&Node::clone": "low::made", "low::Sink::step": "low::made", "low::open::read": "low::gone"}

@@ -10,7 +10,13 @@ import ledger
 from repository import TOP
 
 # Each program, and how a run of it ends that met a refusal.
-PROGRAMS = {"memory_suite": "calls", "document_memory_suite": "calls", "command_suite": "calls", "document_tool": "fault"}
+PROGRAMS = {
+    "memory_suite": "calls",
+    "document_memory_suite": "calls",
+    "file_memory_suite": "calls",
+    "command_suite": "calls",
+    "document_tool": "fault",
+}
 
 
 def inputs(root, name):

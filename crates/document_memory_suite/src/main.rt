@@ -12,6 +12,7 @@ mod documents;
 mod grammars;
 mod requests;
 mod sources;
+mod tools;
 
 use memory_table::row::{Tally, try_all};
 
@@ -22,6 +23,7 @@ fn main(rt: HostRuntime) -> anyhow::Result<()> {
     try_all(alloc, grammars::ROWS, &mut tally)?;
     try_all(alloc, requests::ROWS, &mut tally)?;
     try_all(alloc, sources::ROWS, &mut tally)?;
+    try_all(alloc, tools::ROWS, &mut tally)?;
     if tally.refused != 0 {
         println!(rt; "{} out of memory: {}", tally.refused, tally.last_refused)?;
     }

@@ -4,8 +4,8 @@ use document_requests::apply::apply;
 use document_requests::run::run;
 use document_requests::serve::{Outcome, serve_as, serve_bytes};
 use document_requests::{
-    Change, Command, CommitRule, Entry, Format, Op, Refusal, Reply, Target, Watched, answer_by,
-    commands_of, first_difference, serve_lines,
+    Change, Command, CommitRule, Dialogue, Entry, Fault, Format, Op, Refusal, Reply, Target,
+    Watched, answer_by, commands_of, first_difference, serve_lines,
 };
 use memory_table::row::{Ask, Row};
 use parser_input::{Edition, SyntaxKind};
@@ -171,8 +171,8 @@ fn commands_read(alloc: Global) -> anyhow::Result<String> {
 fn lines_answered(alloc: Global) -> anyhow::Result<String> {
     let lines = format!(in alloc; "{REQUEST}\n{WHOLE}\n")?;
     let mut output = Vec::with_capacity(alloc, 512)?;
-    let mut writer = Watched::new(&mut output);
-    serve_lines(alloc, lines.as_bytes(), &mut writer)?;
+    let mut client = Dialogue::new(lines.as_bytes(), &mut output);
+    serve_lines(alloc, &mut client).map_err(Fault::from)?;
     match str::from_utf8(&output) {
         Ok(text) => Ok(format!(in alloc; "{text}")?),
         Err(_) => bail!("no text"),
@@ -275,7 +275,7 @@ pub(crate) const ROWS: &[Row<RequestCall>] = &[
         "Some(STRUCT) None",
     ),
     (
-        "document_requests::serve_lines",
+        "document_requests::Dialogue::answer, line_reader::serve_lines",
         RequestCall::ServeLines,
         LINES,
     ),

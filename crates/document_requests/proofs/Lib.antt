@@ -10,4 +10,4 @@ pub mod Named
 pub mod Numbers
 pub mod Rows
 pub mod Ranges
-pub mod ServeLemmas
+pub mod DialogueLemmas

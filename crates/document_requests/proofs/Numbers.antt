@@ -1,5 +1,5 @@
 -- Commands take tree numbers and give none back.
-use Rattle.std.proofs.Common.{◌≡◌, ◌≤◌, ◌<◌, ℕ, suc, ◌+◌, ◌^◌, ◌==◌, zero, Bool, true, false, List, [], ◌∷◌, length, map, drop, slice_index_or, refl, sym, ap, ◌∙◌, arith, Option, Some, None, if◌then◌else◌}
+use Rattle.std.proofs.Common.{◌≡◌, ◌≤◌, ◌<◌, ℕ, suc, ◌+◌, ◌^◌, ◌==◌, zero, Bool, true, false, List, [], ◌∷◌, length, map, drop, slice_index_or, refl, sym, ap, subst, ◌∙◌, arith, Option, Some, None, if◌then◌else◌}
 use Rattle.std.specs.Prelude.{nat_lt}
 use Rattle.syntax_editor.specs.Editing.{Editing, untouched}
 use Rattle.syntax_editor.specs.Recording as records
@@ -13,9 +13,12 @@ use Rattle.rust_document.specs.Step as step
 use Rattle.rust_document.specs.Step.{State, Verdict, MAX_TEXT, root_element, verdict}
 use Rattle.document_requests.specs.Applied.{TakesSome}
 use Rattle.document_requests.specs.Asked.{change as change_in}
+use Rattle.document_requests.specs.Reasons.{number_after_reasons}
 use Rattle.document_requests.specs.Request as asked
 use Rattle.document_requests.specs.Request.{Change, Command, Put, Delete}
+use Rattle.document_requests.specs.Rules.{accepted_clean, clean_answer_to, clean_committed, clean_settled, have_no_messages}
 use Rattle.document_requests.specs.Session.{Session, Answer, Taken, Given, Withheld, Prepared, Ready, Stopped, number_after_taking, number_after_preparing, numbered_payload, payload_entry, if_any, part_of, taken_of, recorded, inserted_at, put_element, put_taken, put_at, deleted_at, found, taken, prepared_by, and_then, prepared, accepted, answer_to, settled, committed, read_anew, edited_by, answer}
+use Rattle.document_requests.specs.declared.reply.Refusal.{Refusal}
 use Rattle.document_requests.specs.declared.reply.Refusal.TheVariants as refusals
 use Rattle.document_requests.specs.declared.request.Change.{Change as ChangeCode}
 use Rattle.document_requests.specs.declared.request.Entry.{Entry}
@@ -181,3 +184,56 @@ answer-counts (asked.Edit start stop text) s = edited-counts start stop text s
 answer-counts (asked.Commit changes) s = committed-counts changes s
 answer-counts asked.Tree s = omega arith
 answer-counts asked.Errors s = omega arith
+
+-- ---- where a commit is to leave no messages
+
+clean-accepted-counts : (s : Session) (e : Editing) → s.next ≤ (accepted_clean s e).after.next
+clean-accepted-counts s e = either (have_no_messages s.document e) s.next _ _ (accepted-counts s e) (omega arith)
+
+clean-verdict-counts : (v : Verdict) (s : Session) (e : Editing) → s.next ≤ (clean_answer_to v s e).after.next
+clean-verdict-counts step.Foreign s e = omega arith
+clean-verdict-counts step.Intersecting s e = omega arith
+clean-verdict-counts step.MissingMapping s e = omega arith
+clean-verdict-counts step.TooLong s e = omega arith
+clean-verdict-counts step.Unfaithful s e = omega arith
+clean-verdict-counts step.Accepted s e = clean-accepted-counts s e
+
+pub clean-settled-counts : (d : State) (p : Prepared) → number_after_preparing p ≤ (clean_settled d p).after.next
+clean-settled-counts d (Ready e next) = clean-verdict-counts (verdict d e) (record { document = d; next = next }) e
+clean-settled-counts d (Stopped refusal next) = omega arith
+
+pub clean-committed-counts : (cs : List Change) (s : Session) → s.next ≤ (clean_committed cs s).after.next
+clean-committed-counts cs s =
+    let before = all-count cs s.document (untouched (root_element s.document)) s.next in
+    let after = clean-settled-counts s.document (prepared cs s.document (untouched (root_element s.document)) s.next) in
+    omega (arith, before, after)
+
+pub clean-ready-counts :
+    (cs : List Change) (s : Session) (top e : Editing) (next : ℕ)
+    → top ≡ untouched (root_element s.document) → prepared cs s.document top s.next ≡ Ready e next
+    → TakesSome s.next next (clean_committed cs s).after.next
+clean-ready-counts cs s top e next own ready =
+    let all = prepared cs s.document (untouched (root_element s.document)) s.next in
+    let is : number_after_preparing all ≡ next = ap (λ (x : Editing). number_after_preparing (prepared cs s.document x s.next)) (sym own) ∙ ap number_after_preparing ready in
+    let before = all-count cs s.document (untouched (root_element s.document)) s.next in
+    let after = clean-settled-counts s.document all in
+    (omega (arith, before, is), omega (arith, after, is))
+
+-- the changes take numbers and give none back
+pub reasons-counts : (cs : List Change) (d : State) (next : ℕ) → next ≤ number_after_reasons cs d next
+reasons-counts cs d next = all-count cs d (untouched (root_element d)) next
+
+pub reasons-ready : (cs : List Change) (d : State) (top e : Editing) (next after : ℕ) → top ≡ untouched (root_element d) → prepared cs d top next ≡ Ready e after → after ≡ number_after_reasons cs d next
+reasons-ready cs d top e next after own ready = sym (ap (λ (x : Editing). number_after_preparing (prepared cs d x next)) (sym own) ∙ ap number_after_preparing ready)
+
+pub reasons-stopped : (cs : List Change) (d : State) (top : Editing) (next after : ℕ) (refusal : Refusal) → top ≡ untouched (root_element d) → prepared cs d top next ≡ Stopped refusal after → after ≡ number_after_reasons cs d next
+reasons-stopped cs d top next after refusal own stopped = sym (ap (λ (x : Editing). number_after_preparing (prepared cs d x next)) (sym own) ∙ ap number_after_preparing stopped)
+
+pub reasons-some : (cs : List Change) (d : State) (top : Editing) (next after : ℕ) → top ≡ untouched (root_element d) → TakesSome next after (number_after_preparing (prepared cs d top next)) → TakesSome next after (number_after_reasons cs d next)
+reasons-some cs d top next after own took = subst (λ (x : Editing). TakesSome next after (number_after_preparing (prepared cs d x next))) own took
+
+pub reasons-all : (cs : List Change) (d : State) (next after : ℕ) → after ≡ number_after_reasons cs d next → TakesSome next after (number_after_reasons cs d next)
+reasons-all cs d next after is = (let counts = reasons-counts cs d next in (omega (arith, counts, is), omega (arith, is)))
+
+pub reasons-none : (cs : List Change) (d : State) (next : ℕ) → TakesSome next next (number_after_reasons cs d next)
+reasons-none cs d next = (omega arith, reasons-counts cs d next)

@@ -13,6 +13,7 @@ pub mod Applied
 pub mod Output
 pub mod Outcome
 pub mod LineAnswers
-pub mod Serving
+pub mod Dialogues
+pub mod Faults
 pub mod Rules
 pub mod Reasons

@@ -2,7 +2,6 @@
 use Rattle.std.specs.Prelude.{◌≡◌, ℕ, ◌&&◌, List, ◌++◌, length, nat_lt, Option, Some, None, codes, if◌then◌else◌}
 use Rattle.std.specs.Str.{is_utf8}
 use Rattle.serde_json.specs.Data.{Data}
-use Rattle.serde_json.specs.Find.{get}
 use Rattle.serde_json.specs.Read.{read}
 use Rattle.serde_json.specs.Written.{has_float}
 use Rattle.document_requests.specs.Floats.{writes_float}
@@ -10,7 +9,7 @@ use Rattle.parser_input.specs.declared.edition.Edition.{Edition}
 use Rattle.ra_parser.specs.declared.grammar.Grammar.{Grammar}
 use Rattle.rust_document.specs.Step.{MAX_TEXT}
 use Rattle.document_requests.specs.Reply.{Reply, Refused, line, lines}
-use Rattle.document_requests.specs.Request.{Request, request_of}
+use Rattle.document_requests.specs.Request.{Request, request_of, text_in}
 use Rattle.document_requests.specs.Session.{Session, Run, run}
 use Rattle.document_requests.specs.declared.reply.Refusal.{Refusal}
 use Rattle.document_requests.specs.declared.reply.Refusal.TheVariants as refusals
@@ -66,9 +65,9 @@ ran_as format bytes = if is_utf8 bytes then of_value_if_any format bytes (read b
 abbrev pub ran : List ℕ → Ran
 ran bytes = ran_as Single bytes
 
--- These bytes are no JSON, or have no member with a grammar.
-abbrev pub NamesNoGrammar : List ℕ → Type 0
-NamesNoGrammar bytes = (d : Data) → read bytes ≡ Some d → get (codes "grammar") d ≡ None
+-- These bytes are no JSON, or name the profile in a member.
+abbrev pub NamesProfile : List ℕ → Type 0
+NamesProfile bytes = (d : Data) → read bytes ≡ Some d → text_in (codes "grammar") d ≡ Some (codes "profile")
 
 -- what is written for these bytes
 abbrev pub replies : List ℕ → Output

@@ -6,7 +6,7 @@ use Rattle.rust_document.specs.Step as step
 use Rattle.rust_document.specs.Step.{State, Verdict, root_element, verdict}
 use Rattle.syntax_editor.specs.Editing.{Editing, untouched}
 use Rattle.document_requests.specs.Request.{Change}
-use Rattle.document_requests.specs.Session.{Prepared, Ready, Stopped, prepared}
+use Rattle.document_requests.specs.Session.{Prepared, Ready, Stopped, number_after_preparing, prepared}
 
 -- the first difference of an unfaithful rewrite; any other verdict is no reason
 abbrev pub difference_by : Verdict → State → Editing → Option Told
@@ -27,3 +27,7 @@ difference_after d (Stopped refusal next) = None
 -- the first difference between the rewritten tree of a commit's changes and the reading of its text, if the commit is unfaithful
 abbrev pub first_difference : List Change → State → ℕ → Option Told
 first_difference changes d next = difference_after d (prepared changes d (untouched (root_element d)) next)
+
+-- the number that the next tree gets once a commit's changes are recorded, up to the first that is refused
+abbrev pub number_after_reasons : List Change → State → ℕ → ℕ
+number_after_reasons changes d next = number_after_preparing (prepared changes d (untouched (root_element d)) next)

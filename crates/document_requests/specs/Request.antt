@@ -6,7 +6,7 @@ use Rattle.serde_json.specs.Find.{get, as_str, as_array, as_number, as_u64}
 use Rattle.parser_input.specs.Edition.{edition_named}
 use Rattle.parser_input.specs.declared.edition.Edition.{Edition}
 use Rattle.ra_parser.specs.declared.grammar.Grammar.{Grammar}
-use Rattle.ra_parser.specs.declared.grammar.Grammar.TheVariants.{Profile}
+use Rattle.ra_parser.specs.declared.grammar.Grammar.TheVariants.{Profile, Whole}
 use Rattle.document_requests.specs.declared.request.Format.{Format}
 use Rattle.document_requests.specs.declared.request.Format.TheVariants.{Single, Line}
 use Rattle.document_requests.specs.declared.request.Op.{Op}
@@ -98,12 +98,12 @@ command_named grammar word d =
 abbrev pub command_by : Grammar → Data → Option Command
 command_by grammar d = option_and_then (λ word. command_named grammar word d) (text_in (codes "do") d)
 
--- the grammar that the value of a member names; without the member it is the profile
+-- the grammar that the value of a member names; without the member it is that of the whole language
 abbrev pub grammar_in : Option Data → Option Grammar
-grammar_in None = Some Profile
+grammar_in None = Some Whole
 grammar_in (Some d) = option_and_then grammar_named (as_str d)
 
--- the grammar that a request is read by: one on a line names it, in a member of its own
+-- the grammar that a request is read by: one on a line may name it, in a member of its own
 abbrev pub grammar_of : Format → Data → Option Grammar
 grammar_of Single d = Some Profile
 grammar_of Line d = grammar_in (get (codes "grammar") d)

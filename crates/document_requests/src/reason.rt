@@ -1,8 +1,9 @@
 //! Why a commit is unfaithful.
-ghost use Rattle.std.specs.Prelude.{◌≡◌, map, option_map, IfOk};
+ghost use Rattle.std.specs.Prelude.{◌≡◌, map, option_map, IfOk, OnErr, OnOk};
 ghost use Rattle.rust_document.specs.Difference.{told_of};
+ghost use Rattle.document_requests.specs.Applied.{TakesSome};
 ghost use Rattle.document_requests.specs.Asked.{change as change_in};
-ghost use Rattle.document_requests.specs.Reasons.{difference_between, first_difference};
+ghost use Rattle.document_requests.specs.Reasons.{difference_between, first_difference, number_after_reasons};
 
 use crate::apply::prepare_all;
 use crate::request::Change;
@@ -35,19 +36,23 @@ fn difference_of(
 
 /// Returns where the tree of a commit first differs from the reading of its text, whitespace and
 /// comments aside: `Some` exactly if the commit of these changes is refused as `Unfaithful`. The range
-/// is one of the new text. Payloads take tree numbers of `ids`.
+/// is one of the new text. Payloads take the tree numbers of `ids` that they take in a commit.
 ///
 /// # Errors
 ///
-/// [`AllocError`] if an allocation fails.
+/// [`AllocError`] if an allocation fails. Then some of these numbers may be used up.
 pub fn first_difference(
     alloc: Global,
     document: &Document,
     changes: &[Change<'_>],
     ids: &mut TreeIds,
 ) -> Result<Option<Difference>, AllocError>
-    ensures { IfOk result (λ found. option_map told_of found
+    ensures found { IfOk result (λ found. option_map told_of found
         ≡ first_difference (map change_in changes.now) document.now ids.old) }
+    ensures taken { OnOk result (ids.new
+        ≡ number_after_reasons (map change_in changes.now) document.now ids.old) }
+    ensures numbers { OnErr result (TakesSome ids.old ids.new
+        (number_after_reasons (map change_in changes.now) document.now ids.old)) }
 {
     let mut editor = document.editor(alloc)?;
     match prepare_all(alloc, document, &mut editor, changes, ids) {

@@ -10,7 +10,7 @@ pub enum Format {
     /// as any other that it does not have.
     Single,
     /// A request on a line of its own. Its member `grammar` names the grammar; without it the grammar
-    /// is the profile.
+    /// is that of the whole language.
     Line,
 }
 

@@ -1,7 +1,7 @@
 //! Commands under a rule for commits.
 ghost use Rattle.std.specs.Prelude.{◌≡◌, map, IfErr, IfOk, OnErr};
 ghost use Rattle.document_requests.specs.Answered.{reply as answered};
-ghost use Rattle.document_requests.specs.Applied.{session, IsStopped};
+ghost use Rattle.document_requests.specs.Applied.{session, IsStopped, TakesSome};
 ghost use Rattle.document_requests.specs.Asked.{change as change_in, command as command_in};
 ghost use Rattle.document_requests.specs.Rules.{answer_by, clean_answer, clean_committed};
 
@@ -35,6 +35,8 @@ fn commit_clean(
     ensures stopped { IfErr result (IsStopped
         (clean_committed (map change_in changes.now) (session document.old ids.old))
         (session document.new ids.new)) }
+    ensures numbers { OnErr result (TakesSome ids.old ids.new
+        (clean_committed (map change_in changes.now) (session document.old ids.old)).after.next) }
     ensures kept { OnErr result (document.new ≡ document.old) }
 {
     let mut editor = document.editor(alloc)?;
@@ -56,6 +58,8 @@ fn answer_commit(
     ensures done { IfOk result (λ reply.
         clean_committed (map change_in changes.now) (session document.old ids.old)
         ≡ record { reply = answered reply; after = session document.new ids.new }) }
+    ensures numbers { OnErr result (TakesSome ids.old ids.new
+        (clean_committed (map change_in changes.now) (session document.old ids.old)).after.next) }
     ensures kept { OnErr result (document.new ≡ document.old) }
 {
     match commit_clean(alloc, document, changes, ids) {
@@ -75,6 +79,8 @@ fn answer_clean(
     ensures done { IfOk result (λ reply.
         clean_answer (command_in command.now) (session document.old ids.old)
         ≡ record { reply = answered reply; after = session document.new ids.new }) }
+    ensures numbers { OnErr result (TakesSome ids.old ids.new
+        (clean_answer (command_in command.now) (session document.old ids.old)).after.next) }
     ensures kept { OnErr result (document.new ≡ document.old) }
 {
     match command {
@@ -93,8 +99,8 @@ fn answer_clean(
 ///
 /// # Errors
 ///
-/// [`AllocError`] if an allocation fails. Then `document` is unchanged, and some tree numbers may be
-/// used up.
+/// [`AllocError`] if an allocation fails. Then `document` is unchanged, and of the tree numbers that
+/// the command takes some may be used up.
 pub fn answer_by(
     alloc: Global,
     rule: CommitRule,
@@ -105,6 +111,8 @@ pub fn answer_by(
     ensures done { IfOk result (λ reply.
         answer_by rule (command_in command.now) (session document.old ids.old)
         ≡ record { reply = answered reply; after = session document.new ids.new }) }
+    ensures numbers { OnErr result (TakesSome ids.old ids.new
+        (answer_by rule (command_in command.now) (session document.old ids.old)).after.next) }
     ensures kept { OnErr result (document.new ≡ document.old) }
 {
     match rule {

@@ -2,7 +2,7 @@
 ghost use Rattle.std.specs.Prelude.{◌≡◌, map, option_map, IfOk};
 ghost use Rattle.document_requests.specs.Asked.{request as request_asked};
 ghost use Rattle.document_requests.specs.Outcome.{output, ran_of};
-ghost use Rattle.document_requests.specs.Output.{NamesNoGrammar, of_value, ran, ran_as, replies, served};
+ghost use Rattle.document_requests.specs.Output.{NamesProfile, of_value, ran, ran_as, replies, served};
 ghost use Rattle.serde_json.specs.View.{view};
 
 use crate::apply::apply;
@@ -68,15 +68,15 @@ fn serve_value(
     }
 }
 
-/// Runs the request of a format that is in these bytes, if there is one. Without a member `grammar` the
-/// format makes no difference.
+/// Runs the request of a format that is in these bytes, if there is one. For a request that names the
+/// profile the format makes no difference.
 ///
 /// # Errors
 ///
 /// [`AllocError`] if an allocation fails.
 pub fn serve_as(alloc: Global, format: Format, bytes: &[u8]) -> Result<Outcome, AllocError>
     ensures ran { IfOk result (λ outcome. ran_of outcome ≡ ran_as format bytes.now) }
-    ensures alike { IfOk result (λ outcome. NamesNoGrammar bytes.now
+    ensures alike { IfOk result (λ outcome. NamesProfile bytes.now
         → ran_of outcome ≡ ran bytes.now) }
 {
     let Ok(text) = str::from_utf8(bytes) else {

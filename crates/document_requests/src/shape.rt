@@ -231,12 +231,13 @@ pub fn commands_of(
     }
 }
 
-/// Returns the grammar that the value of a member names; the profile if there is no member.
+/// Returns the grammar that the value of a member names; that of the whole language if there is no
+/// member.
 fn grammar_in(member: Option<&Value>) -> Option<Grammar>
     ensures { result ≡ grammar_in (option_map (λ value. view value.now) member.entry) }
 {
     match member {
-        None => Some(Grammar::Profile),
+        None => Some(Grammar::Whole),
         Some(value) => grammar_named(value.as_str()?),
     }
 }

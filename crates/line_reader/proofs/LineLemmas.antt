@@ -1,171 +1,135 @@
 -- Lemmas on lines.
-use Rattle.std.proofs.Common.{suc, append_assoc, length-append, Option, None, Some, IfSome, if◌then◌else◌, ◌≡◌, ◌≢◌, ◌<◌, ◌≤◌, ◌+◌, ◌-◌, ℕ, Bool, true, false, List, [], ◌∷◌, ◌++◌, All, length, get_or, take, drop, refl, ap, sym, add-one, ◌∙◌, arith, inl, inr, length-drop, drop-cons}
-use Rattle.std.proofs.lemmas.Bool.{cases_lt, ne_eqb}
-use Rattle.std.proofs.lemmas.List.{drop-drop, drop_all, take-append-drop, append-nil}
-use Rattle.std.proofs.lemmas.List.Elements.{All-head, All-tail, All-nil, All-append}
-use Rattle.line_reader.specs.Lines.{line_feed, lines, onto_first}
-use Rattle.std.proofs.KnownBytes.{Consumes-nil, Consumes-trans, Consumes-kept}
-use Rattle.std.specs.Io.KnownBytes.{Consumes, IsAtEnd, Keeps, prepend_known}
-use Rattle.line_reader.specs.Parts.{Extends, IsFront, TakesPart, feed_if}
-use Rattle.line_reader.specs.Reading.{TakesLine}
-use Rattle.line_reader.specs.declared.reader.LineRead.TheVariants.{End, Whole, TooLong}
+use Rattle.std.proofs.Common.{◌≡◌, ◌≢◌, ◌==◌, ◌<◌, ◌≤◌, ◌+◌, ℕ, zero, suc, Bool, true, false, List, [], ◌∷◌, ◌++◌, All, refl, ap, sym, ◌∙◌, arith, inl, inr, append_assoc}
+use Rattle.std.proofs.lemmas.Bool.{cases_Bool, ne_eqb}
+use Rattle.std.proofs.lemmas.List.{append-nil}
+use Rattle.std.proofs.lemmas.List.Elements.{All-head, All-tail, All-nil, All-cons}
+use Rattle.line_reader.specs.Lines.{line_feed, IsPlain, lines, whole_lines, open_part, onto_first, onto_whole, onto_open}
 
-pub lines-nil : lines [] ≡ []
+lines-nil : lines [] ≡ []
 unfolding lines
 lines-nil = refl
 
-pub lines-feed : (bs : List ℕ) → lines (line_feed ∷ bs) ≡ [] ∷ lines bs
+lines-feed : (b : ℕ) (bs : List ℕ) → (b == line_feed) ≡ true → lines (b ∷ bs) ≡ [] ∷ lines bs
 unfolding lines
-lines-feed bs = refl
+lines-feed b bs q = rw (q, lines) refl
 
-pub lines-other : (b : ℕ) (bs : List ℕ) → b ≢ line_feed → lines (b ∷ bs) ≡ onto_first b (lines bs)
+lines-other : (b : ℕ) (bs : List ℕ) → (b == line_feed) ≡ false → lines (b ∷ bs) ≡ onto_first b (lines bs)
 unfolding lines
-lines-other b bs h = rw (ne_eqb b line_feed h, lines) refl
+lines-other b bs q = rw (q, lines) refl
 
--- a line that ends at a line feed
-pub lines-ended : (line rest : List ℕ) → All (λ byte. byte ≢ line_feed) line → lines (line ++ (line_feed ∷ rest)) ≡ line ∷ lines rest
-lines-ended [] rest h = lines-feed rest
-lines-ended (b ∷ bs) rest h =
-    lines-other b (bs ++ (line_feed ∷ rest)) (All-head (λ byte. byte ≢ line_feed) b bs h)
-    ∙ ap (onto_first b) (lines-ended bs rest (All-tail (λ byte. byte ≢ line_feed) b bs h))
+pub whole-nil : whole_lines [] ≡ []
+unfolding whole_lines
+whole-nil = refl
 
--- the last line
-pub lines-last : (line : List ℕ) → All (λ byte. byte ≢ line_feed) line → 0 < length line → lines line ≡ line ∷ []
-lines-last [] h some = absurd (omega arith)
-lines-last (b ∷ []) h some = lines-other b [] (All-head (λ byte. byte ≢ line_feed) b [] h) ∙ ap (onto_first b) lines-nil
-lines-last (b ∷ c ∷ bs) h some =
-    lines-other b (c ∷ bs) (All-head (λ byte. byte ≢ line_feed) b (c ∷ bs) h)
-    ∙ ap (onto_first b) (lines-last (c ∷ bs) (All-tail (λ byte. byte ≢ line_feed) b (c ∷ bs) h) (omega arith))
+whole-feed : (b : ℕ) (bs : List ℕ) → (b == line_feed) ≡ true → whole_lines (b ∷ bs) ≡ [] ∷ whole_lines bs
+unfolding whole_lines
+whole-feed b bs q = rw (q, whole_lines) refl
 
--- what is left of the bytes behind `at` once `n` of them are taken
-pub left : (chunk : List ℕ) (at n : ℕ) → n ≤ length (drop at chunk) → drop (length chunk - (length (drop at chunk) - n)) chunk ≡ drop n (drop at chunk)
-left chunk at n h =
-    let size = length-drop at chunk in
-    elim (cases_lt (length chunk) at) [
-      | inl past ↦
-          let none : drop at chunk ≡ [] = drop_all at chunk (omega arith) in
-          let all : drop (length chunk - (length (drop at chunk) - n)) chunk ≡ [] = drop_all _ chunk (omega arith) in
-          all ∙ sym (drop_all n (drop at chunk) (omega arith))
-      | inr within ↦
-          let same : length chunk - (length (drop at chunk) - n) ≡ at + n = omega arith in
-          ap (λ m. drop m chunk) same ∙ sym (drop-drop n at chunk)
-    ]
+whole-other : (b : ℕ) (bs : List ℕ) → (b == line_feed) ≡ false → whole_lines (b ∷ bs) ≡ onto_whole b (whole_lines bs)
+unfolding whole_lines
+whole-other b bs q = rw (q, whole_lines) refl
 
-pub part-ended :
-    (limit at n : ℕ) (chunk rest kept kept' : List ℕ) (is_long is_long' is_ended : Bool) → rest ≡ drop at chunk → is_ended ≡ true → n < length rest → get_or rest n 0 ≡ line_feed →
-    All (λ byte. byte ≢ line_feed) (take n rest) → Extends limit kept is_long (take n rest) kept' is_long' →
-    TakesPart limit kept is_long kept' is_long' (drop at chunk) is_ended (drop (length chunk - (length rest - n) + 1) chunk)
-part-ended limit at n chunk rest kept kept' is_long is_long' is_ended is ended h feed plain ext =
-    let more : length chunk - (length rest - n) + 1 ≡ length chunk - (length rest - (n + 1)) = (let size = length-drop at chunk in let same = ap length is in omega arith) in
-    let tail : drop (length chunk - (length rest - n) + 1) chunk ≡ drop (n + 1) rest =
-    ap (λ m. drop m chunk) more ∙ ap (λ (r : List ℕ). drop (length chunk - (length r - (n + 1))) chunk) is ∙ left chunk at (n + 1) (let same = ap length is in omega arith) ∙ ap (drop (n + 1)) (sym is) in
-    let here : drop n rest ≡ line_feed ∷ drop (n + 1) rest = rw add-one (drop-cons rest n 0 h ∙ ap (λ b. b ∷ drop (suc n) rest) feed) in
-    record {
-      part = take n rest;
-      plain = plain;
-      cut = rw (ended, tail) (sym is ∙ sym (take-append-drop n rest) ∙ ap (λ r. take n rest ++ r) here);
-      all = λ e. absurd (cc);
-      extended = ext;
-    }
+pub open-nil : open_part [] ≡ []
+unfolding open_part
+open-nil = refl
 
-pub part-open :
-    (limit at n : ℕ) (chunk rest kept kept' : List ℕ) (is_long is_long' is_ended : Bool) → rest ≡ drop at chunk → is_ended ≡ false → n ≤ length rest → length rest ≤ n →
-    All (λ byte. byte ≢ line_feed) (take n rest) → Extends limit kept is_long (take n rest) kept' is_long' →
-    TakesPart limit kept is_long kept' is_long' (drop at chunk) is_ended (drop (length chunk - (length rest - n)) chunk)
-part-open limit at n chunk rest kept kept' is_long is_long' is_ended is not_ended h k plain ext =
-    let tail : drop (length chunk - (length rest - n)) chunk ≡ drop n rest =
-    ap (λ (r : List ℕ). drop (length chunk - (length r - n)) chunk) is ∙ left chunk at n (let same = ap length is in omega arith) ∙ ap (drop n) (sym is) in
-    let none : drop n rest ≡ [] = drop_all n rest k in
-    record {
-      part = take n rest;
-      plain = plain;
-      cut = rw (not_ended, tail) (sym is ∙ sym (take-append-drop n rest));
-      all = λ _. tail ∙ none;
-      extended = ext;
-    }
+open-feed : (b : ℕ) (bs : List ℕ) → (b == line_feed) ≡ true → open_part (b ∷ bs) ≡ open_part bs
+unfolding open_part
+open-feed b bs q = rw (q, open_part) refl
 
--- a front of the line was read, which is not empty once a part was taken
-pub record IsRead (limit : ℕ) (input left : Option (List ℕ)) (kept : List ℕ) (is_long is_begun : Bool) : Type 0 where
-  pub front : List ℕ
-  pub plain : All (λ byte. byte ≢ line_feed) front
-  pub consumed : Consumes input left front
-  pub kept_front : IsFront limit front kept is_long
-  pub begun : is_begun ≡ true → 0 < length front
-  pub not_begun : is_begun ≡ false → front ≡ []
+open-other : (b : ℕ) (bs : List ℕ) → (b == line_feed) ≡ false → open_part (b ∷ bs) ≡ onto_open b (whole_lines bs) (open_part bs)
+unfolding open_part
+open-other b bs q = rw (q, open_part) refl
 
--- a part of what is unread was taken
-part-consumed : (known : Option (List ℕ)) (unread part rest : List ℕ) → unread ≡ part ++ rest → Consumes (prepend_known unread known) (prepend_known rest known) part
-part-consumed None unread part rest cut = tt
-part-consumed (Some xs) unread part rest cut = ap (λ bs. bs ++ xs) cut ∙ append_assoc part rest xs
+-- what is cut at the last line feed
+pub record IsCut (a c : List ℕ) : Type 0 where
+  pub lines : lines (a ++ c) ≡ whole_lines a ++ lines (open_part a ++ c)
+  pub whole : whole_lines (a ++ c) ≡ whole_lines a ++ whole_lines (open_part a ++ c)
+  pub rest : open_part (a ++ c) ≡ open_part (open_part a ++ c)
 
-pub read-none : (limit : ℕ) (input : Option (List ℕ)) (kept : List ℕ) → kept ≡ [] → IsRead limit input input kept false false
-read-none limit input kept none = record {
-  front = [];
-  plain = All-nil (λ byte. byte ≢ line_feed);
-  consumed = Consumes-nil input;
-  kept_front = (none, omega arith);
-  begun = λ e. absurd (cc);
-  not_begun = λ _. refl;
+cut-nil : (c : List ℕ) → IsCut [] c
+cut-nil c = record { lines = rw (whole-nil, open-nil) refl; whole = rw (whole-nil, open-nil) refl; rest = rw open-nil refl }
+
+cut-feed : (b : ℕ) (a c : List ℕ) → (b == line_feed) ≡ true → IsCut a c → IsCut (b ∷ a) c
+cut-feed b a c q h = record {
+  lines = rw (whole-feed b a q, open-feed b a q) (lines-feed b (a ++ c) q ∙ ap (λ ls. [] ∷ ls) h.lines);
+  whole = rw (whole-feed b a q, open-feed b a q) (whole-feed b (a ++ c) q ∙ ap (λ ls. [] ∷ ls) h.whole);
+  rest = rw (open-feed b a q) (open-feed b (a ++ c) q ∙ h.rest);
 }
 
-pub read-more :
-    (limit : ℕ) (input left known : Option (List ℕ)) (kept kept' unread unread' : List ℕ) (is_long is_long' is_begun is_ended : Bool) →
-    IsRead limit input left kept is_long is_begun → Keeps left (prepend_known unread known) → 0 < length unread →
-    TakesPart limit kept is_long kept' is_long' unread is_ended unread' → is_ended ≡ false →
-    IsRead limit input (prepend_known unread' known) kept' is_long' true
-read-more limit input left known kept kept' unread unread' is_long is_long' is_begun is_ended r keeps some t not_ended =
-    let cut : unread ≡ t.part ++ unread' = t.cut ∙ ap (λ b. t.part ++ (feed_if b ++ unread')) not_ended in
-    let whole : unread ≡ t.part = cut ∙ ap (λ r. t.part ++ r) (t.all not_ended) ∙ append-nil t.part in
+-- no line is whole
+cut-open : (b : ℕ) (a c : List ℕ) (ls : List (List ℕ)) (o : List ℕ) → (b == line_feed) ≡ false → IsCut a c → whole_lines a ≡ ls → open_part a ≡ o → IsCut (b ∷ a) c
+cut-open b a c [] o q h w p =
+    let is-whole : whole_lines (b ∷ a) ≡ [] = whole-other b a q ∙ ap (onto_whole b) w in
+    let is-open : open_part (b ∷ a) ≡ b ∷ o = open-other b a q ∙ ap (λ ls. onto_open b ls (open_part a)) w ∙ ap (λ r. b ∷ r) p in
+    let all : lines (a ++ c) ≡ lines (o ++ c) = h.lines ∙ ap (λ ls. ls ++ lines (open_part a ++ c)) w ∙ ap (λ r. lines (r ++ c)) p in
+    let wholes : whole_lines (a ++ c) ≡ whole_lines (o ++ c) = h.whole ∙ ap (λ ls. ls ++ whole_lines (open_part a ++ c)) w ∙ ap (λ r. whole_lines (r ++ c)) p in
+    let rests : open_part (a ++ c) ≡ open_part (o ++ c) = h.rest ∙ ap (λ r. open_part (r ++ c)) p in
     record {
-      front = r.front ++ t.part;
-      plain = All-append (λ byte. byte ≢ line_feed) r.front t.part r.plain t.plain;
-      consumed = Consumes-trans input (prepend_known unread known) _ r.front t.part (Consumes-kept input left _ r.front r.consumed keeps) (part-consumed known unread t.part unread' cut);
-      kept_front = t.extended r.front r.kept_front;
-      begun = λ _. (let long = ap length whole in omega (arith, long, length-append r.front t.part));
-      not_begun = λ e. absurd (cc);
+      lines = rw (is-whole, is-open) (lines-other b (a ++ c) q ∙ ap (onto_first b) all ∙ sym (lines-other b (o ++ c) q));
+      whole = rw (is-whole, is-open) (whole-other b (a ++ c) q ∙ ap (onto_whole b) wholes ∙ sym (whole-other b (o ++ c) q));
+      rest = rw is-open (open-other b (a ++ c) q ∙ ap (λ ls. onto_open b ls (open_part (a ++ c))) wholes ∙ ap (onto_open b (whole_lines (o ++ c))) rests ∙ sym (open-other b (o ++ c) q));
+    }
+cut-open b a c (l ∷ ls) o q h w p =
+    let is-whole : whole_lines (b ∷ a) ≡ (b ∷ l) ∷ ls = whole-other b a q ∙ ap (onto_whole b) w in
+    let is-open : open_part (b ∷ a) ≡ open_part a = open-other b a q ∙ ap (λ ls. onto_open b ls (open_part a)) w in
+    let all : lines (a ++ c) ≡ (l ∷ ls) ++ lines (open_part a ++ c) = h.lines ∙ ap (λ ls. ls ++ lines (open_part a ++ c)) w in
+    let wholes : whole_lines (a ++ c) ≡ (l ∷ ls) ++ whole_lines (open_part a ++ c) = h.whole ∙ ap (λ ls. ls ++ whole_lines (open_part a ++ c)) w in
+    record {
+      lines = rw (is-whole, is-open) (lines-other b (a ++ c) q ∙ ap (onto_first b) all);
+      whole = rw (is-whole, is-open) (whole-other b (a ++ c) q ∙ ap (onto_whole b) wholes);
+      rest = rw is-open (open-other b (a ++ c) q ∙ ap (λ ls. onto_open b ls (open_part (a ++ c))) wholes ∙ h.rest);
     }
 
--- the result for a line that was read
-told : (limit : ℕ) (front kept : List ℕ) (is_long : Bool) (known : Option (List ℕ)) (input rest : List ℕ) → IsFront limit front kept is_long →
-    lines input ≡ front ∷ lines rest → known ≡ Some rest → TakesLine limit input known (if is_long then TooLong else Whole) kept
-told limit front kept true known input rest f is here = (front, rest, is, here, f)
-told limit front kept false known input rest f is here = (front, rest, is, here, (f.1, f.0))
+pub cut : (a c : List ℕ) → IsCut a c
+cut [] c = cut-nil c
+cut (b ∷ a) c = elim (cases_Bool (b == line_feed)) [
+  | inl feed ↦ cut-feed b a c feed (cut a c)
+  | inr other ↦ cut-open b a c _ _ other (cut a c) refl refl
+]
 
-pub read-ended :
-    (limit : ℕ) (input left known : Option (List ℕ)) (kept kept' unread unread' : List ℕ) (is_long is_long' is_begun is_ended : Bool) →
-    IsRead limit input left kept is_long is_begun → Keeps left (prepend_known unread known) →
-    TakesPart limit kept is_long kept' is_long' unread is_ended unread' → is_ended ≡ true →
-    IfSome input (λ bytes. TakesLine limit bytes (prepend_known unread' known) (if is_long' then TooLong else Whole) kept')
-read-ended limit None left known kept kept' unread unread' is_long is_long' is_begun is_ended r keeps t ended = tt
-read-ended limit (Some bytes) None known kept kept' unread unread' is_long is_long' is_begun is_ended r keeps t ended = absurd r.consumed
-read-ended limit (Some bytes) (Some ys) None kept kept' unread unread' is_long is_long' is_begun is_ended r keeps t ended = absurd keeps
-read-ended limit (Some bytes) (Some ys) (Some xs) kept kept' unread unread' is_long is_long' is_begun is_ended r keeps t ended =
-    let line : List ℕ = r.front ++ t.part in
-    let plain : All (λ byte. byte ≢ line_feed) line = All-append (λ byte. byte ≢ line_feed) r.front t.part r.plain t.plain in
-    let cut : unread ≡ t.part ++ (line_feed ∷ unread') = t.cut ∙ ap (λ b. t.part ++ (feed_if b ++ unread')) ended in
-    let all : bytes ≡ line ++ (line_feed ∷ (unread' ++ xs)) =
-    r.consumed ∙ ap (λ l. r.front ++ l) (sym keeps ∙ ap (λ l. l ++ xs) cut ∙ append_assoc t.part (line_feed ∷ unread') xs) ∙ sym (append_assoc r.front t.part (line_feed ∷ (unread' ++ xs))) in
-    told limit line kept' is_long' _ bytes (unread' ++ xs) (t.extended r.front r.kept_front) (ap lines all ∙ lines-ended line (unread' ++ xs) plain) refl
+pub whole-plain : (a : List ℕ) → IsPlain a → whole_lines a ≡ []
+whole-plain [] h = whole-nil
+whole-plain (b ∷ a) h = whole-other b a (ne_eqb b line_feed (All-head (λ byte. byte ≢ line_feed) b a h)) ∙ ap (onto_whole b) (whole-plain a (All-tail (λ byte. byte ≢ line_feed) b a h))
 
-at-end : (input left known : Option (List ℕ)) (front : List ℕ) → Consumes input left front → Keeps left known → IsAtEnd known → IfSome input (λ bytes. (bytes ≡ front) × (known ≡ Some []))
-at-end None left known front c k e = tt
-at-end (Some bytes) None known front c k e = absurd c
-at-end (Some bytes) (Some ys) None front c k e = absurd k
-at-end (Some bytes) (Some ys) (Some zs) front c k e = (c ∙ ap (λ l. front ++ l) (sym k ∙ e) ∙ append-nil front, ap Some e)
+pub open-plain : (a : List ℕ) → IsPlain a → open_part a ≡ a
+open-plain [] h = open-nil
+open-plain (b ∷ a) h =
+    let rest = All-tail (λ byte. byte ≢ line_feed) b a h in
+    open-other b a (ne_eqb b line_feed (All-head (λ byte. byte ≢ line_feed) b a h)) ∙ ap (λ ls. onto_open b ls (open_part a)) (whole-plain a rest) ∙ ap (λ r. b ∷ r) (open-plain a rest)
 
-pub read-last :
-    (limit : ℕ) (input left known : Option (List ℕ)) (kept : List ℕ) (is_long is_begun : Bool) →
-    IsRead limit input left kept is_long is_begun → Keeps left known → IsAtEnd known → is_begun ≡ true →
-    IfSome input (λ bytes. TakesLine limit bytes known (if is_long then TooLong else Whole) kept)
-read-last limit None left known kept is_long is_begun r keeps end begun = tt
-read-last limit (Some bytes) left known kept is_long is_begun r keeps end begun =
-    let e = at-end (Some bytes) left known r.front r.consumed keeps end in
-    told limit r.front kept is_long known bytes [] r.kept_front (ap lines e.0 ∙ lines-last r.front r.plain (r.begun begun) ∙ ap (λ ls. r.front ∷ ls) (sym lines-nil)) e.1
+plain-open : (b : ℕ) (ls : List (List ℕ)) (o : List ℕ) → b ≢ line_feed → IsPlain o → IsPlain (onto_open b ls o)
+plain-open b [] o h p = All-cons (λ byte. byte ≢ line_feed) b o h p
+plain-open b (l ∷ ls) o h p = p
 
-pub read-end :
-    (limit : ℕ) (input left known : Option (List ℕ)) (kept : List ℕ) (is_long is_begun : Bool) →
-    IsRead limit input left kept is_long is_begun → Keeps left known → IsAtEnd known → is_begun ≡ false →
-    IfSome input (λ bytes. TakesLine limit bytes known End kept)
-read-end limit None left known kept is_long is_begun r keeps end begun = tt
-read-end limit (Some bytes) left known kept is_long is_begun r keeps end begun =
-    let e = at-end (Some bytes) left known r.front r.consumed keeps end in e.0 ∙ r.not_begun begun
+pub open-is-plain : (a : List ℕ) → IsPlain (open_part a)
+open-is-plain [] = rw open-nil (All-nil (λ byte. byte ≢ line_feed))
+open-is-plain (b ∷ a) = elim (cases_Bool (b == line_feed)) [
+  | inl feed ↦ rw (open-feed b a feed) (open-is-plain a)
+  | inr other ↦ rw (open-other b a other) (plain-open b (whole_lines a) (open_part a) (λ same. absurd (let feed = ap (λ x. x == line_feed) same in cc)) (open-is-plain a))
+]
+
+-- a line that ends at a line feed
+pub whole-ended : (line rest : List ℕ) → IsPlain line → whole_lines (line ++ (line_feed ∷ rest)) ≡ line ∷ whole_lines rest
+whole-ended [] rest h = whole-feed line_feed rest refl
+whole-ended (b ∷ bs) rest h =
+    whole-other b (bs ++ (line_feed ∷ rest)) (ne_eqb b line_feed (All-head (λ byte. byte ≢ line_feed) b bs h))
+    ∙ ap (onto_whole b) (whole-ended bs rest (All-tail (λ byte. byte ≢ line_feed) b bs h))
+
+pub open-ended : (line rest : List ℕ) → IsPlain line → open_part (line ++ (line_feed ∷ rest)) ≡ open_part rest
+open-ended [] rest h = open-feed line_feed rest refl
+open-ended (b ∷ bs) rest h =
+    let tail = All-tail (λ byte. byte ≢ line_feed) b bs h in
+    open-other b (bs ++ (line_feed ∷ rest)) (ne_eqb b line_feed (All-head (λ byte. byte ≢ line_feed) b bs h))
+    ∙ ap (λ ls. onto_open b ls (open_part (bs ++ (line_feed ∷ rest)))) (whole-ended bs rest tail) ∙ open-ended bs rest tail
+
+-- the last line
+pub lines-last : (line : List ℕ) → IsPlain line → (line ≡ [] → ⊥) → lines line ≡ line ∷ []
+lines-last [] h some = absurd (some refl)
+lines-last (b ∷ []) h some = lines-other b [] (ne_eqb b line_feed (All-head (λ byte. byte ≢ line_feed) b [] h)) ∙ ap (onto_first b) lines-nil
+lines-last (b ∷ c ∷ bs) h some =
+    lines-other b (c ∷ bs) (ne_eqb b line_feed (All-head (λ byte. byte ≢ line_feed) b (c ∷ bs) h))
+    ∙ ap (onto_first b) (lines-last (c ∷ bs) (All-tail (λ byte. byte ≢ line_feed) b (c ∷ bs) h) (λ none. absurd (cc)))
+
+pub lines-none : (line : List ℕ) → line ≡ [] → lines line ≡ []
+lines-none line none = ap lines none ∙ lines-nil

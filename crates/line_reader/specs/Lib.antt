@@ -1,3 +1,3 @@
 pub mod Lines
-pub mod Reading
 pub mod Parts
+pub mod Clients

@@ -1,9 +1,13 @@
-//! Lines of an input, each of them bounded.
+//! Lines of a client, each of them bounded and each answered.
 //!
-//! A [`LineReader`] reads lines from any reader. A line past a limit is skipped, and its bytes are
+//! [`serve_lines`] reads lines from a [`Client`] and writes an answer to each. It reads only when each
+//! whole line that the client has sent is answered. A line past a limit is skipped, and its bytes are
 //! not kept.
 #![tactic(auto)]
 
-mod reader;
+mod client;
+mod line;
+mod serve;
 
-pub use reader::{LineRead, LineReader};
+pub use client::Client;
+pub use serve::{Stop, serve_lines};

@@ -1,6 +1,6 @@
 -- What a renaming makes of a document.
 use Rattle.std.specs.Prelude.{◌≡◌, ℕ, List, false, true}
-use Rattle.rust_source.specs.Identifiers.{State, has_identifier, present, renamed_text}
+use Rattle.rust_source.specs.Identifiers.{IsRenamed as IsReadAsRenamed, State, has_identifier, present, renamed_text}
 use Rattle.rename_tool.specs.declared.Renaming.{Renaming}
 use Rattle.rename_tool.specs.declared.Renaming.TheVariants.{Done, NameIsTaken}
 
@@ -10,6 +10,7 @@ pub record IsRenamed (old new : List ℕ) (before after : State) : Type 0 where
   pub edition : after.edition ≡ before.edition
   pub grammar : after.grammar ≡ before.grammar
   pub text : after.text ≡ renamed_text old new (present before)
+  pub is_read : IsReadAsRenamed before old new
 
 -- The new name was one already, and nothing is replaced.
 pub record IsTaken (new : List ℕ) (before after : State) : Type 0 where

@@ -1,9 +1,9 @@
 //! Renames identifiers, unless the new name is an identifier of the text already.
 #![tactic(auto)]
 
-ghost use Rattle.std.specs.Prelude.{◌≡◌, ◌≤◌, length, IfErr, IfOk};
+ghost use Rattle.std.specs.Prelude.{◌≡◌, ◌≤◌, false, length, IfErr, IfOk};
 ghost use Rattle.rename_tool.specs.Answers.{Answers};
-ghost use Rattle.rust_source.specs.Identifiers.{IsPlain, LacksRoom, MAX_TEXT, present, renamed_text};
+ghost use Rattle.rust_source.specs.Identifiers.{IsPlain, LacksRoom, MAX_TEXT, RefusesRename, has_identifier, present, renamed_text};
 
 use rust_source::{RenameError, Source};
 
@@ -25,6 +25,8 @@ pub enum Renaming {
 pub fn rename(source: &mut Source, old: &str, new: &str) -> Result<Renaming, RenameError>
     ensures answers { IfOk result
         (Answers old.now new.now source.old.document source.new.document) }
+    ensures refused { IfErr result (λ error. (has_identifier new.now source.old.document ≡ false)
+        × RefusesRename source.old.document old.now new.now source.old.next error) }
     ensures plain { IfErr result (λ error. IsPlain source.old.document old.now new.now
         → length (renamed_text old.now new.now (present source.old.document)) ≤ MAX_TEXT
         → LacksRoom source.old.next new.now error) }

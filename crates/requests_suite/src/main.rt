@@ -7,7 +7,7 @@
 #![tactic(auto)]
 
 use document_requests::run::run;
-use document_requests::{Watched, serve_lines};
+use document_requests::{Dialogue, Fault, Watched, serve_lines};
 use serde_json::Value;
 use std::alloc::Global;
 use std::io;
@@ -18,8 +18,8 @@ mod tests;
 /// Returns `true` if the requests on `lines` are answered by `expected`.
 fn are_answered(alloc: Global, lines: &str, expected: Option<&str>) -> anyhow::Result<bool> {
     let mut output = Vec::new(alloc);
-    let mut writer = Watched::new(&mut output);
-    serve_lines(alloc, lines.as_bytes(), &mut writer)?;
+    let mut client = Dialogue::new(lines.as_bytes(), &mut output);
+    serve_lines(alloc, &mut client).map_err(Fault::from)?;
     Ok(expected.is_some_and(|text| text.as_bytes() == output.as_slice()))
 }
 

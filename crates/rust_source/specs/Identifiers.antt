@@ -5,6 +5,7 @@ use Rattle.std.specs.Str.{bytes_eq}
 use Rattle.parser_input.specs.Kinds.{IDENT}
 pub use Rattle.renamer.specs.Plain.{IsPlain, LacksRoom}
 pub use Rattle.renamer.specs.Renamed.{renamed_text}
+pub use Rattle.renamer.specs.Verdict.{IsRenamed, RefusesRename}
 pub use Rattle.rust_document.specs.Step.{MAX_TEXT, State, present}
 use Rattle.rust_document.specs.Tokens.{Span, tokens_of}
 

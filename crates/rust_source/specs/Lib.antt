@@ -7,3 +7,4 @@ pub mod Elements
 pub mod Changes
 pub mod ChangedRanges
 pub mod RangedErrors
+pub mod Errors

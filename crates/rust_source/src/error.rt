@@ -4,61 +4,247 @@ use rust_document::{
     CommitError, EditError, MakeError, MergeError, OpenError, PayloadError, RecordError,
     WhitespaceError, WithoutMessagesError,
 };
-use std::alloc::AllocError;
+use std::alloc::{AllocError, AllocFailed};
+use std::error::Error;
+use std::fmt;
 use syntax_tree::PositionError;
-use thiserror::Error;
 
 /// The error of the calls of [`Source`](crate::Source) that read a text as one node.
-#[derive(Clone, Copy, Debug, PartialEq, Eq, Error)]
+#[derive(Clone, Copy, Debug, PartialEq, Eq)]
 pub enum NodeError {
     /// The text is no payload.
-    #[error(transparent)]
     Payload(PayloadError),
     /// The text has no such node, or more than one.
-    #[error("not one node")]
     NotOneNode,
 }
 
+impl fmt::Display for NodeError {
+    ghost use Rattle.std.specs.Prelude.{Some};
+    ghost use Rattle.rust_source.specs.Errors.{node_message};
+
+    ghost output = { λ e. Some (node_message e) };
+
+    fn fmt<W: fmt::Write>(&self, f: &mut fmt::Formatter<W>) -> fmt::Result {
+        match self {
+            NodeError::Payload(error) => write!(f, "{error}"),
+            NodeError::NotOneNode => write!(f, "not one node"),
+        }
+    }
+}
+
+impl Error for NodeError {}
+
 /// Any error of a call that a tool makes.
-#[derive(Clone, Copy, Debug, PartialEq, Eq, Error)]
+#[derive(Clone, Copy, Debug, PartialEq, Eq)]
 pub enum SourceError {
     /// A text is not opened.
-    #[error(transparent)]
-    Open(#[from] OpenError),
+    Open(OpenError),
     /// A text is not edited.
-    #[error(transparent)]
-    Edit(#[from] EditError),
+    Edit(EditError),
     /// A text is no payload.
-    #[error(transparent)]
-    Payload(#[from] PayloadError),
+    Payload(PayloadError),
     /// A text is not one node.
-    #[error(transparent)]
-    Node(#[from] NodeError),
+    Node(NodeError),
     /// There is no position beside an element.
-    #[error(transparent)]
-    Position(#[from] PositionError),
+    Position(PositionError),
     /// An element is not made.
-    #[error(transparent)]
-    Make(#[from] MakeError),
+    Make(MakeError),
     /// A change is not recorded.
-    #[error(transparent)]
-    Record(#[from] RecordError),
+    Record(RecordError),
     /// A change is not recorded with its whitespace.
-    #[error(transparent)]
-    Whitespace(#[from] WhitespaceError),
+    Whitespace(WhitespaceError),
     /// Two editors are not merged.
-    #[error(transparent)]
-    Merge(#[from] MergeError),
+    Merge(MergeError),
     /// A commit fails.
-    #[error(transparent)]
-    Commit(#[from] CommitError),
+    Commit(CommitError),
     /// A commit of texts without messages fails.
-    #[error(transparent)]
-    WithoutMessages(#[from] WithoutMessagesError),
+    WithoutMessages(WithoutMessagesError),
     /// Identifiers are not renamed.
-    #[error(transparent)]
-    Rename(#[from] RenameError),
+    Rename(RenameError),
     /// An allocation fails.
-    #[error("out of memory")]
-    Memory(#[from(alloc)] AllocError),
+    Memory(AllocError),
+}
+
+impl fmt::Display for SourceError {
+    ghost use Rattle.std.specs.Prelude.{Some};
+    ghost use Rattle.rust_source.specs.Errors.{source_message};
+
+    ghost output = { λ e. Some (source_message e) };
+
+    fn fmt<W: fmt::Write>(&self, f: &mut fmt::Formatter<W>) -> fmt::Result {
+        match self {
+            SourceError::Open(error) => write!(f, "{error}"),
+            SourceError::Edit(error) => write!(f, "{error}"),
+            SourceError::Payload(error) => write!(f, "{error}"),
+            SourceError::Node(error) => write!(f, "{error}"),
+            SourceError::Position(error) => write!(f, "{error}"),
+            SourceError::Make(error) => write!(f, "{error}"),
+            SourceError::Record(error) => write!(f, "{error}"),
+            SourceError::Whitespace(error) => write!(f, "{error}"),
+            SourceError::Merge(error) => write!(f, "{error}"),
+            SourceError::Commit(error) => write!(f, "{error}"),
+            SourceError::WithoutMessages(error) => write!(f, "{error}"),
+            SourceError::Rename(RenameError::NoToken(error)) => write!(f, "{error}"),
+            SourceError::Rename(RenameError::NotRecorded(error)) => write!(f, "{error}"),
+            SourceError::Rename(RenameError::Refused(error)) => write!(f, "{error}"),
+            SourceError::Rename(RenameError::NoMemory) => write!(f, "out of memory"),
+            SourceError::Memory(_) => write!(f, "out of memory"),
+        }
+    }
+}
+
+impl Error for SourceError {}
+
+impl From<OpenError> for SourceError {
+    ghost use Rattle.rust_source.specs.declared.error.SourceError.TheVariants.{Open};
+    ghost use Rattle.std.specs.Prelude.{◌≡◌};
+
+    ghost from_gives = { λ x e. e ≡ Open x };
+
+    fn from(error: OpenError) -> SourceError {
+        SourceError::Open(error)
+    }
+}
+
+impl From<EditError> for SourceError {
+    ghost use Rattle.rust_source.specs.declared.error.SourceError.TheVariants.{Edit};
+    ghost use Rattle.std.specs.Prelude.{◌≡◌};
+
+    ghost from_gives = { λ x e. e ≡ Edit x };
+
+    fn from(error: EditError) -> SourceError {
+        SourceError::Edit(error)
+    }
+}
+
+impl From<PayloadError> for SourceError {
+    ghost use Rattle.rust_source.specs.declared.error.SourceError.TheVariants.{Payload};
+    ghost use Rattle.std.specs.Prelude.{◌≡◌};
+
+    ghost from_gives = { λ x e. e ≡ Payload x };
+
+    fn from(error: PayloadError) -> SourceError {
+        SourceError::Payload(error)
+    }
+}
+
+impl From<NodeError> for SourceError {
+    ghost use Rattle.rust_source.specs.declared.error.SourceError.TheVariants.{Node};
+    ghost use Rattle.std.specs.Prelude.{◌≡◌};
+
+    ghost from_gives = { λ x e. e ≡ Node x };
+
+    fn from(error: NodeError) -> SourceError {
+        SourceError::Node(error)
+    }
+}
+
+impl From<PositionError> for SourceError {
+    ghost use Rattle.rust_source.specs.declared.error.SourceError.TheVariants.{Position};
+    ghost use Rattle.std.specs.Prelude.{◌≡◌};
+
+    ghost from_gives = { λ x e. e ≡ Position x };
+
+    fn from(error: PositionError) -> SourceError {
+        SourceError::Position(error)
+    }
+}
+
+impl From<MakeError> for SourceError {
+    ghost use Rattle.rust_source.specs.declared.error.SourceError.TheVariants.{Make};
+    ghost use Rattle.std.specs.Prelude.{◌≡◌};
+
+    ghost from_gives = { λ x e. e ≡ Make x };
+
+    fn from(error: MakeError) -> SourceError {
+        SourceError::Make(error)
+    }
+}
+
+impl From<RecordError> for SourceError {
+    ghost use Rattle.rust_source.specs.declared.error.SourceError.TheVariants.{Record};
+    ghost use Rattle.std.specs.Prelude.{◌≡◌};
+
+    ghost from_gives = { λ x e. e ≡ Record x };
+
+    fn from(error: RecordError) -> SourceError {
+        SourceError::Record(error)
+    }
+}
+
+impl From<WhitespaceError> for SourceError {
+    ghost use Rattle.rust_source.specs.declared.error.SourceError.TheVariants.{Whitespace};
+    ghost use Rattle.std.specs.Prelude.{◌≡◌};
+
+    ghost from_gives = { λ x e. e ≡ Whitespace x };
+
+    fn from(error: WhitespaceError) -> SourceError {
+        SourceError::Whitespace(error)
+    }
+}
+
+impl From<MergeError> for SourceError {
+    ghost use Rattle.rust_source.specs.declared.error.SourceError.TheVariants.{Merge};
+    ghost use Rattle.std.specs.Prelude.{◌≡◌};
+
+    ghost from_gives = { λ x e. e ≡ Merge x };
+
+    fn from(error: MergeError) -> SourceError {
+        SourceError::Merge(error)
+    }
+}
+
+impl From<CommitError> for SourceError {
+    ghost use Rattle.rust_source.specs.declared.error.SourceError.TheVariants.{Commit};
+    ghost use Rattle.std.specs.Prelude.{◌≡◌};
+
+    ghost from_gives = { λ x e. e ≡ Commit x };
+
+    fn from(error: CommitError) -> SourceError {
+        SourceError::Commit(error)
+    }
+}
+
+impl From<WithoutMessagesError> for SourceError {
+    ghost use Rattle.rust_source.specs.declared.error.SourceError.TheVariants.{WithoutMessages};
+    ghost use Rattle.std.specs.Prelude.{◌≡◌};
+
+    ghost from_gives = { λ x e. e ≡ WithoutMessages x };
+
+    fn from(error: WithoutMessagesError) -> SourceError {
+        SourceError::WithoutMessages(error)
+    }
+}
+
+impl From<RenameError> for SourceError {
+    ghost use Rattle.rust_source.specs.declared.error.SourceError.TheVariants.{Rename};
+    ghost use Rattle.std.specs.Prelude.{◌≡◌};
+
+    ghost from_gives = { λ x e. e ≡ Rename x };
+
+    fn from(error: RenameError) -> SourceError {
+        SourceError::Rename(error)
+    }
+}
+
+impl From<AllocError> for SourceError {
+    ghost use Rattle.rust_source.specs.declared.error.SourceError.TheVariants.{Memory};
+    ghost use Rattle.std.specs.Prelude.{◌≡◌};
+
+    ghost from_gives = { λ x e. e ≡ Memory x };
+
+    fn from(error: AllocError) -> SourceError {
+        SourceError::Memory(error)
+    }
+}
+
+impl<T: Drop> From<AllocFailed<T>> for SourceError {
+    ghost use Rattle.rust_source.specs.declared.error.SourceError.TheVariants.{Memory};
+    ghost use Rattle.std.specs.Prelude.{◌≡◌, alloc_error};
+
+    ghost from_gives = { λ _ e. e ≡ Memory alloc_error };
+
+    fn from(_refused: AllocFailed<T>) -> SourceError {
+        SourceError::Memory(AllocError)
+    }
 }

@@ -5,9 +5,10 @@ ghost use Rattle.parser_input.specs.Kind.{raw_of};
 ghost use Rattle.rowan_green.specs.Forest.{tree_text};
 ghost use Rattle.renamer.specs.Plain.{IsPlain, LacksRoom};
 ghost use Rattle.renamer.specs.Renamed.{renamed_text};
+ghost use Rattle.renamer.specs.Verdict.{IsRenamed, RefusesRename, number_after};
 ghost use Rattle.syntax_editor.specs.Editing.{untouched};
 ghost use Rattle.syntax_tree.specs.Handle.{element_of};
-ghost use Rattle.ra_parser.specs.declared.grammar.Grammar.TheVariants.{Profile};
+ghost use Rattle.ra_parser.specs.declared.grammar.Grammar.TheVariants.{Whole};
 ghost use Rattle.rust_document.specs.Commit.{RefusesCommit};
 ghost use Rattle.rust_document.specs.CommitWithoutMessages.{HaveNoMessages, RefusesRoom, RefusesWithoutMessages};
 ghost use Rattle.rust_document.specs.Committed.{annotated_ends, ends_of};
@@ -68,12 +69,12 @@ impl Model for Source {
 }
 
 impl Source {
-    /// Reads `text` by the profile, as [`Source::open_by`] does.
+    /// Reads `text` by the grammar of the whole language, as [`Source::open_by`] does.
     pub fn open(alloc: Global, edition: Edition, text: &str) -> Result<Source, OpenError>
         ensures opened { IfOk result (λ s. s ≡
             record {
               alloc = alloc;
-              document = record { edition = edition; grammar = Profile; text = text.now; number = 1 };
+              document = record { edition = edition; grammar = Whole; text = text.now; number = 1 };
               next = 2;
             }) }
         ensures is_read { OnOk result (IsOpened text.now) }
@@ -82,7 +83,7 @@ impl Source {
         ensures core { IfOk result (λ s. IsReadAsCore s.document) }
         ensures refused { IfErr result (RefusesOpen text.now 1) }
     {
-        Source::open_by(alloc, edition, Grammar::Profile, text)
+        Source::open_by(alloc, edition, Grammar::Whole, text)
     }
 
     /// Reads `text` as `grammar` says. Its tree has the number 1. The source keeps the grammar: later
@@ -402,24 +403,29 @@ impl Source {
     }
 
     /// Renames the identifiers `old` to `new`, all at once, in macro calls too. Nothing else in the
-    /// text changes. If both names are plain and no identifier `old` is the prefix of a literal, only
-    /// memory, tree numbers and the length of the new text can refuse it.
+    /// text changes, and the new text reads as the renamed tree. If both names are plain and no
+    /// identifier `old` is the prefix of a literal, only memory, tree numbers and the length of the new
+    /// text can refuse it.
     ///
     /// # Errors
     ///
-    /// - [`RenameError::NoToken`] if `new` is not one token.
-    /// - [`RenameError::Refused`] if the new text does not read as the renamed tree, is too long, or no
-    ///   tree number is left.
-    /// - each of these, [`RenameError::NotRecorded`] and [`RenameError::NoMemory`] if an allocation fails.
+    /// - [`RenameError::NoToken`] if `new` is not one token, or no tree number is left for it.
+    /// - [`RenameError::Refused`] if the new text is too long or does not read as the renamed tree, or no
+    ///   tree number is left for it.
+    /// - [`RenameError::NoMemory`], or a variant with such an error, if an allocation fails.
     ///
-    /// On error, the document is unchanged; a tree number may be used up.
+    /// On error, the document is unchanged, and one tree number is used up, or none if `new` is refused.
     pub fn rename(&mut self, old: &str, new: &str) -> Result<(), RenameError>
         ensures text { OnOk result (self.new.document.text
             ≡ renamed_text old.now new.now (present self.old.document)) }
+        ensures renamed { OnOk result (IsRenamed self.old.document old.now new.now) }
         ensures edition { OnOk result (self.new.document.edition ≡ self.old.document.edition) }
         ensures grammar { OnOk result (self.new.document.grammar ≡ self.old.document.grammar) }
         ensures tree { OnOk result (self.new.document.number ≡ self.old.next + 1) }
         ensures number { OnOk result (self.new.next ≡ self.old.next + 2) }
+        ensures refused { IfErr result
+            (RefusesRename self.old.document old.now new.now self.old.next) }
+        ensures spent { IfErr result (λ error. self.new.next ≡ number_after error self.old.next) }
         ensures plain { IfErr result (λ error. IsPlain self.old.document old.now new.now
             → length (renamed_text old.now new.now (present self.old.document)) ≤ MAX_TEXT
             → LacksRoom self.old.next new.now error) }

@@ -39,13 +39,20 @@ const ROWS: &[Row] = &[
         Some(Extraction::NoArgument),
         "const A: u8 = g(1 + 2);",
     ),
-    // A label is not read: the text has messages.
     (
         "fn f() {\n    'a: while g(1 + 2) {}\n}",
         0,
         "v",
+        Some(Extraction::Done),
+        "fn f() {\n    let v = 1 + 2;\n    'a: while g(v) {}\n}",
+    ),
+    // The text has messages.
+    (
+        "fn f() {\n    while g(1 + 2) { 1 + }\n}",
+        0,
+        "v",
         None,
-        "fn f() {\n    'a: while g(1 + 2) {}\n}",
+        "fn f() {\n    while g(1 + 2) { 1 + }\n}",
     ),
 ];
 

@@ -17,7 +17,13 @@ const ROWS: &[(&str, &str, Option<usize>)] = &[
     ),
     (
         "pub async fn f() -> u8 { 1 }\npub fn g() -> u8 { 1 }\n",
-        "pub async fn f() -> u8 { 1 }\npub fn g() -> u8 { 1 }\n",
+        "#[must_use]\npub async fn f() -> u8 { 1 }\n#[must_use]\npub fn g() -> u8 { 1 }\n",
+        Some(2),
+    ),
+    // The text has messages.
+    (
+        "pub fn f() -> u8 { 1 + }\npub fn g() -> u8 { 1 }\n",
+        "pub fn f() -> u8 { 1 + }\npub fn g() -> u8 { 1 }\n",
         None,
     ),
 ];

@@ -48,12 +48,12 @@ Answers requests on standard input, one a line, each with a line of JSON, in ord
     {\"status\":0,\"replies\":[..],\"text\":\"..\"}
 
 A line of at most 67,108,864 bytes, its line feed not counted, is answered as the request program \
-answers these bytes: one that is no request with status 1, its refusal and no text. A longer line is \
+answers a request: one that is no request with status 1, its refusal and no text. A longer line is \
 answered so too, with the refusal `TooLong`, whatever is in it. Then the next line is read. A text \
 that is longer than this in JSON, by its escapes, can be sent to the request program alone.
 
-A line with the member `\"grammar\": \"whole\"` is read by the whole language; one with `\"profile\"`, or \
-without the member, is read by the profile, as by the request program, which ignores the member.
+A line is read by the whole language, or with the member `\"grammar\": \"profile\"` by the profile, as by \
+the request program, which ignores the member.
 
 The exit status is 0 at the end of the input, or 2 if reading, writing or memory fails.";
 

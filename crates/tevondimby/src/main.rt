@@ -16,6 +16,7 @@ mod report;
 mod rewrite;
 mod run;
 mod search;
+mod serve;
 mod source_list;
 mod survey;
 mod view;

@@ -6,12 +6,12 @@ use crate::output::is_closed;
 use crate::rename::rename;
 use crate::rewrite::rewrite;
 use crate::search::search;
+use crate::serve::serve;
 use crate::source_list::{SourceList, source_list};
 use crate::view::view;
 use anyhow::{Context, Result};
 use clap::ArgMatches;
 use command_report::Outcome;
-use document_requests::{Watched, serve_lines};
 use source_tools::{Format, Source, View};
 use std::alloc::AllocError;
 use std::env;
@@ -40,18 +40,6 @@ fn format_of(matches: &ArgMatches<'_>) -> Format {
         Format::Json
     } else {
         Format::Text
-    }
-}
-
-/// Answers the requests on standard input, one a line.
-fn serve(rt: &HostRuntime) -> Result<Outcome> {
-    let mut writer = Watched::new(rt.stdout());
-    match serve_lines(rt.alloc(), rt.stdin(), &mut writer) {
-        Ok(()) => Ok(Outcome::Done),
-        Err(fault) => {
-            let _ = eprintln!(rt; "tevondimby: {fault}");
-            Ok(Outcome::Fault)
-        }
     }
 }
 

@@ -19,7 +19,7 @@ pub record Bounds (old new : List Line) (i j p q : ℕ) : Type 0 where
   pub old_end : p ≤ length old
   pub new_end : q ≤ length new
 
-run-bounds : (old new : List Line) (i j : ℕ) (cs : List Change) (p q : ℕ) → IsRun old new i j cs p q → Bounds old new i j p q
+pub run-bounds : (old new : List Line) (i j : ℕ) (cs : List Change) (p q : ℕ) → IsRun old new i j cs p q → Bounds old new i j p q
 run-bounds old new i j [] p q r = record { old_order = r.old_order; new_order = r.new_order; old_end = r.old_end; new_end = r.new_end }
 run-bounds old new i j (c ∷ cs) p q r =
     let b = run-bounds old new c.old_end c.new_end cs p q r.2 in

@@ -4,3 +4,6 @@ pub mod PatchLemmas
 pub mod GroupLemmas
 pub mod TextLemmas
 pub mod HunkLemmas
+pub mod PlainLines
+pub mod ReadLemmas
+pub mod DiffLemmas

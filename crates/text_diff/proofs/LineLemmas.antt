@@ -8,11 +8,11 @@ pub lines-nil : lines [] ≡ []
 unfolding lines
 lines-nil = refl
 
-lines-feed : (b : ℕ) (bs : List ℕ) → (b == line_feed) ≡ true → lines (b ∷ bs) ≡ (b ∷ []) ∷ lines bs
+pub lines-feed : (b : ℕ) (bs : List ℕ) → (b == line_feed) ≡ true → lines (b ∷ bs) ≡ (b ∷ []) ∷ lines bs
 unfolding lines
 lines-feed b bs q = rw (q, lines) refl
 
-lines-other : (b : ℕ) (bs : List ℕ) → (b == line_feed) ≡ false → lines (b ∷ bs) ≡ onto_first b (lines bs)
+pub lines-other : (b : ℕ) (bs : List ℕ) → (b == line_feed) ≡ false → lines (b ∷ bs) ≡ onto_first b (lines bs)
 unfolding lines
 lines-other b bs q = rw (q, lines) refl
 

@@ -4,4 +4,5 @@ pub mod Hunks
 pub mod Patch
 pub mod Names
 pub mod Unified
+pub mod DiffText
 pub mod Laws

@@ -2,6 +2,7 @@
 
 ghost use Rattle.std.specs.Prelude.{◌≡◌, ◌≤◌, ◌<◌, ◌+◌, ◌-◌, ◌^◌, ◌++◌, List, [], Some, OnOk, IfOk, length, map};
 ghost use Rattle.std.specs.List.{flat_map};
+ghost use Rattle.text_diff.specs.DiffText.{patched_text};
 ghost use Rattle.text_diff.specs.Lines.{lines};
 ghost use Rattle.text_diff.specs.Script.{IsScript, StartsDiffer};
 ghost use Rattle.text_diff.specs.declared.change.Change.{Change};
@@ -163,6 +164,7 @@ pub fn unified_diff(
         × StartsDiffer (lines old.now) (lines new.now) changes
         × (text.items ≡ unified_text path.now
         (hunks (lines old.now) (lines new.now) changes))) }
+    ensures applies { IfOk result (λ text. patched_text text.items old.now ≡ Some new.now) }
     ensures same { IfOk result (λ text. old.now ≡ new.now → text.items ≡ []) }
 {
     let old = lines(alloc, old)?;

@@ -5,7 +5,7 @@
 mod changes;
 mod reading;
 
-use rust_source::{Edition, Grammar, Source};
+use rust_source::{Edition, Source};
 
 /// The text of the tour.
 const TEXT: &str = "fn f(a: u8) -> u8 {\n    g(a * 2)\n}\n";
@@ -13,7 +13,7 @@ const TEXT: &str = "fn f(a: u8) -> u8 {\n    g(a * 2)\n}\n";
 fn main(rt: HostRuntime) -> anyhow::Result<()> {
     let alloc = rt.alloc();
     // 1. A text is opened. Every text of at most 16 MiB is.
-    let mut source = Source::open_by(alloc, Edition::Edition2021, Grammar::Whole, TEXT)?;
+    let mut source = Source::open(alloc, Edition::Edition2021, TEXT)?;
     println!(rt;
         "opened: {} bytes, tree {}",
         source.text().len(),
