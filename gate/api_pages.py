@@ -18,7 +18,7 @@ FOLDER = "docs/api"
 END_OF_PRODUCT = "\n# Run and not proved"
 MODULE = re.compile(r"^(pub )?mod (\w+);", re.M)
 PUBLIC_USE = re.compile(r"^pub use (?:crate::)?(\w+)(?:::\w+)*::(?:\{([^}]*)\}|(\w+));", re.M)
-HEAD = re.compile(r"^( *)(pub (?:const )?fn|pub struct|pub enum|pub trait|pub const|pub type|fn) (\w+)")
+HEAD = re.compile(r"^( *)(pub (?:const |extern \"C\" )?fn|pub struct|pub enum|pub trait|pub const|pub type|fn) (\w+)")
 CLAUSE = re.compile(r" *(?:ensures|requires)\b")
 USE = re.compile(r"^use (?:crate|super)((?:::\w+)*)::(?:\{([^}]*)\}|(\w+));", re.M)
 IMPL = re.compile(r"^impl\b(?:<.*?>)? ?(.*?) \{")
@@ -46,7 +46,7 @@ def head_of(lines, at):
     """Returns the lines of an item's head from `at` on, without the body of a function, and the place after it."""
     first = lines[at]
     indent = len(first) - len(first.lstrip())
-    if re.match(r" *(?:pub )?(?:const )?fn ", first):
+    if re.match(r" *(?:pub )?(?:const |extern \"C\" )?fn ", first):
         code = []
         while at < len(lines):
             line = lines[at]
@@ -234,7 +234,7 @@ def described(level, item, name):
 def pages(root):
     """Returns the text of each page, by its path."""
     crates = ledger.read(f"{root}/crates.txt").decode().split(END_OF_PRODUCT)[0]
-    names = [name for name in re.findall(r"^(\w+):", crates, re.M) if os.path.isfile(f"{root}/crates/{name}/src/lib.rt")]
+    names = [name for name in re.findall(r"^(\w+)(?: staticlib)?:", crates, re.M) if os.path.isfile(f"{root}/crates/{name}/src/lib.rt")]
     made = {f"{FOLDER}/{name}.md": "\n".join(Crate(root, name).page()) + "\n" for name in names}
     rows = "".join(f"- [`{name}`]({name}.md)\n" for name in names)
     made[f"{FOLDER}/README.md"] = f"# The public items of each crate, lowest layers first\n\nMade by `gate/api_pages.py`.\n\n{rows}"

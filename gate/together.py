@@ -8,7 +8,7 @@ import re
 import subprocess
 
 # The first line of a function: its indent, `const ` if it is constant, and its name.
-FUNCTION = re.compile(r"( *)(?:pub(?:\([a-z]+\))? )?(const )?fn (\w+)")
+FUNCTION = re.compile(r"( *)(?:pub(?:\([a-z]+\))? )?(?:extern \"C\" )?(const )?fn (\w+)")
 # The head of an impl: its parameters, its trait, if any, and its type. The head of a trait: its name.
 IMPL = re.compile(r"impl(?:<(.*?)>)? (?:([^{]*?) for )?([^{]*?)(?: where .*)? ?\{?$")
 TRAIT = re.compile(r"(?:pub(?:\([a-z]+\))? )?trait (\w+)")

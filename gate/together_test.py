@@ -110,6 +110,10 @@ class Together(unittest.TestCase):
         for file, name in (("src/lib.rt", "f"), ("src/a/b.rt", "a::b::f"), ("src/a/mod.rt", "a::f")):
             self.assertEqual([it.name for it in together.bodies(file, text)], [name])
 
+    def test_export(self):
+        text = '#[unsafe(no_mangle)]\npub extern "C" fn f(\n    n: u32,\n) -> u32\n    ensures { result ≡ n }\n{\n    n\n}\n'
+        self.assertEqual([(it.name, text[it.first : it.end]) for it in together.bodies("src/lib.rt", text)], [("f", "    n\n")])
+
     def test_methods_are_named_by_type_and_trait(self):
         for head, name in (
             ("impl<L: Language> ElementExt for NodeOrToken<SyntaxNode<L>, SyntaxToken<L>> {", "NodeOrTokenSyntaxNodeSyntaxTokenElementExt"),

@@ -1,4 +1,5 @@
-/* Random edits against a mirror of the text: edits EDITS THREADS KIB, each thread with a stack of KIB KiB. */
+/* Random edits against a mirror of the text: edits EDITS THREADS KIB, each thread with a stack of KIB KiB. Some of them put a text of
+ * more than 16 MiB, or one that is not UTF-8, or have no such range: they change nothing. */
 #include "tevondimby.h"
 #include <pthread.h>
 #include <stdio.h>
@@ -6,10 +7,12 @@
 #include <string.h>
 
 #define ROOM 8192
+#define LONG ((16 << 20) + 1)
 #define TEXT "fn twice(a: u32) -> u32 { a * 2 }\nstruct S { x: u8 } // \xc3\xa9\n"
 
 static const char *const PIECES[] = {"", "a", "(", ")", "{", "}", " + 1", "\"", "/*", "*/", "\n", "\xc3\xa9", "\xe2\x86\x92", "\xff", "if x ", "<", ";", "'", "fn f() {}"};
 static long edits;
+static char *long_text;
 
 struct run {
     unsigned seed;
@@ -26,7 +29,9 @@ static int is_boundary(const struct run *run, size_t at) {
 static uint32_t wanted_code(const struct run *run, size_t start, size_t end, const char *put) {
     if (*put == '\xff')
         return TEV_NOT_UTF8;
-    return start <= end && end <= run->length && is_boundary(run, start) && is_boundary(run, end) ? TEV_OK : TEV_RANGE;
+    if (start > end || end > run->length || !is_boundary(run, start) || !is_boundary(run, end))
+        return TEV_RANGE;
+    return put == long_text ? TEV_TOO_LONG : TEV_OK;
 }
 
 static void edit(struct run *run) {
@@ -34,7 +39,9 @@ static void edit(struct run *run) {
     if (run->length > 3000)
         start = 0, end = run->length;
     const char *put = PIECES[rand_r(&run->seed) % (sizeof PIECES / sizeof *PIECES)];
-    size_t size = strlen(put);
+    if (rand_r(&run->seed) % 1000 == 0)
+        put = long_text;
+    size_t size = put == long_text ? LONG : strlen(put);
     uint32_t code = tevondimby_edit(&run->document, start, end, (const uint8_t *)put, size);
     run->wrong += code != wanted_code(run, start, end, put);
     if (code != TEV_OK) {
@@ -87,6 +94,8 @@ int main(int count, char **words) {
     if (count < 4)
         return 2;
     edits = atol(words[1]);
+    long_text = malloc(LONG);
+    memset(long_text, ' ', LONG);
     long threads = atol(words[2]), wrong = 0, refused = 0;
     struct run *runs = calloc(threads, sizeof *runs);
     pthread_t *started = calloc(threads, sizeof *started);
@@ -105,6 +114,7 @@ int main(int count, char **words) {
     pthread_attr_destroy(&how);
     free(started);
     free(runs);
+    free(long_text);
     printf("%ld edits in %ld threads, %ld of them refused, %ld wrong\n", edits * threads, threads, refused, wrong);
     return wrong != 0;
 }

@@ -16,10 +16,12 @@ use Rattle.document_requests.specs.Session.{Answer, Prepared, Ready, Session, St
 use Rattle.document_requests.specs.Applied.{session}
 use Rattle.document_requests.specs.declared.reply.Refusal.{Refusal}
 use Rattle.kept_document.specs.Commits as commits
-use Rattle.kept_document.specs.Commits.{RefusesCommand, RefusesReply, only_commit}
+use Rattle.kept_document.specs.Commits.{IsCommitted, RefusesCommand, RefusesReply, StopsChanges, only_commit}
+use Rattle.kept_document.specs.Depth.{is_deep_commit}
 use Rattle.kept_document.specs.Reasons.{of_refusal}
 use Rattle.kept_document.specs.declared.kept.Kept.{Kept}
 use Rattle.kept_document.specs.declared.reason.Reason.{Reason}
+use Rattle.kept_document.specs.declared.reason.Reason.TheVariants.{NoMemory}
 
 abbrev pub TellsReply : Reply → Answer → State → Type 0
 TellsReply replies.Edited a d = ⊥
@@ -62,17 +64,27 @@ refusal-keeps changes s after refusal is = subst (λ (a : Answer). Tells a s.doc
 -- A reply that is none of an accepted commit is that of a refused one.
 pub refuses :
     (asked : Option (List Change)) (changes : List Change) (old new : Kept) (reply : Reply) (reason : Reason) → asked ≡ Some changes
-    → commits.answered changes old ≡ record { reply = reply; after = session new.document new.ids } → RefusesReply reply reason
+    → is_deep_commit old.document changes ≡ false → commits.answered changes old ≡ record { reply = reply; after = session new.document new.ids } → RefusesReply reply reason
     → RefusesCommand asked old new reason
-refuses asked changes old new replies.Edited reason is answer why =
+refuses asked changes old new replies.Edited reason is flat answer why =
     absurd (subst (λ (a : Answer). Tells a old.document) answer (commit-tells changes (session old.document old.ids)))
-refuses asked changes old new (replies.Changed ranges) reason is answer why = absurd why
-refuses asked changes old new (replies.Tree lines) reason is answer why =
+refuses asked changes old new (replies.Changed ranges) reason is flat answer why = absurd why
+refuses asked changes old new (replies.Tree lines) reason is flat answer why =
     absurd (subst (λ (a : Answer). Tells a old.document) answer (commit-tells changes (session old.document old.ids)))
-refuses asked changes old new (replies.Errors messages) reason is answer why =
+refuses asked changes old new (replies.Errors messages) reason is flat answer why =
     absurd (subst (λ (a : Answer). Tells a old.document) answer (commit-tells changes (session old.document old.ids)))
-refuses asked changes old new (replies.Refused refusal) reason is answer why =
-    rw is (inr (record { refusal = refusal; is = why; answer = answer }))
+refuses asked changes old new (replies.Refused refusal) reason is flat answer why =
+    rw is (inr (record { refusal = refusal; flat = flat; is = why; answer = answer }))
+
+-- A text of its changes is too deep, or memory lacks.
+pub stops :
+    (asked : Option (List Change)) (changes : List Change) (old new : Kept) (reason : Reason) → asked ≡ Some changes → StopsChanges old.document changes reason
+    → RefusesCommand asked old new reason
+stops asked changes old new reason is why = rw is (inl why)
+
+pub lacks-memory : (asked : Option (List Change)) (old new : Kept) (reason : Reason) → reason ≡ NoMemory → RefusesCommand asked old new reason
+lacks-memory None old new reason is = inl is
+lacks-memory (Some changes) old new reason is = inl (inl is)
 
 -- It leaves the document.
 pub reply-keeps :

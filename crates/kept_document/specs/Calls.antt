@@ -32,12 +32,14 @@ RefusesOpening None grammar text reason = reason ≡ NoSuch
 RefusesOpening (Some edition) None text reason = reason ≡ NoSuch
 RefusesOpening (Some edition) (Some grammar) text reason = RefusesText edition text reason
 
--- the document of a text that was opened: its tree is the first
+-- the document of a text that was opened: its tree has the first number, and the next tree gets the second
 pub record IsFresh (edition : Option Edition) (grammar : Option Grammar) (text : List ℕ) (kept : Kept) : Type 0 where
   pub edition_is : edition ≡ Some kept.document.edition
   pub grammar_is : grammar ≡ Some kept.document.grammar
   pub text_is : kept.document.text ≡ text
+  pub is_text : IsUtf8 text
   pub number_is : kept.document.number ≡ 1
+  pub next_is : kept.ids ≡ 2
   pub unchanged : kept.changed.items ≡ []
   pub readable : IsReadable kept.document.edition text
 

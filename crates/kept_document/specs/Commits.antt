@@ -1,5 +1,5 @@
 -- Commits of a kept document.
-use Rattle.std.specs.Prelude.{◌≡◌, ◌⊎◌, ℕ, List, [], ◌∷◌, map, Option, Some, None, option_and_then}
+use Rattle.std.specs.Prelude.{◌≡◌, ◌⊎◌, ℕ, false, true, List, [], ◌∷◌, map, Option, Some, None, option_and_then}
 use Rattle.std.specs.Str.{IsUtf8}
 use Rattle.serde_json.specs.Find.{as_array}
 use Rattle.serde_json.specs.Read.{read}
@@ -11,6 +11,8 @@ use Rattle.document_requests.specs.Reply.{Reply}
 use Rattle.document_requests.specs.Request.{Change, Command, Commit, all_in, command_by}
 use Rattle.document_requests.specs.Session.{Answer, committed}
 use Rattle.document_requests.specs.declared.reply.Refusal.{Refusal}
+use Rattle.rust_document.specs.Step.{State}
+use Rattle.kept_document.specs.Depth.{is_deep_commit}
 use Rattle.kept_document.specs.Reasons.{of_refusal}
 use Rattle.kept_document.specs.declared.kept.Kept.{Kept}
 use Rattle.kept_document.specs.declared.reason.Reason.{Reason}
@@ -31,14 +33,18 @@ abbrev pub answered : List Change → Kept → Answer
 answered changes old = committed changes (session old.document old.ids)
 
 -- a commit was accepted: the ranges are those that it inserted
+pub record IsAccepted (changes : List Change) (old new : Kept) : Type 0 where
+  pub flat : is_deep_commit old.document changes ≡ false
+  pub answer : answered changes old ≡ record { reply = replies.Changed (map ends_of new.changed.items); after = session new.document new.ids }
+
 abbrev pub IsCommitted : Option (List Change) → Kept → Kept → Type 0
 IsCommitted None old new = ⊥
-IsCommitted (Some changes) old new =
-    answered changes old ≡ record { reply = replies.Changed (map ends_of new.changed.items); after = session new.document new.ids }
+IsCommitted (Some changes) old new = IsAccepted changes old new
 
 -- a commit was refused
 pub record IsRefused (changes : List Change) (old new : Kept) (reason : Reason) : Type 0 where
   pub refusal : Refusal
+  pub flat : is_deep_commit old.document changes ≡ false
   pub is : reason ≡ of_refusal refusal
   pub answer : answered changes old ≡ record { reply = replies.Refused refusal; after = session new.document new.ids }
 
@@ -47,12 +53,16 @@ abbrev pub RefusesChanges : Option (List Change) → Kept → Kept → Reason �
 RefusesChanges None old new reason = reason ≡ NoCommand
 RefusesChanges (Some changes) old new reason = IsRefused changes old new reason
 
--- Out of memory and too deep a text come at any point.
-abbrev pub StopsAnywhere : Reason → Type 0
-StopsAnywhere reason = (reason ≡ NoMemory) ⊎ (reason ≡ TooDeep)
+-- A text that a commit puts or makes is too deep. Out of memory comes at any point.
+abbrev pub StopsChanges : State → List Change → Reason → Type 0
+StopsChanges d changes reason = (reason ≡ NoMemory) ⊎ ((reason ≡ TooDeep) × (is_deep_commit d changes ≡ true))
+
+abbrev pub StopsCommit : State → Option (List Change) → Reason → Type 0
+StopsCommit d None reason = reason ≡ NoMemory
+StopsCommit d (Some changes) reason = StopsChanges d changes reason
 
 abbrev pub RefusesCommand : Option (List Change) → Kept → Kept → Reason → Type 0
-RefusesCommand asked old new reason = StopsAnywhere reason ⊎ RefusesChanges asked old new reason
+RefusesCommand asked old new reason = StopsCommit old.document asked reason ⊎ RefusesChanges asked old new reason
 
 abbrev pub RefusesCommit : List ℕ → Kept → Kept → Reason → Type 0
 RefusesCommit bytes old new reason =

@@ -1,10 +1,13 @@
 -- What the exports make of a handle.
-use Rattle.std.specs.Prelude.{◌≡◌, ℕ, ◌+◌, true, List, Option, Some, None, chars}
+use Rattle.std.specs.Prelude.{◌≡◌, ℕ, ◌+◌, false, true, List, Option, Some, None, chars}
+use Rattle.std.specs.Str.{IsUtf8}
+use Rattle.rust_document.specs.Edit.{can_edit}
 use Rattle.rust_document.specs.Step.{present}
 use Rattle.renamer.specs.Renamed.{renamed_text}
 use Rattle.renamer.specs.Verdict.{IsRenamed}
-use Rattle.kept_document.specs.Calls.{edited_document}
+use Rattle.kept_document.specs.Calls.{IsReadable, edited_document}
 use Rattle.kept_document.specs.Commits.{IsCommitted, RefusesCommit, commit_in}
+use Rattle.kept_document.specs.Depth.{is_deep_renaming}
 use Rattle.kept_document.specs.Reasons.{code_of}
 use Rattle.kept_document.specs.Renamings.{is_identifier}
 use Rattle.kept_document.specs.declared.kept.Kept.{Kept}
@@ -40,13 +43,16 @@ Turns (Some old) (Some new) Becomes = Becomes old new
 
 -- some bytes of the text were replaced, and a tree number was taken
 pub record IsEdited (start end : ℕ) (text : List ℕ) (old new : Kept) : Type 0 where
+  pub allowed : can_edit old.document.text start end ≡ true
+  pub is_text : IsUtf8 text
+  pub readable : IsReadable new.document.edition new.document.text
   pub document : new.document ≡ edited_document old.document start end text old.ids
   pub next : new.ids ≡ old.ids + 1
   pub changed : new.changed ≡ old.changed
 
 -- a commit was accepted
 abbrev pub CommitsTo : List ℕ → Kept → Kept → Type 0
-CommitsTo command old new = IsCommitted (commit_in old.document.grammar command) old new
+CommitsTo command old new = IsUtf8 command × IsCommitted (commit_in old.document.grammar command) old new
 
 -- a commit was refused; the handle is as open as before
 abbrev pub IsUncommitted : Option Kept → Option Kept → List ℕ → ℕ → Type 0
@@ -67,9 +73,11 @@ KeepsText (Some old) (Some new) = IsKept old new
 
 -- each identifier `old` is renamed to `new`
 pub record RenamesTo (name new_name : List ℕ) (old new : Kept) : Type 0 where
+  pub is_text : IsUtf8 name
   pub text : new.document.text ≡ renamed_text name new_name (present old.document)
   pub renamed : IsRenamed old.document name new_name
   pub edition : new.document.edition ≡ old.document.edition
   pub grammar : new.document.grammar ≡ old.document.grammar
+  pub flat : is_deep_renaming old.document name new_name ≡ false
   pub identifier : is_identifier old.document.edition (chars new_name) ≡ true
   pub changed : new.changed ≡ old.changed

@@ -1,6 +1,8 @@
 pub mod Buffers
 pub mod Calls
 pub mod Commits
+pub mod DeepRequests
+pub mod Depth
 pub mod Dialect
 pub mod Exports
 pub mod Held

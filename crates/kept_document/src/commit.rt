@@ -1,34 +1,30 @@
 //! Commits of a kept document, given as JSON.
 ghost use Rattle.std.specs.Prelude.{◌≡◌, ◌⊎◌, None, Some, map, option_map, IfErr, IfOk, IfSome, MatchOption, MatchResult, OnErr, OnOk};
+ghost use Rattle.std.specs.Str.{IsUtf8};
 ghost use Rattle.serde_json.specs.Read.{read};
 ghost use Rattle.serde_json.specs.View.{view};
 ghost use Rattle.document_requests.specs.Answered.{ends_of, reply as answered};
 ghost use Rattle.document_requests.specs.Asked.{change as change_in, command as command_in};
 ghost use Rattle.document_requests.specs.Reply.{Changed};
 ghost use Rattle.kept_document.specs.Commits.{IsCommitted, RefusesCommand, RefusesCommit, RefusesReply, commit_in, only_commit};
-ghost use Rattle.kept_document.specs.declared.reason.Reason.TheVariants.{NoCommand, NoMemory, TooDeep};
 
+use crate::commit_levels::test_levels;
 use crate::kept::{Kept, text_of};
 use crate::reason::Reason;
-use crate::rehearsal::committed_text;
 use document_requests::{Change, Command, CommitRule, Reply, answer_by, commands_of};
 use rowan_green::TextRange;
-use rust_document::Document;
 use serde_json::{Category, Value};
-use std::alloc::Global;
-use text_levels::is_too_deep;
+use std::alloc::{AllocError, Global};
 
-/// Returns the value of a text in JSON.
-pub(crate) fn value_of(alloc: Global, text: &str) -> Result<Value, Reason>
-    ensures value { IfOk result (λ value. read text.now ≡ Some (view value)) }
-    ensures refused { IfErr result (λ reason. (reason ≡ NoMemory)
-        ⊎ ((reason ≡ NoCommand) × (read text.now ≡ None))) }
+/// Returns the value of a text, if it is JSON.
+pub(crate) fn value_of(alloc: Global, text: &str) -> Result<Option<Value>, AllocError>
+    ensures { IfOk result (λ found. option_map view found ≡ read text.now) }
 {
     match Value::from_str(alloc, text) {
-        Ok(value) => Ok(value),
+        Ok(value) => Ok(Some(value)),
         Err(error) => match error.classify() {
-            Category::Memory => Err(Reason::NoMemory),
-            _ => Err(Reason::NoCommand),
+            Category::Memory => Err(AllocError),
+            _ => Ok(None),
         },
     }
 }
@@ -45,30 +41,6 @@ fn only_commit<'c, 'v>(commands: &'c [Command<'v>]) -> Option<&'c [Change<'v>]>
         },
         _ => None,
     }
-}
-
-/// Tests that reading the texts that a commit puts, and then its own, takes few levels.
-pub(crate) fn test_levels(
-    alloc: Global,
-    document: &Document,
-    changes: &[Change<'_>],
-) -> Result<(), Reason>
-    ensures { IfErr result (λ reason. (reason ≡ TooDeep) ⊎ (reason ≡ NoMemory)) }
-{
-    let edition = document.edition();
-    for change in changes {
-        if let Change::Put { text, .. } = *change {
-            if is_too_deep(alloc, edition, text)? {
-                return Err(Reason::TooDeep);
-            }
-        }
-    }
-    if let Some(text) = committed_text(alloc, document, changes)? {
-        if is_too_deep(alloc, edition, &text)? {
-            return Err(Reason::TooDeep);
-        }
-    }
-    Ok(())
 }
 
 /// Returns the ranges that an accepted commit inserted.
@@ -107,19 +79,6 @@ impl Kept {
         Ok(())
     }
 
-    /// Makes the changes of a commit, if reading its texts takes few levels. What is answered is left out.
-    pub(crate) fn rehearse(
-        &mut self,
-        alloc: Global,
-        command: &Command<'_>,
-        changes: &[Change<'_>],
-    ) -> Result<(), Reason> {
-        test_levels(alloc, &self.document, changes)?;
-        let rule = CommitRule::Faithful;
-        let _reply = answer_by(alloc, rule, &mut self.document, command, &mut self.ids)?;
-        Ok(())
-    }
-
     /// Makes the changes of one commit, given as JSON in the form of `document_requests`: a list of one
     /// command.
     ///
@@ -134,6 +93,7 @@ impl Kept {
     ///
     /// On error, the text is unchanged, and tree numbers may be used up.
     pub fn commit(&mut self, alloc: Global, command: &[u8]) -> Result<(), Reason>
+        ensures is_text { OnOk result (IsUtf8 command.now) }
         ensures done { OnOk result
             (IsCommitted (commit_in self.old.document.grammar command.now) self.old self.new) }
         ensures refused { IfErr result (RefusesCommit command.now self.old self.new) }
@@ -141,7 +101,9 @@ impl Kept {
         ensures ranges { OnErr result (self.new.changed ≡ self.old.changed) }
     {
         let text = text_of(command)?;
-        let value = value_of(alloc, text)?;
+        let Some(value) = value_of(alloc, text)? else {
+            return Err(Reason::NoCommand);
+        };
         let Some(commands) = commands_of(alloc, self.document.grammar(), &value)? else {
             return Err(Reason::NoCommand);
         };

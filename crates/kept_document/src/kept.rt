@@ -158,6 +158,8 @@ impl Kept {
         ensures done { OnOk result (self.new.document
             ≡ edited_document self.old.document start end text.now self.old.ids) }
         ensures next { OnOk result (self.new.ids ≡ self.old.ids + 1) }
+        ensures allowed { OnOk result (can_edit self.old.document.text start end ≡ true) }
+        ensures is_text { OnOk result (IsUtf8 text.now) }
         ensures ranges { self.new.changed ≡ self.old.changed }
         ensures readable { OnOk result (IsReadable self.new.document.edition self.new.document.text) }
         ensures refused { IfErr result (RefusesEdit self.old.document self.old.ids start end text.now) }
@@ -168,7 +170,7 @@ impl Kept {
             return Err(Reason::Range);
         };
         let new = edited(alloc, self.document.text(), range, text)?;
-        test_limits(alloc, self.document.edition(), &new)?;
+        test_limits(alloc, self.document.edition(), new.as_str())?;
         self.document.edit(alloc, range, text, &mut self.ids)?;
         Ok(())
     }

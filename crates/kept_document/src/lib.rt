@@ -4,6 +4,7 @@
 
 pub mod calls;
 pub mod commit;
+mod commit_levels;
 pub mod dialect;
 pub mod handle;
 pub mod hold;
@@ -14,6 +15,7 @@ mod rehearsal;
 pub mod renaming;
 mod request_levels;
 pub mod texts;
+mod tree_text;
 pub mod views;
 
 pub use handle::Handle;

@@ -1,11 +1,15 @@
-//! Texts that a command would make, before any of them is read: a deep one is not to be read on a
-//! small stack.
-//!
-//! No contract here says which text it is: a caller only counts its levels.
+//! The text that a commit would make, before any text is read: a deep one is not to be read on a small
+//! stack.
+ghost use Rattle.std.specs.Prelude.{◌≡◌, ℕ, map, option_map, string_bytes, IfErr, IfOk, OnOk};
+ghost use Rattle.syntax_tree.specs.Handle.{element_of};
+ghost use Rattle.document_requests.specs.Applied.{IsUnprepared, IsWithheld};
+ghost use Rattle.document_requests.specs.Asked.{change as change_in};
+ghost use Rattle.document_requests.specs.Session.{Given, Ready, found, is_only_child, only_child, payload_entry, prepared, prepared_by, put_element, taken};
+ghost use Rattle.kept_document.specs.Depth.{made_text, text_by};
 
+use crate::tree_text::renamed_text;
 use document_requests::stop::Stop;
-use document_requests::{Change, Entry, Op, Target};
-use parser_input::SyntaxKind;
+use document_requests::{Change, Entry, Op, Refusal, Target};
 use ra_parser::TopEntryPoint;
 use rowan_green::{TextRange, TextSize};
 use rust_document::{Document, PayloadEntry, SyntaxEditor};
@@ -18,7 +22,9 @@ fn target_of(
     alloc: Global,
     document: &Document,
     target: Target,
-) -> Result<Option<SyntaxElement>, AllocError> {
+) -> Result<Option<SyntaxElement>, AllocError>
+    ensures { IfOk result (λ element. option_map element_of element ≡ found document.now target) }
+{
     if target.start >= target.stop || target.stop > document.text().len() as u64 {
         return Ok(None);
     }
@@ -28,7 +34,9 @@ fn target_of(
 }
 
 /// Returns what a text is read as.
-fn entry_of(entry: Entry) -> PayloadEntry {
+fn entry_of(entry: Entry) -> PayloadEntry
+    ensures { result ≡ payload_entry entry }
+{
     match entry {
         Entry::Token => PayloadEntry::Token,
         Entry::Expr => PayloadEntry::Top(TopEntryPoint::Expr),
@@ -39,33 +47,99 @@ fn entry_of(entry: Entry) -> PayloadEntry {
     }
 }
 
-/// Returns the element that a text is put as. Of an item or a statement it is the first child of what
-/// is read: where there are more, the command is refused before its text is read.
+/// Returns `true` if a text is put as the only child of what it is read as.
+fn is_only_child(entry: Entry) -> bool
+    ensures { result ≡ is_only_child entry }
+{
+    matches!(entry, Entry::Item | Entry::Stmt)
+}
+
+/// Returns the only child of a node, tokens counted too.
+fn only_child_of(alloc: Global, node: &SyntaxNode) -> Result<Option<SyntaxElement>, AllocError>
+    ensures { IfOk result (λ child. option_map element_of child ≡ only_child node.now) }
+{
+    if node.cursor().green().children().len() != 1 {
+        return Ok(None);
+    }
+    let mut way = node.way(alloc)?;
+    way.insert(0, 0)?;
+    node.element_at(alloc, &way)
+}
+
+/// Returns the only child of an element. A token has none.
+fn only_child(alloc: Global, element: &SyntaxElement) -> Result<Option<SyntaxElement>, AllocError>
+    ensures { IfOk result
+        (λ child. option_map element_of child ≡ only_child (element_of element.now)) }
+{
+    match element {
+        SyntaxElement::Node(node) => only_child_of(alloc, node),
+        SyntaxElement::Token(token) => {
+            let _leaf = token.cursor().green();
+            Ok(None)
+        }
+    }
+}
+
+/// Returns the element that a text is put as.
 fn payload_of(
     alloc: Global,
     document: &Document,
     entry: Entry,
     text: &str,
     ids: &mut TreeIds,
-) -> Result<Option<SyntaxElement>, Stop> {
+) -> Result<SyntaxElement, Stop>
+    ensures given { IfOk result (λ element. taken entry document.now text.now ids.old
+        ≡ Given (element_of element) ids.new) }
+    ensures stopped { IfErr result
+        (IsWithheld (taken entry document.now text.now ids.old) ids.new) }
+{
     let payload = document.payload(alloc, entry_of(entry), text, ids)?;
-    match entry {
-        Entry::Item | Entry::Stmt => match &payload {
-            SyntaxElement::Node(node) => Ok(node.element_at(alloc, &[0])?),
-            SyntaxElement::Token(_) => Ok(None),
-        },
-        _ => Ok(Some(payload)),
+    // (this shows that the number of its tree fits)
+    prove!(payload.tree() <= u32::MAX);
+    if !is_only_child(entry) {
+        return Ok(payload);
+    }
+    match only_child(alloc, &payload)? {
+        Some(child) => Ok(child),
+        None => Err(Stop::Refused(Refusal::Payload)),
     }
 }
 
-/// Records a change as its command does. `false` if it has no target or no payload.
+/// Records that an element comes to another one.
+fn put_at(
+    alloc: Global,
+    editor: &mut SyntaxEditor,
+    op: Op,
+    old: &SyntaxElement,
+    new: &SyntaxElement,
+) -> Result<(), Stop>
+    ensures done { OnOk result ((next : ℕ)
+        → put_element op (element_of old.now) editor.old next (element_of new.now)
+        ≡ Ready editor.new next) }
+    ensures stopped { IfErr result (λ stop. (next : ℕ)
+        → IsUnprepared (put_element op (element_of old.now) editor.old next
+        (element_of new.now)) next stop) }
+{
+    match op {
+        Op::Replace => Ok(editor.replace(alloc, old, new)?),
+        Op::Before => Ok(editor.insert(alloc, Position::before(old)?, new)?),
+        Op::After => Ok(editor.insert(alloc, Position::after(old)?, new)?),
+    }
+}
+
+/// Records a change of a commit.
 fn record(
     alloc: Global,
     document: &Document,
     editor: &mut SyntaxEditor,
     change: Change<'_>,
     ids: &mut TreeIds,
-) -> Result<bool, Stop> {
+) -> Result<(), Stop>
+    ensures done { OnOk result (prepared_by (change_in change.entry) document.now editor.old ids.old
+        ≡ Ready editor.new ids.new) }
+    ensures stopped { IfErr result (IsUnprepared
+        (prepared_by (change_in change.entry) document.now editor.old ids.old) ids.new) }
+{
     match change {
         Change::Put {
             op,
@@ -74,59 +148,54 @@ fn record(
             text,
         } => {
             let Some(old) = target_of(alloc, document, target)? else {
-                return Ok(false);
+                return Err(Stop::Refused(Refusal::NoTarget));
             };
-            let Some(new) = payload_of(alloc, document, entry, text, ids)? else {
-                return Ok(false);
-            };
-            match op {
-                Op::Replace => editor.replace(alloc, &old, &new)?,
-                Op::Before => editor.insert(alloc, Position::before(&old)?, &new)?,
-                Op::After => editor.insert(alloc, Position::after(&old)?, &new)?,
-            }
+            let new = payload_of(alloc, document, entry, text, ids)?;
+            put_at(alloc, editor, op, &old, &new)
         }
         Change::Delete { target } => {
             let Some(old) = target_of(alloc, document, target)? else {
-                return Ok(false);
+                return Err(Stop::Refused(Refusal::NoTarget));
             };
             editor.delete(alloc, &old)?;
+            Ok(())
         }
     }
-    Ok(true)
 }
 
-/// Records the changes of a commit. `None` if one of them is refused.
-fn recorded(
+/// Records the changes of a commit in order, up to the first that is refused.
+fn record_all(
     alloc: Global,
     document: &Document,
+    editor: &mut SyntaxEditor,
     changes: &[Change<'_>],
     ids: &mut TreeIds,
-) -> Result<Option<SyntaxEditor>, AllocError> {
-    let mut editor = document.editor(alloc)?;
+) -> Result<(), Stop>
+    ensures done { OnOk result (prepared (map change_in changes.now) document.now editor.old ids.old
+        ≡ Ready editor.new ids.new) }
+    ensures stopped { IfErr result (IsUnprepared
+        (prepared (map change_in changes.now) document.now editor.old ids.old) ids.new) }
+{
     for change in changes {
-        match record(alloc, document, &mut editor, *change, ids) {
-            Ok(true) => {}
-            Ok(false) | Err(Stop::Refused(_)) => return Ok(None),
-            Err(Stop::NoMemory) => return Err(AllocError),
-        }
+        record(alloc, document, editor, *change, ids)?;
     }
-    Ok(Some(editor))
+    Ok(())
 }
 
-/// Returns the text of a tree, with `new` for each identifier `old`.
-fn text_of(alloc: Global, root: &SyntaxNode, old: &str, new: &str) -> Result<String, AllocError> {
-    let mut text = String::new(alloc);
-    for element in root.descendants_with_tokens(alloc)? {
-        if let SyntaxElement::Token(token) = element? {
-            let own = token.text();
-            let is_old = token.kind() == SyntaxKind::IDENT && own == old;
-            text.push_str(if is_old { new } else { own })?;
-        }
+/// Returns the text of the tree with all recorded changes applied, if they can be.
+fn text_by(alloc: Global, editor: &SyntaxEditor) -> Result<Option<String>, AllocError>
+    ensures { IfOk result (λ text. option_map string_bytes text ≡ text_by editor.now) }
+{
+    match editor.rewritten(alloc) {
+        Ok(rewritten) => Ok(Some(renamed_text(alloc, &rewritten.green, "", "")?)),
+        Err(RewriteError::Intersecting) => Ok(None),
+        Err(RewriteError::MissingMapping) => Ok(None),
+        Err(RewriteError::TooLong) => Ok(None),
+        Err(RewriteError::NoMemory) => Err(AllocError),
     }
-    Ok(text)
 }
 
-/// Returns the text that a commit of these changes makes, if none of them is refused.
+/// Returns the text that a commit of these changes would make, if none of them is refused.
 ///
 /// # Errors
 ///
@@ -135,33 +204,16 @@ pub(crate) fn committed_text(
     alloc: Global,
     document: &Document,
     changes: &[Change<'_>],
-) -> Result<Option<String>, AllocError> {
-    // (a source of its own: none of its numbers is that of the present tree)
+) -> Result<Option<String>, AllocError>
+    ensures { IfOk result (λ text. option_map string_bytes text
+        ≡ made_text document.now (map change_in changes.now)) }
+{
+    // (a source of its own: its first number is not that of the present tree)
     let mut ids = TreeIds::starting_at(document.root().tree().wrapping_add(1));
-    let Some(editor) = recorded(alloc, document, changes, &mut ids)? else {
-        return Ok(None);
-    };
-    let tree = match editor.rewritten(alloc) {
-        Ok(rewritten) => rewritten.green,
-        Err(RewriteError::NoMemory) => return Err(AllocError),
-        Err(_) => return Ok(None),
-    };
-    match SyntaxNode::new_root(alloc, tree, &mut TreeIds::new()) {
-        Ok(root) => Ok(Some(text_of(alloc, &root, "", "")?)),
-        Err(_) => Err(AllocError),
+    let mut editor = document.editor(alloc)?;
+    match record_all(alloc, document, &mut editor, changes, &mut ids) {
+        Ok(()) => text_by(alloc, &editor),
+        Err(Stop::Refused(_)) => Ok(None),
+        Err(Stop::NoMemory) => Err(AllocError),
     }
-}
-
-/// Returns the text with each identifier `old` renamed to `new`.
-///
-/// # Errors
-///
-/// [`AllocError`] if an allocation fails.
-pub(crate) fn renamed_text(
-    alloc: Global,
-    document: &Document,
-    old: &str,
-    new: &str,
-) -> Result<String, AllocError> {
-    text_of(alloc, document.root(), old, new)
 }

@@ -1,13 +1,15 @@
 //! Renamings in a kept document.
-ghost use Rattle.std.specs.Prelude.{◌≡◌, ◌+◌, chars, true, IfErr, OnErr, OnOk};
+ghost use Rattle.std.specs.Prelude.{◌≡◌, chars, false, true, IfErr, OnErr, OnOk};
+ghost use Rattle.std.specs.Str.{IsUtf8};
 ghost use Rattle.rust_document.specs.Step.{present};
 ghost use Rattle.renamer.specs.Renamed.{renamed_text};
 ghost use Rattle.renamer.specs.Verdict.{IsRenamed};
+ghost use Rattle.kept_document.specs.Depth.{is_deep_renaming};
 ghost use Rattle.kept_document.specs.Renamings.{RefusesRenaming, is_identifier};
 
 use crate::kept::{Kept, text_of};
 use crate::reason::Reason;
-use crate::rehearsal::renamed_text;
+use crate::tree_text::renamed_text;
 use parser_input::{Edition, LexedStr, SyntaxKind};
 use renamer::rename;
 use std::alloc::Global;
@@ -41,6 +43,8 @@ impl Kept {
         ensures renamed { OnOk result (IsRenamed self.old.document old.now new.now) }
         ensures edition { OnOk result (self.new.document.edition ≡ self.old.document.edition) }
         ensures grammar { OnOk result (self.new.document.grammar ≡ self.old.document.grammar) }
+        ensures flat { OnOk result (is_deep_renaming self.old.document old.now new.now ≡ false) }
+        ensures is_text { OnOk result (IsUtf8 old.now) }
         ensures name { OnOk result (is_identifier self.old.document.edition (chars new.now) ≡ true) }
         ensures refused { IfErr result (RefusesRenaming self.old.document self.old.ids old.now new.now) }
         ensures document { OnErr result (self.new.document ≡ self.old.document) }
@@ -52,8 +56,9 @@ impl Kept {
         if !is_identifier(edition, new) {
             return Err(Reason::NoCommand);
         }
-        let text = renamed_text(alloc, &self.document, old, new)?;
-        if is_too_deep(alloc, edition, &text)? {
+        let tree = self.document.root().cursor().green();
+        let text = renamed_text(alloc, tree, old, new)?;
+        if is_too_deep(alloc, edition, text.as_str())? {
             return Err(Reason::TooDeep);
         }
         rename(alloc, &mut self.document, old, new, &mut self.ids)?;

@@ -1,9 +1,10 @@
 //! What the exports do that keep no document.
-ghost use Rattle.std.specs.Prelude.{◌≡◌, ◌≢◌, ◌⊎◌, ◌≤◌, IfErr, IfOk, Some, length};
+ghost use Rattle.std.specs.Prelude.{◌≡◌, ◌≢◌, ◌⊎◌, ◌≤◌, false, true, IfOk};
 ghost use Rattle.parser_input.specs.Kind.{kind_count, name_of, raw_of};
 ghost use Rattle.document_requests.specs.Output.{replies};
 ghost use Rattle.kept_document.specs.Buffers.{IsPut};
 ghost use Rattle.kept_document.specs.Calls.{RefusesOpening};
+ghost use Rattle.kept_document.specs.DeepRequests.{is_deep_request};
 ghost use Rattle.kept_document.specs.Dialect.{edition_of, grammar_of};
 ghost use Rattle.kept_document.specs.Exports.{HasReason};
 ghost use Rattle.kept_document.specs.Texts.{CountsMessages, IsAnswered, IsNamed};
@@ -87,6 +88,8 @@ pub fn run(
     ensures answered { (result ≡ 0) ⊎ (result ≡ 1) → IsAnswered (replies request.now) result
         out.old out.new written.new status.new }
     ensures codes { ((result ≡ 0) ⊎ (result ≡ 1)) ⊎ ((result ≡ 3) ⊎ (result ≡ 18)) }
+    ensures flat { (result ≡ 0) ⊎ (result ≡ 1) → is_deep_request request.now ≡ false }
+    ensures deep { result ≡ 18 → is_deep_request request.now ≡ true }
     ensures refused { (result ≡ 3) ⊎ (result ≡ 18) → (out.new ≡ out.old) × (written.new ≡ 0)
         × (status.new ≡ status.old) }
 {

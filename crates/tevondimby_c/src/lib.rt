@@ -5,12 +5,13 @@
 //! call at a time and is not copied, and that a pointer has the room that is said with it.
 #![tactic(auto)]
 
-ghost use Rattle.std.specs.Prelude.{◌≡◌, ◌≢◌, ◌⊎◌, ◌≤◌, None, IfSome, IsSome, MatchOption, map};
+ghost use Rattle.std.specs.Prelude.{◌≡◌, ◌≢◌, ◌⊎◌, ◌≤◌, None, IfSome, IsSome, MatchOption, false, map, true};
 ghost use Rattle.parser_input.specs.Kind.{kind_count};
 ghost use Rattle.document_requests.specs.Output.{replies};
 ghost use Rattle.document_rows.specs.Rows.{element_rows_of, message_rows_of, message_words_of, range_row, token_rows};
 ghost use Rattle.kept_document.specs.Buffers.{AreWritten, IsPut, IsWritten};
 ghost use Rattle.kept_document.specs.Calls.{IsFresh, RefusesEdit, RefusesOpening};
+ghost use Rattle.kept_document.specs.DeepRequests.{is_deep_request};
 ghost use Rattle.kept_document.specs.Dialect.{edition_of, grammar_of};
 ghost use Rattle.kept_document.specs.Exports.{CommitsTo, HasReason, Holds, IsEdited, IsUncommitted, KeepsText, RefusesClosed, RefusesOpen, RenamesTo, Turns};
 ghost use Rattle.kept_document.specs.Renamings.{RefusesRenaming};
@@ -32,6 +33,8 @@ pub extern "C" fn tevondimby_run(
     ensures answered { (result ≡ 0) ⊎ (result ≡ 1) → IsAnswered (replies request.now) result
         out.old out.new written.new status.new }
     ensures codes { ((result ≡ 0) ⊎ (result ≡ 1)) ⊎ ((result ≡ 3) ⊎ (result ≡ 18)) }
+    ensures flat { (result ≡ 0) ⊎ (result ≡ 1) → is_deep_request request.now ≡ false }
+    ensures deep { result ≡ 18 → is_deep_request request.now ≡ true }
     ensures refused { (result ≡ 3) ⊎ (result ≡ 18) → (out.new ≡ out.old) × (written.new ≡ 0)
         × (status.new ≡ status.old) }
 {
