@@ -61,7 +61,8 @@ pub struct Committed {
     /// The range in the new text of each annotated element of the rewritten tree, with its
     /// annotation: by order of annotation, then of the tree.
     pub annotated: Vec<(TextRange, SyntaxAnnotation)>,
-    /// The number of lookaheads that the parser made; 0 if its output was kept.
+    /// The lookaheads that the parser counted: 0 exactly if its output was kept. Contracts have only an
+    /// upper bound on it: 4,096 for each token of the parser's input and for its end.
     pub steps: u64,
 }
 
@@ -74,7 +75,8 @@ pub struct Edited {
     pub lexed: usize,
     /// The number of tokens after the edit that were kept.
     pub back: usize,
-    /// The number of lookaheads that the parser made; 0 if its output was kept.
+    /// The lookaheads that the parser counted: 0 exactly if its output was kept. Contracts have only an
+    /// upper bound on it: 4,096 for each token of the parser's input and for its end.
     pub steps: u64,
 }
 

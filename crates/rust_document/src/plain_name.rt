@@ -11,7 +11,8 @@ use rustc_lexer::is_ident;
 /// contextual keyword.
 ///
 /// Replacing such identifiers with such names is always accepted by
-/// [`Document::commit`](crate::Document::commit). A raw identifier, as `r#fn`, is no plain name.
+/// [`Document::commit`](crate::Document::commit), unless one of them is the prefix of a literal: `foo`
+/// in `foo"x"` cannot become `r`. A raw identifier, as `r#fn`, is no plain name.
 pub fn is_plain_name(edition: Edition, name: &str) -> bool
     ensures { result ≡ is_plain_name edition (chars name.now) }
 {

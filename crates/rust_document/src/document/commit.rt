@@ -49,9 +49,9 @@ impl Document {
     /// the rewritten tree's, and its tree gets the next number of `ids`. The editor is consumed.
     ///
     /// A plain renaming is always accepted, whatever messages the text has, and the new tree is
-    /// exactly the rewritten one: identifiers are replaced with identifiers, and old and new names
-    /// are plain ([`is_plain_name`](crate::is_plain_name)). Only length, memory and tree numbers can
-    /// refuse it.
+    /// exactly the rewritten one: identifiers are replaced with identifiers, old and new names are
+    /// plain ([`is_plain_name`](crate::is_plain_name)), and no replaced one is the prefix of a literal,
+    /// as `foo` in `foo"x"`. Only length, memory and tree numbers can refuse it.
     ///
     /// The parser's output is kept if the parser's input is the same.
     ///
