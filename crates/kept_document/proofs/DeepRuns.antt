@@ -64,7 +64,7 @@ Stays d next start stop text =
     (false ≡ is_deep_edit d start stop text) × (session d next ≡ (edited_by start stop text (session d next)).after)
 
 not-allowed : (d : State) (next start stop : ℕ) (text : List ℕ) → can_edit d.text start stop ≡ false → Stays d next start stop text
-not-allowed d next start stop text no = (rw no refl, rw no refl)
+not-allowed d next start stop text barred = (rw barred refl, rw barred refl)
 
 too-long : (d : State) (next start stop : ℕ) (text : List ℕ) → can_edit d.text start stop ≡ true → MAX_TEXT < length (edited d.text start stop text) → Stays d next start stop text
 too-long d next start stop text can long =
@@ -89,7 +89,7 @@ says-deep : (d : State) (next start stop : ℕ) (text : List ℕ) (deep : Bool) 
 says-deep d next start stop text deep is why =
     let new = edited d.text start stop text in
     let deeper : true ≡ is_deep_edit d start stop text = rw (why.1, below-limit (length new) why.2, is-deep d.edition new why.3) refl in
-    (is ∙ deeper, λ no. absurd (let bad : true ≡ false = sym is ∙ no in cc))
+    (is ∙ deeper, λ h. absurd (let bad : true ≡ false = sym is ∙ h in cc))
 
 pub refused-edit :
     (d : State) (next start stop : ℕ) (text : List ℕ) (reason : Reason) (deep : Bool) → IsUtf8 text → deep ≡ is_depth reason → (reason ≡ NoMemory → ⊥)
@@ -183,17 +183,17 @@ pub goes-on :
     (commands : List Command) (n : ℕ) (x : Command) (s after : Session) (b all : Bool) → n < length commands → x ≡ get_or commands n x
     → b ≡ is_deep_command (command_in x) s.document → b ≡ false → after ≡ (answer (command_in x) s).after
     → runs_deep (map command_in (drop n commands)) s ≡ all → runs_deep (map command_in (drop (n + 1) commands)) after ≡ all
-goes-on commands n x s after b all below item is no left so-far =
+goes-on commands n x s after b all below item is flat left so-far =
     ap (runs (drop (n + 1) commands)) left
-    ∙ sym (ap (λ (t : Bool). t || runs (drop (n + 1) commands) (answer (command_in x) s).after) (sym is ∙ no))
+    ∙ sym (ap (λ (t : Bool). t || runs (drop (n + 1) commands) (answer (command_in x) s).after) (sym is ∙ flat))
     ∙ sym (next-command commands n x s below item)
     ∙ so-far
 
 pub stops-here :
     (commands : List Command) (n : ℕ) (x : Command) (s : Session) (b all : Bool) → n < length commands → x ≡ get_or commands n x
     → b ≡ is_deep_command (command_in x) s.document → b ≡ true → runs_deep (map command_in (drop n commands)) s ≡ all → true ≡ all
-stops-here commands n x s b all below item is yes so-far =
-    sym (ap (λ (t : Bool). t || runs (drop (n + 1) commands) (answer (command_in x) s).after) (sym is ∙ yes))
+stops-here commands n x s b all below item is deep so-far =
+    sym (ap (λ (t : Bool). t || runs (drop (n + 1) commands) (answer (command_in x) s).after) (sym is ∙ deep))
     ∙ sym (next-command commands n x s below item)
     ∙ so-far
 

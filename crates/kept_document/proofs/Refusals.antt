@@ -40,6 +40,10 @@ pub edit-no-text :
     (d : State) (next start end : ℕ) (text : List ℕ) (reason : Reason) → reason ≡ NotUtf8 → ¬ (IsUtf8 text) → RefusesEdit d next start end text reason
 edit-no-text d next start end text reason is fails = rw is fails
 
+pub same-edited :
+    (shown text put given : List ℕ) (a start b end : ℕ) → shown ≡ text → a ≡ start → b ≡ end → put ≡ given → edited shown a b put ≡ edited text start end given
+same-edited shown text put given a start b end t s e p = λ i. edited (t i) (s i) (e i) (p i)
+
 pub edit-unedited :
     (d : State) (next start end : ℕ) (text new : List ℕ) (reason : Reason) → IsUtf8 text → can_edit d.text start end ≡ true
     → new ≡ edited d.text start end text → IsUnedited new reason → RefusesEdit d next start end text reason
@@ -48,14 +52,15 @@ edit-unedited d next start end text new NoMemory utf8 can is why = tt
 edit-unedited d next start end text new _ utf8 can is why = absurd why
 
 pub edit-limited :
-    (d : State) (next start end : ℕ) (text new : List ℕ) (reason : Reason) → IsUtf8 text → can_edit d.text start end ≡ true
-    → new ≡ edited d.text start end text → IsOpened new → IsUtf8 new → RefusesText d.edition new reason → RefusesEdit d next start end text reason
-edit-limited d next start end text new NotUtf8 utf8 can is opened read why = absurd (why read)
-edit-limited d next start end text new TooLong utf8 can is opened read why = (utf8, can, subst (λ (t : List ℕ). MAX_TEXT < length t) is why.1)
-edit-limited d next start end text new TooDeep utf8 can is opened read why =
-    (utf8, can, subst IsOpened is opened, subst (λ (t : List ℕ). LEVELS < levels d.edition (chars t)) is why.2)
-edit-limited d next start end text new NoMemory utf8 can is opened read why = tt
-edit-limited d next start end text new _ utf8 can is opened read why = absurd why
+    (d : State) (next start end : ℕ) (text new : List ℕ) (reason : Reason) (edition : Edition) → edition ≡ d.edition → IsUtf8 text
+    → can_edit d.text start end ≡ true → new ≡ edited d.text start end text → IsOpened new → IsUtf8 new → RefusesText edition new reason
+    → RefusesEdit d next start end text reason
+edit-limited d next start end text new NotUtf8 edition read_by utf8 can is opened read why = absurd (why read)
+edit-limited d next start end text new TooLong edition read_by utf8 can is opened read why = (utf8, can, subst (λ (t : List ℕ). MAX_TEXT < length t) is why.1)
+edit-limited d next start end text new TooDeep edition read_by utf8 can is opened read why =
+    (utf8, can, subst IsOpened is opened, subst (λ (e : Edition). LEVELS < levels e (chars (edited d.text start end text))) read_by (subst (λ (t : List ℕ). LEVELS < levels edition (chars t)) is why.2))
+edit-limited d next start end text new NoMemory edition read_by utf8 can is opened read why = tt
+edit-limited d next start end text new _ edition read_by utf8 can is opened read why = absurd why
 
 pub edit-failed :
     (d : State) (next start end : ℕ) (text new : List ℕ) (error : EditError) (reason : Reason) → reason ≡ of_edit error → IsUtf8 text

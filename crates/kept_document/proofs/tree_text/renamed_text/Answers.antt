@@ -2,7 +2,7 @@
 use Rattle.std.proofs.Common.{◌++◌, List, ℕ, ap, ◌∙◌}
 use Rattle.std.specs.Prelude.{string_bytes}
 use Rattle.rust_document.proofs.OpenTexts.{entered-steps, left-steps}
-use Rattle.kept_document.proofs.RenamedTexts.{begun-shown, entered-shown, left-shown, passed-shown}
+use Rattle.kept_document.proofs.RenamedTexts.{begun-shown, entered-shown, left-shown}
 use Rattle.kept_document.proofs.tree_text.renamed_text.Goals as goal
 
 pub elements-init : goal.elements-init
@@ -18,11 +18,6 @@ elements-preserved-in-Some-Node c =
     ap (λ (s : List ℕ). string_bytes c.elements.text ++ s)
     (entered-shown c.args.old.now c.args.new.now _ _ _ _ _ _ _ c.in-Some-Node.ensures.steps c.in-Some-Node.field-0-is c.children-children-in-Some-Node.ensures.children c.in_ok-push-in-Some-Node.ensures.items)
     ∙ c.elements.invariant
-
-pub elements-preserved-in-Some-Token : goal.elements-preserved-in-Some-Token
-elements-preserved-in-Some-Token c =
-    passed-shown c.args.old.now c.args.new.now c.in-Some-Token.token _ _ _ _ _ _ _ _ c.in-Some-Token.ensures.steps c.in-Some-Token.field-0-is c.in_ok-push_str-in-Some-Token.ensures.bytes c.leaf_text.ensures
-    c.elements.invariant
 
 pub elements-smaller : goal.elements-smaller
 elements-smaller c = left-steps _ _ _ _ c.in-None.ensures.steps.0 c.in-Some.ensures.items
