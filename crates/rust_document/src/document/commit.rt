@@ -197,6 +197,7 @@ impl Document {
         ensures accepted { OnOk result (verdict self.now editor.now ≡ Accepted) }
         ensures text { IfOk result (λ r. string_bytes r.text ≡ tree_text (rewritten editor.now)) }
         ensures green { IfOk result (λ r. IsNode (rewriting editor.now) r.tree.green) }
+        ensures changed { IfOk result (λ r. map ends_of r.tree.changed.items ≡ changed editor.now) }
         ensures says { IfOk result (λ r. Say r.tree.pieces.items (rewriting editor.now)) }
         ensures refused { IfErr result (λ error. (number : ℕ)
             → RefusesCommit (verdict self.now editor.now) number error) }
