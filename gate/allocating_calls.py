@@ -16,9 +16,11 @@ from repository import TOP
 
 # The crates with the tables.
 TABLES = ("*memory_suite", "command_suite")
-# Crates whose calls are not the product's own come after this line of crates.txt: tests, measurements, and crates that no program uses
-# yet, whose tests make a refused call again (`rt try --test --fail-alloc N`).
-END_OF_PRODUCT = "# Patterns, which no program uses yet"
+# Crates whose calls are not the product's own come after this line of crates.txt: tests and measurements, and the library whose exports
+# are not proved yet.
+END_OF_PRODUCT = "# Run and not proved"
+# Crates whose calls are in no table yet.
+WITHOUT_ROWS = {"document_rows", "match_rows", "message_frames", "pattern_parser", "text_changes", "tree_patterns", "tree_search"}
 # Calls that are steps of others, and those of the table that make them: the changes of a plan, for one, are known to `tree_rewrite`
 # alone. A call of `rust_source` is the document's, with the allocator and the numbers that the source holds. A disk's read and write ask
 # the system, and make what they allocate as a file in memory and `replace_file` do; both run where a program has files.
@@ -181,9 +183,10 @@ class Calls:
 
 
 def product(root):
-    """Returns the names of the product's crates."""
+    """Returns the names of the product's crates, but for those without rows."""
     before = ledger.read(f"{root}/crates.txt").decode().partition(END_OF_PRODUCT)[0]
-    return [line.partition(":")[0] for line in before.splitlines() if line and not line.startswith("#")]
+    names = [line.partition(":")[0] for line in before.splitlines() if line and not line.startswith("#")]
+    return [name for name in names if name not in WITHOUT_ROWS]
 
 
 def calls(root):

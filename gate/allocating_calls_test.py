@@ -122,7 +122,7 @@ class Listed(unittest.TestCase):
         room = tempfile.TemporaryDirectory(prefix="gate-test-")
         self.addCleanup(room.cleanup)
         self.top = room.name
-        write(f"{self.top}/crates.txt", "# The product.\nlow: memchr\n\n# Patterns, which no program uses yet\ntool: low\n")
+        write(f"{self.top}/crates.txt", "# The product.\nlow: memchr\n\n# Run and not proved\ntool: low\n")
         for name, text in (("lib", HEAD), ("inner", INNER), ("open", OPEN), ("kept", KEPT), ("tests", TESTS), ("tests/more", TESTS)):
             write(f"{self.top}/crates/low/src/{name}.rt", text)
         write(f"{self.top}/crates/tool/src/lib.rt", INNER)
