@@ -1,9 +1,9 @@
 """Proves the crates of a tree beside each other, each by 'rt ci NAME'.
 
-Each by one job: a second job has the prover compute again, in a process of its own, what the first has computed, and takes up to five
-times the processor seconds (DECISIONS). As many crates are proved at a time as there are cores, those with the longest chain of crates
-above them first, and the others take what that one leaves. What passes is kept on this machine, and the 'rt ci' that follows takes it
-from there.
+Each by one job, but for those of TWO_JOBS: a second job is a process of its own that computes again what the first has computed, and can
+take four times the processor seconds (DECISIONS). As many crates are proved at a time as there are cores, those with the longest chain of
+crates above them first, and the others take what that one leaves. What passes is kept on this machine, and the 'rt ci' that follows takes
+it from there.
 """
 import importlib.machinery
 import importlib.util
@@ -17,6 +17,8 @@ import ledger
 import repository
 from selection import CYCLES
 
+# The crates whose proofs take little more than half of the time by two jobs: they have many long functions and no large tables.
+TWO_JOBS = {"rust_productions", "grammar_reader"}
 # The bytes that a proof takes at most, but for those of CYCLES. Beside one of these only crates of fewer lines than this are proved.
 BYTES, LINES_BESIDE_A_CYCLE = 5_000_000_000, 12_000
 # What 'rt' says if it cannot keep proofs: then each crate would have all below it proved again.
@@ -106,7 +108,7 @@ class Lanes:
 
     def prove(self, name, yields):
         """Proves a crate. It yields if one that is being proved has a longer chain above it."""
-        with repository.start_rt(self.root, "ci", name, jobs=1, yields=yields) as ran:
+        with repository.start_rt(self.root, "ci", name, jobs=0 if name in TWO_JOBS else 1, yields=yields) as ran:
             lines = [*ran.stdout]
         with self.turn:
             # (of the crates below it says that they are kept)
