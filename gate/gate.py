@@ -30,6 +30,7 @@ import refusals
 import repository
 import trying
 import unproved
+import whole
 from repository import fail
 from selection import Selection
 
@@ -44,7 +45,7 @@ MODES = ("--all", "--edits", "--list")
 
 
 def run_ci(at, plan):
-    """Proves the crates in a folder (lanes.py), runs 'rt ci' there and writes the progress; LOG has all lines, MEASURED the weights.
+    """Proves the crates in a folder (lanes.py, whole.py), runs 'rt ci' there and writes the progress; LOG has all lines, MEASURED the weights.
     Returns the status of 'rt ci' and its lines; if a crate is not proved before, those of its proof."""
     lines = []
     os.makedirs(OUT, exist_ok=True)
@@ -58,22 +59,28 @@ def run_ci(at, plan):
                 state.line(line)
 
         with progress.Watch(state):
-            proofs = lanes.Lanes(at, plan, lanes.kept_crates(at), read)
-            proofs.run()
-            status = run_all(at, state, lines, log) if not proofs.failed else 1
+            proved, failed = ([], []) if whole.is_wanted() else prove_apart(at, plan, read)
+            status = run_all(at, state, lines, log) if not failed else 1
     used = resource.getrusage(resource.RUSAGE_CHILDREN)
     for line in state.summary(used.ru_utime + used.ru_stime):
         write(line)
     with open(MEASURED, "w", encoding="utf-8") as file:
         file.writelines(f"{row}\n" for row in state.measured())
-    if proofs.failed:
-        lines.append(f"{len(proofs.proved)} passed, {len(proofs.failed)} failed\n")
+    if failed:
+        lines.append(f"{len(proved)} passed, {len(failed)} failed\n")
     return status, lines or [""]
+
+
+def prove_apart(at, plan, read):
+    """Proves the crates in a folder, each by itself. Returns those that are proved, and those that are not."""
+    proofs = lanes.Lanes(at, plan, lanes.kept_crates(at), read)
+    proofs.run()
+    return proofs.proved, proofs.failed
 
 
 def run_all(at, state, lines, log):
     """Runs 'rt ci' in a folder and adds its lines. Returns its status."""
-    with repository.start_rt(at, "ci") as ran:
+    with whole.start(at) if whole.is_wanted() else repository.start_rt(at, "ci") as ran:
         for line in ran.stdout:
             log.write(line)
             # The last line is printed after the summary: one with counts waits for the next line.
