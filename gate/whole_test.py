@@ -142,7 +142,7 @@ class Order(Tree):
     def next(self, running, left, **needs):
         """Returns the crate that begins next beside those of `running`, in a memory of ten."""
         with mock.patch("progress.weights", return_value={}):
-            order = whole.Order(progress.Plan(self.root), 10, 4)
+            order = whole.Order(progress.Plan(self.root), 10 * whole.PART_OF_NEED, 4)
         tasks = {(name, "proof"): ([], needs[name], max(needs[name], 1), None) for name in needs}
         found = order.next(tasks, [(name, "proof") for name in left], [(name, "proof") for name in running], {})
         return found[0] if found else None
@@ -151,6 +151,11 @@ class Order(Tree):
         self.assertIsNone(self.next(["low"], ["top", "other"], low=6, top=8, other=3))
         self.assertEqual(self.next(["low"], ["top", "other"], low=6, top=8, other=2), "other")
         self.assertIsNone(self.next(["low", "app"], ["top", "other"], low=6, app=1, top=8, other=2))
+
+    def test_crate_in_a_cycle_takes_more_than_is_reckoned(self):
+        with mock.patch.object(whole, "CYCLES", {"top"}):
+            self.assertIsNone(self.next(["low"], ["top"], low=1, top=4))
+            self.assertEqual(self.next(["low"], ["top"], low=1, top=3), "top")
 
     def test_what_proves_nothing_needs_no_memory(self):
         self.assertEqual(self.next(["low"], ["top"], low=10, top=0), "top")
