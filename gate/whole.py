@@ -6,12 +6,14 @@ nothing, and gives a proof up to four jobs, which compute much of it several tim
 parts: the order of the tasks, and the proof of a crate, which a later run takes from ~/.cache/tevondimby if the crate, the libraries below
 it and the kit are the same, byte for byte. All else is the kit's.
 """
+import contextlib
 import hashlib
 import os
 import shutil
 import subprocess
 import sys
 import tempfile
+import time
 from concurrent.futures import FIRST_COMPLETED, ThreadPoolExecutor, wait
 
 import lanes
@@ -21,6 +23,8 @@ import repository
 from selection import CYCLES
 
 FOLDER = os.path.join(os.environ.get("XDG_CACHE_HOME") or os.path.expanduser("~/.cache"), "tevondimby")
+# Proofs that no run has taken for so long are dropped.
+SECONDS_KEPT = 14 * 24 * 3600
 # What of the free memory proofs may take, and what they take of the bytes that 'rt' reckons: of most under half, measured; of the crates in
 # CYCLES, which have two jobs, a sixth more.
 PART_OF_MEMORY, PART_OF_NEED, PART_IN_A_CYCLE = 0.9, 0.5, 1.17
@@ -73,7 +77,18 @@ class Store:
                     os.makedirs(f"{room}/kept", exist_ok=True)
                     shutil.copy2(f"{out}/{file}", f"{room}/kept/{file}")
             if os.path.isdir(f"{room}/kept") and not os.path.isdir(kept):
+                os.utime(f"{room}/kept")
                 os.rename(f"{room}/kept", kept)
+        self.drop_old()
+
+    def drop_old(self):
+        """Removes proofs that no run has taken for SECONDS_KEPT."""
+        with os.scandir(self.folder) as entries:
+            for kept in entries:
+                # (another run may have removed it)
+                with contextlib.suppress(OSError):
+                    if time.time() - kept.stat().st_mtime > SECONDS_KEPT:
+                        shutil.rmtree(kept.path, ignore_errors=True)
 
 
 class Order:

@@ -95,6 +95,16 @@ class Proofs(Tree):
         self.prove("app")
         self.assertEqual(sorted(os.listdir(f"{self.root}/crates/app/out")), ["app", "app.by-rattle"])
 
+    def test_proof_that_was_not_taken_for_long_is_dropped(self):
+        self.prove("low")
+        self.prove("other")
+        store = self.store()
+        for name in ("low", "other"):
+            os.utime(f"{self.kept}/{store.key(name)}", (0, 0))
+        self.assertTrue(store.give("low"))
+        self.prove("top")
+        self.assertEqual({*os.listdir(self.kept)}, {store.key("low"), store.key("top")})
+
     def test_failed_proof_is_not_kept(self):
         self.status = 1
         self.assertEqual([self.prove("low"), self.prove("low")], [1, 1])
