@@ -24,7 +24,7 @@ pub record Step : Type 0 where
   pub status : Option ℕ
 
 -- the messages about a text that a language has
-Language : Type 0
+abbrev pub Language : Type 0
 Language = Facts → List ℕ → List Shown
 
 abbrev pub silent : Session → Step
@@ -149,9 +149,12 @@ abbrev pub shuts_down : Session → Id → Step
 shuts_down s id =
     record { after = record { phase = Down; facts = s.facts; documents = s.documents }; replies = Done id ∷ []; status = None }
 
+abbrev pub told : Id → Open → Reply
+told id d = Told id d.version d.text
+
 abbrev pub tells : Session → Id → Option Open → Step
 tells s id None = refusal s id refusals.Document
-tells s id (Some d) = telling s (Told id d.version d.text)
+tells s id (Some d) = telling s (told id d)
 
 abbrev pub request_running : Session → Id → List ℕ → Option Data → Step
 request_running s id method params =

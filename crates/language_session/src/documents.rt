@@ -16,13 +16,15 @@ use session_words::{Facts, Reply};
 use std::alloc::{AllocError, Global};
 
 /// Returns the index of the document with this name.
-pub(crate) fn index_of(documents: &[OpenText], uri: &str) -> Option<usize>
+fn index_of(documents: &[OpenText], uri: &str) -> Option<usize>
     ensures within { IfSome result (λ i. i < length documents.now) }
     ensures found { IfSome result (λ i. (d : OpenText) → found uri.now (map open_of documents.now)
         ≡ Some (open_of (slice_index_or documents.now i d))) }
     ensures rest { IfSome result (λ i. without uri.now (map open_of documents.now)
         ≡ map open_of (remove documents.now i)) }
     ensures none { IfNone result (found uri.now (map open_of documents.now) ≡ None) }
+    ensures all { IfNone result
+        (without uri.now (map open_of documents.now) ≡ map open_of documents.now) }
 {
     for (i, document) in documents.iter().enumerate() {
         if document.uri.as_str() == uri {
@@ -32,11 +34,20 @@ pub(crate) fn index_of(documents: &[OpenText], uri: &str) -> Option<usize>
     None
 }
 
+/// Returns the document with this name.
+pub(crate) fn document_named<'a>(documents: &'a [OpenText], uri: &str) -> Option<&'a OpenText>
+    ensures { option_map (λ d. open_of d.now) result
+        ≡ found uri.now (map open_of documents.now) }
+{
+    let i = index_of(documents, uri)?;
+    Some(&documents[i])
+}
+
 /// Takes the document with this name out of a list.
 pub(crate) fn take(documents: &mut Vec<OpenText>, uri: &str) -> Option<OpenText>
     ensures found { option_map open_of result ≡ found uri.now (map open_of documents.old.items) }
-    ensures rest { IfSome result (λ _. map open_of documents.new.items
-        ≡ without uri.now (map open_of documents.old.items)) }
+    ensures rest { map open_of documents.new.items
+        ≡ without uri.now (map open_of documents.old.items) }
     ensures unchanged { IfNone result (documents.new.items ≡ documents.old.items) }
 {
     let i = index_of(documents.as_slice(), uri)?;

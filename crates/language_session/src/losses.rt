@@ -17,7 +17,11 @@ fn lost(alloc: Global, document: &OpenText, out: &mut Vec<u8>) -> Result<OpenTex
         (out.new.items ≡ out.old.items ++ written (loss (open_of document.now))) }
 {
     if document.text.is_some() {
-        tell(alloc, Reply::Lost(document.uri.as_str(), document.version), out)?;
+        tell(
+            alloc,
+            Reply::Lost(document.uri.as_str(), document.version),
+            out,
+        )?;
     }
     Ok(OpenText {
         uri: document.uri.clone()?,

@@ -12,7 +12,9 @@ use crate::losses::lose_all;
 use crate::session::{OpenText, Phase, Session};
 use crate::telling::tell;
 use serde_json::Value;
-use session_words::{Facts, Reply, changed_text, document_of, member_of, uri_of, version_of, word_of};
+use session_words::{
+    Facts, Reply, changed_text, document_of, member_of, uri_of, version_of, word_of,
+};
 use std::alloc::{AllocError, Global};
 
 /// The most bytes of a text.

@@ -5,11 +5,12 @@ ghost use Rattle.serde_json.specs.View.{view};
 ghost use Rattle.message_frames.specs.Messages.{message};
 ghost use Rattle.session_words.specs.Asked.{id_of};
 ghost use Rattle.session_words.specs.Members.{uri_of};
+ghost use Rattle.session_words.specs.Replies.{reply_body};
 ghost use Rattle.language_session.specs.Sessions.{found, open_of, session_of};
-ghost use Rattle.language_session.specs.Steps.{begins, refusal, request_fresh, request_in, request_running, tells, written};
+ghost use Rattle.language_session.specs.Steps.{begins, refusal, request_fresh, request_in, request_running, tells, told, written};
 
-use crate::documents::index_of;
-use crate::session::{Phase, Session};
+use crate::documents::document_named;
+use crate::session::{OpenText, Phase, Session};
 use crate::telling::tell;
 use serde_json::Value;
 use session_words::{Id, Refusal, Reply, facts_in, uri_of};
@@ -28,13 +29,13 @@ fn refuse(
     alloc: Global,
     session: &Session,
     request: Request<'_>,
-    refusal: Refusal,
+    why: Refusal,
     out: &mut Vec<u8>,
 ) -> Result<(), AllocError>
     ensures { OnOk result (out.new.items ≡ out.old.items
-        ++ written (refusal (session_of session.now) (id_of request.entry.id) refusal).replies) }
+        ++ written (refusal (session_of session.now) (id_of request.entry.id) why).replies) }
 {
-    tell(alloc, Reply::Refused(Some(request.id), refusal), out)
+    tell(alloc, Reply::Refused(Some(request.id), why), out)
 }
 
 /// Begins a session.
@@ -57,7 +58,34 @@ fn begin(
     tell(alloc, Reply::Begun(request.id, facts.encoding), out)
 }
 
+/// Returns the text of a document.
+fn text_of(document: &OpenText) -> Option<&str>
+    ensures { option_map (λ t. t.now) result ≡ (open_of document.now).text }
+{
+    match &document.text {
+        Some(text) => Some(text.as_str()),
+        None => None,
+    }
+}
+
 /// Tells the text of a document.
+fn tell_open(
+    alloc: Global,
+    id: Id<'_>,
+    document: &OpenText,
+    out: &mut Vec<u8>,
+) -> Result<(), AllocError>
+    ensures { OnOk result (out.new.items ≡ out.old.items
+        ++ message (reply_body (told (id_of id.entry) (open_of document.now)))) }
+{
+    tell(
+        alloc,
+        Reply::Told(id, document.version, text_of(document)),
+        out,
+    )
+}
+
+/// Tells the text of the document that a request names.
 fn tell_text(
     alloc: Global,
     session: &Session,
@@ -69,19 +97,13 @@ fn tell_text(
         (option_and_then (λ uri. found uri (session_of session.now).documents)
         (uri_of (option_map (λ v. view v.now) request.entry.params)))).replies) }
 {
-    let documents = session.documents.as_slice();
     let Some(uri) = uri_of(request.params) else {
         return refuse(alloc, session, request, Refusal::Document, out);
     };
-    let Some(i) = index_of(documents, uri) else {
-        return refuse(alloc, session, request, Refusal::Document, out);
-    };
-    let document = &documents[i];
-    let text = match &document.text {
-        Some(text) => Some(text.as_str()),
-        None => None,
-    };
-    tell(alloc, Reply::Told(request.id, document.version, text), out)
+    match document_named(session.documents.as_slice(), uri) {
+        Some(document) => tell_open(alloc, request.id, document, out),
+        None => refuse(alloc, session, request, Refusal::Document, out),
+    }
 }
 
 /// Answers a request in a session that has begun.
