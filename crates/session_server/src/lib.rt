@@ -1,0 +1,8 @@
+//! A server of the Language Server Protocol over a reader and a writer.
+#![tactic(auto)]
+
+mod frames;
+mod server;
+mod write;
+
+pub use server::serve;

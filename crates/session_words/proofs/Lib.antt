@@ -1,0 +1,4 @@
+mod Bodies
+mod Items
+mod EscapeLemmas
+mod NoFloat
