@@ -5,6 +5,7 @@ use Rattle.parser_input.specs.declared.edition.Edition.{Edition}
 use Rattle.ra_parser.specs.declared.grammar.Grammar.{Grammar}
 use Rattle.kept_document.specs.Calls.{IsFresh, RefusesOpening}
 use Rattle.kept_document.specs.Exports.{HasReason, IsUncommitted, KeepsText, RefusesClosed, RefusesOpen}
+use Rattle.kept_document.specs.Commits.{RefusesCommit}
 use Rattle.kept_document.specs.Reasons.{code_of}
 use Rattle.kept_document.specs.declared.kept.Kept.{Kept}
 use Rattle.kept_document.specs.declared.reason.Reason.{Reason}
@@ -51,3 +52,8 @@ pub open-refuses :
     (d : Option Kept) (kept : Kept) (Refuses : Kept → Reason → Type 0) (code : ℕ) (reason : Reason) → d ≡ Some kept → code ≡ code_of reason
     → Refuses kept reason → HasReason (RefusesOpen d Refuses) code
 open-refuses d kept Refuses code reason is told holds = rw is (record { reason = reason; is = told; holds = holds })
+
+pub uncommitted :
+    (d e : Option Kept) (old new : Kept) (command : List ℕ) (code : ℕ) (reason : Reason) → d ≡ Some old → e ≡ Some new → code ≡ code_of reason
+    → RefusesCommit command old new reason → IsUncommitted d e command code
+uncommitted d e old new command code reason was is told why = rw (was, is) (record { reason = reason; is = told; holds = why })

@@ -92,7 +92,7 @@ impl Kept {
     /// - The reason of the [`Refusal`](document_requests::Refusal) of the command.
     ///
     /// On error, the text is unchanged, and tree numbers may be used up.
-    pub fn commit(&mut self, alloc: Global, command: &[u8]) -> Result<(), Reason>
+    pub(crate) fn commit(&mut self, alloc: Global, command: &[u8]) -> Result<(), Reason>
         ensures is_text { OnOk result (IsUtf8 command.now) }
         ensures done { OnOk result
             (IsCommitted (commit_in self.old.document.grammar command.now) self.old self.new) }

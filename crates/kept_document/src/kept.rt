@@ -98,7 +98,12 @@ impl Kept {
     /// - [`Reason::TooLong`] if the text has more than [`MAX_TEXT`] bytes.
     /// - [`Reason::TooDeep`] if the text has more than [`LEVELS`](text_levels::LEVELS) levels.
     /// - [`Reason::NoMemory`] if an allocation fails.
-    pub fn open(alloc: Global, text: &[u8], edition: u32, grammar: u32) -> Result<Kept, Reason>
+    pub(crate) fn open(
+        alloc: Global,
+        text: &[u8],
+        edition: u32,
+        grammar: u32,
+    ) -> Result<Kept, Reason>
         ensures opened { IfOk result (IsFresh (edition_of edition) (grammar_of grammar) text.now) }
         ensures refused { IfErr result (RefusesOpening (edition_of edition) (grammar_of grammar)
             text.now) }
@@ -148,7 +153,7 @@ impl Kept {
     /// - [`Reason::NoMemory`] if an allocation fails.
     ///
     /// On error, nothing is changed.
-    pub fn edit(
+    pub(crate) fn edit(
         &mut self,
         alloc: Global,
         start: usize,

@@ -37,7 +37,7 @@ impl Kept {
     /// - The reason of the [`RenameError`](renamer::RenameError).
     ///
     /// On error, the text is unchanged, and a tree number may be used up.
-    pub fn rename(&mut self, alloc: Global, old: &[u8], new: &[u8]) -> Result<(), Reason>
+    pub(crate) fn rename(&mut self, alloc: Global, old: &[u8], new: &[u8]) -> Result<(), Reason>
         ensures text { OnOk result (self.new.document.text
             ≡ renamed_text old.now new.now (present self.old.document)) }
         ensures renamed { OnOk result (IsRenamed self.old.document old.now new.now) }
