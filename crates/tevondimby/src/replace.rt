@@ -10,6 +10,7 @@ use command_report::Outcome;
 use file_target::{Contents, Target};
 use line_index::{Encoding, LineCol, LineIndex};
 use parser_input::Edition;
+use pattern_parser::may_match;
 use rust_source::Source as Opened;
 use source_tools::{
     Dialect, FileChange, FileError, Source, WriteFault, encode, text_of, write_changes,
@@ -165,6 +166,9 @@ fn replaced(
         let _ = eprintln!(rt; "tevondimby: {path}: {error}; no file is written");
         return Ok(Changed::Refused);
     };
+    if !may_match(alloc, &rule.pattern, text.as_bytes())? {
+        return Ok(Changed::Stays);
+    }
     let mut opened = match Opened::open_by(alloc, edition, grammar, text) {
         Ok(opened) => opened,
         Err(error) => {
