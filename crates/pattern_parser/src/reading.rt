@@ -88,7 +88,7 @@ pub fn read_as(
     }
 }
 
-/// Returns the node that a text is as a fragment, if it reads so without messages, in a tree of its own.
+/// Returns the node that a text is as a fragment, if it reads so without messages, in a new tree.
 ///
 /// # Errors
 ///

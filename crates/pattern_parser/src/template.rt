@@ -1,4 +1,4 @@
-//! Texts that are read as templates: what is put in place of a match.
+//! Texts that are read as templates, which replace matches.
 
 use crate::error::PatternError;
 use crate::parse::{Parts, Spelled, parts_of, pattern_as};
@@ -24,7 +24,7 @@ pub enum TemplatePiece {
 #[derive(Drop)]
 pub struct Hole {
     pub name: String,
-    /// What stands for it in a text: an identifier, or an element of its list spelled with one.
+    /// Its stand-in in a text: an identifier, or an element of its list spelled with one.
     pub word: String,
     pub is_sequence: bool,
     pub place: Place,

@@ -105,7 +105,7 @@ refused, unless `--skip` leaves these matches, or `--allow-messages` is given; t
 Without `--write` nothing is written, and a diff is printed, as by `rename`. The exit status is 0, or 1 if matches are left, \
 or if with `--check` a file would change, or 2 after a fault.";
 
-const COMMENTS: &str = "What becomes of a comment that no part of TEMPLATE keeps";
+const COMMENTS: &str = "How a comment is treated that no part of TEMPLATE keeps";
 
 const AS: &str = "What the pattern is read as; else the first of these that it reads as";
 

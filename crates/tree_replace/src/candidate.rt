@@ -1,4 +1,4 @@
-//! The matches of a text, with what is put in their place.
+//! The matches of a text, with the texts that replace them.
 
 use crate::comments::lost_comments;
 use crate::error::Reason;
@@ -8,7 +8,7 @@ use rust_source::Source;
 use std::alloc::{AllocError, Global};
 use tree_search::{Match, search};
 
-/// A match, and what is put in its place.
+/// A match, and the text that replaces it.
 #[derive(Drop)]
 pub struct Candidate {
     pub found: Match,

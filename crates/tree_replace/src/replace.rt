@@ -18,7 +18,7 @@ use std::alloc::{AllocError, Global};
 use syntax_tree::{SyntaxElement, SyntaxNode};
 use tree_patterns::Fragment;
 
-/// What becomes of comments that no part of the template keeps.
+/// How a comment is treated that no part of the template keeps.
 #[derive(Clone, Copy, Debug, PartialEq, Eq)]
 pub enum Comments {
     /// The match is refused.

@@ -135,7 +135,7 @@ fn has_comment(template: &Template) -> bool {
     })
 }
 
-/// Returns the element of a list, if it has so many.
+/// Returns the element of a list at an index, if there is one.
 fn at<T: Copy>(items: &[T], number: usize) -> Option<T> {
     if number < items.len() {
         Some(items[number])
