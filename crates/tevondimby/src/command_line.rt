@@ -102,8 +102,8 @@ what a match binds are replaced, too. A match with a comment that no part of TEM
 drop` is given, and so is one that reads otherwise with parentheses, too. A file with such a match, or with messages, is \
 refused, unless `--skip` leaves these matches, or `--allow-messages` is given; then no file is written.
 
-Without `--write` nothing is written, and a diff is printed, as by `rename`. The exit status is 0, or 1 if matches are left, \
-or if with `--check` a file would change, or 2 after a fault.";
+Without `--write` nothing is written, and a diff is printed, as by `rename`; of standard input, `-`, the new text is \
+printed. The exit status is 0, or 1 if matches are left, or if with `--check` a file would change, or 2 after a fault.";
 
 const COMMENTS: &str = "How a comment is treated that no part of TEMPLATE keeps";
 

@@ -2,9 +2,10 @@
 
 use crate::diffs::{print_diffs, print_paths};
 use crate::inputs::{Inputs, STANDARD_INPUT};
+use crate::output::is_closed;
 use crate::report::{report_unwritten, report_written, usage_error};
 use crate::run::files_of;
-use anyhow::Result;
+use anyhow::{Result, anyhow};
 use clap::ArgMatches;
 use command_report::Outcome;
 use file_target::{Contents, Target};
@@ -16,6 +17,8 @@ use source_tools::{
     Dialect, FileChange, FileError, Source, WriteFault, encode, text_of, write_changes,
 };
 use std::alloc::{AllocError, Global};
+use std::io::Write;
+use std::mem;
 use tree_patterns::Fragment;
 use tree_replace::{
     Comments, Options, Reason, Refusal, ReplaceError, Replaced, Rule, RuleError, replace,
@@ -134,8 +137,8 @@ fn report_error(
 /// What became of a file.
 #[derive(Drop)]
 enum Changed {
-    /// Nothing is changed.
-    Stays,
+    /// Its bytes stay.
+    Stays(Vec<u8>),
     To(FileChange),
     /// It is not changed, and standard error says why.
     Refused,
@@ -167,7 +170,7 @@ fn replaced(
         return Ok(Changed::Refused);
     };
     if !may_match(alloc, &rule.pattern, text.as_bytes())? {
-        return Ok(Changed::Stays);
+        return Ok(Changed::Stays(bytes));
     }
     let mut opened = match Opened::open_by(alloc, edition, grammar, text) {
         Ok(opened) => opened,
@@ -189,11 +192,11 @@ fn replaced(
     report_refusals(rt, path, text, stays.as_slice())?;
     *skipped = skipped.saturating_add(stays.len());
     if count == 0 {
-        return Ok(Changed::Stays);
+        return Ok(Changed::Stays(bytes));
     }
     let new = encode(alloc, bytes.as_slice(), opened.text())?;
     if new.as_slice() == bytes.as_slice() {
-        return Ok(Changed::Stays);
+        return Ok(Changed::Stays(bytes));
     }
     let path = source.path.clone()?;
     Ok(Changed::To(FileChange {
@@ -210,11 +213,19 @@ fn report_rule(rt: &HostRuntime, source: &Source, error: RuleError) {
     let _ = eprintln!(rt; "tevondimby: {path}: {error}, by the edition of this file");
 }
 
+/// Returns the new bytes of a change.
+fn new_bytes(alloc: Global, change: FileChange) -> Vec<u8> {
+    let mut change = change;
+    mem::replace(&mut change.new, Vec::new(alloc))
+}
+
 /// The changes of files, and how many matches stay.
 #[derive(Drop)]
 struct Plan {
     changes: Vec<FileChange>,
     skipped: usize,
+    /// The new bytes of standard input, if that is read.
+    input: Option<Vec<u8>>,
 }
 
 /// Plans the changes of files. `None` if one is refused, which standard error names.
@@ -227,6 +238,7 @@ fn plan(
     let alloc = rt.alloc();
     let mut changes = Vec::new(alloc);
     let mut skipped = 0usize;
+    let mut input = None;
     for source in sources {
         let path = source.path.as_str();
         let index = request.reading(alloc, source.dialect)?;
@@ -249,12 +261,18 @@ fn plan(
         };
         let file = File { source, contents };
         match replaced(rt, rule, request.options, file, &mut skipped)? {
-            Changed::Stays => {}
+            Changed::Stays(bytes) if path == STANDARD_INPUT => input = Some(bytes),
+            Changed::Stays(_) => {}
+            Changed::To(change) if path == STANDARD_INPUT => input = Some(new_bytes(alloc, change)),
             Changed::To(change) => changes.push(change)?,
             Changed::Refused => return Ok(None),
         }
     }
-    Ok(Some(Plan { changes, skipped }))
+    Ok(Some(Plan {
+        changes,
+        skipped,
+        input,
+    }))
 }
 
 /// Writes the files.
@@ -280,6 +298,15 @@ fn write(
     }
 }
 
+/// Prints the new text of standard input.
+fn print_text(rt: &HostRuntime, text: &[u8]) -> Result<()> {
+    match rt.stdout().write_all(text) {
+        Ok(()) => Ok(()),
+        Err(error) if is_closed(&error) => Ok(()),
+        Err(error) => Err(anyhow!("the output could not be written: {error}")),
+    }
+}
+
 /// Replaces the matches of a pattern in files, and writes them or prints a diff.
 pub(crate) fn replace_files(rt: &HostRuntime, matches: &ArgMatches<'_>) -> Result<Outcome> {
     let alloc = rt.alloc();
@@ -288,21 +315,28 @@ pub(crate) fn replace_files(rt: &HostRuntime, matches: &ArgMatches<'_>) -> Resul
         return Ok(Outcome::Fault);
     }
     let is_written = matches.get_flag("write");
-    if is_written
-        && list
-            .sources
-            .iter()
-            .any(|source| source.path.as_str() == STANDARD_INPUT)
-    {
+    let has_input = list
+        .sources
+        .iter()
+        .any(|source| source.path.as_str() == STANDARD_INPUT);
+    let is_other = is_written || matches.get_flag("check") || matches.get_flag("diff");
+    if has_input && (is_other || list.sources.len() > 1) {
         return Ok(usage_error(
             rt,
-            "`-` is standard input, which is not written: leave out --write",
+            "`-` is standard input, whose new text is printed: no other FILE and no --write, --check or --diff goes with it",
         ));
     }
     let mut inputs = Inputs::new(rt);
     let mut request = Request::new(alloc, matches);
     let planned = plan(rt, &inputs, &mut request, list.sources.as_slice())?;
-    let Some(Plan { changes, skipped }) = planned else {
+    let Some(
+        Plan {
+            changes,
+            skipped,
+            input,
+        },
+    ) = planned
+    else {
         return Ok(Outcome::Fault);
     };
     let left = if skipped > 0 {
@@ -310,6 +344,10 @@ pub(crate) fn replace_files(rt: &HostRuntime, matches: &ArgMatches<'_>) -> Resul
     } else {
         Outcome::Done
     };
+    if let Some(text) = input {
+        print_text(rt, text.as_slice())?;
+        return Ok(left);
+    }
     if is_written {
         let outcome = write(rt, &mut inputs, changes, matches.get_flag("quiet"));
         return Ok(outcome.and(left));
