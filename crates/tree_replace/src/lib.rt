@@ -5,20 +5,20 @@
 //! text is accepted only if it reads as the tree with these replacements.
 #![tactic(auto)]
 
-pub mod asked;
-pub mod candidate;
-pub mod comments;
-pub mod error;
-pub mod fillings;
-pub mod frames;
-pub mod indents;
-pub mod instance;
-pub mod replace;
-pub mod rule;
-pub mod same;
-pub mod spots;
-pub mod template_text;
-pub mod texts;
+mod asked;
+mod candidate;
+mod comments;
+mod error;
+mod fillings;
+mod frames;
+mod indents;
+mod instance;
+mod replace;
+mod rule;
+mod same;
+mod spots;
+mod template_text;
+mod texts;
 
 pub use error::{Reason, Refusal, ReplaceError, RuleError};
 pub use replace::{Comments, Options, Replaced, replace};
