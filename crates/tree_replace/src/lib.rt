@@ -13,7 +13,7 @@ mod fillings;
 mod frames;
 mod indents;
 mod instance;
-mod replace;
+mod replacing;
 mod rule;
 mod same;
 mod spots;
@@ -21,5 +21,5 @@ mod template_text;
 mod texts;
 
 pub use error::{Reason, Refusal, ReplaceError, RuleError};
-pub use replace::{Comments, Options, Replaced, replace};
+pub use replacing::{Comments, Options, Replaced, replace};
 pub use rule::Rule;
