@@ -133,7 +133,8 @@ pub fn parse_pattern(
         let Some(read) = read else {
             continue;
         };
-        match read.tree {
+        let Spelled { tree, spellings: _ } = read;
+        match tree {
             NodeOrToken::Token(_) => return Err(PatternError::OnlyMetavariable),
             NodeOrToken::Node(tree) => {
                 if has_two_sequences(&tree.as_ref()) {

@@ -27,9 +27,9 @@ replaced-by true b all cs h = absurd (let z : Foreign ≡ Recorded cs = h in cc)
 replaced-by false true all cs h = absurd (let z : BadTarget ≡ Recorded cs = h in cc)
 replaced-by false false all cs h = let z : Recorded all ≡ Recorded cs = h in cc
 
-pub one-more : (before after : Editing) (x : Element) (new : List Element) → OnlyReplaces before → replacing before x new ≡ Recorded after.changes
+pub one_more : (before after : Editing) (x : Element) (new : List Element) → OnlyReplaces before → replacing before x new ≡ Recorded after.changes
     → OnlyReplaces after
-one-more before after x new only is =
+one_more before after x new only is =
     let all : List Change = with_single before.changes x.place.up new in
     let same : after.changes ≡ all = replaced-by (not (is_target before.top x)) (is_root x.place.up && not (is_one_node new)) all after.changes is in
     subst (All ReplacesOne) (sym same) (all-single before.changes x.place.up new only)
