@@ -2,11 +2,12 @@
 _tevondimby() {
     local word=${COMP_WORDS[COMP_CWORD]} command=${COMP_WORDS[1]}
     if [ "$COMP_CWORD" -eq 1 ]; then
-        COMPREPLY=($(compgen -W "check tokens tree search rename rewrite serve help --help --version" -- "$word"))
+        COMPREPLY=($(compgen -W "check tokens tree search rename replace rewrite serve help --help --version" -- "$word"))
         return
     fi
     case ${COMP_WORDS[COMP_CWORD-1]} in
         --edition) COMPREPLY=($(compgen -W "2015 2018 2021 2024 next" -- "$word")); return ;;
+        --comments) COMPREPLY=($(compgen -W "refuse drop" -- "$word")); return ;;
         --as) COMPREPLY=($(compgen -W "expression type pattern statement item" -- "$word")); return ;;
         --grammar) COMPREPLY=($(compgen -W "whole profile" -- "$word")); return ;;
     esac
@@ -15,6 +16,7 @@ _tevondimby() {
         check|tokens|tree) options="--json --edition --grammar --help" ;;
         search) options="--as --edition --grammar --help" ;;
         rename) options="--write --diff --check --quiet --merge --edition --grammar --help" ;;
+        replace) options="--write --diff --check --quiet --as --comments --skip --allow-messages --edition --grammar --help" ;;
         rewrite) options="--write --diff --check --quiet --allow-messages --edition --grammar --help" ;;
     esac
     case $word in

@@ -13,7 +13,11 @@ pub mod pieces;
 pub mod reading;
 pub mod spelling;
 pub mod stand_ins;
+pub mod template;
+pub mod words;
 
 pub use error::PatternError;
 pub use parse::{other_fragments, parse_pattern};
-pub use reading::Dialect;
+pub use reading::{Dialect, read_node};
+pub use template::{Hole, Template, TemplatePiece, TemplateTree, parse_template};
+pub use words::may_match;

@@ -15,6 +15,13 @@ use tree_patterns::fragment::FRAGMENTS;
 use tree_patterns::leaves::leaves_of;
 use tree_patterns::{Fragment, Pattern};
 
+/// A text with metavariables that was read, and how they were spelled.
+#[derive(Drop)]
+pub(crate) struct Spelled<T> {
+    pub tree: T,
+    pub spellings: Vec<Spelling>,
+}
+
 /// Returns the tree that a text with metavariables is as a fragment, if it reads so: first with each
 /// spelled as an identifier, then with sequences spelled as elements of their lists.
 fn read_pattern(
@@ -23,15 +30,17 @@ fn read_pattern(
     fragment: Fragment,
     pieces: &[Piece<'_>],
     stand_ins: &[StandIn],
-) -> Result<Option<GreenNode>, PatternError> {
+) -> Result<Option<Spelled<GreenNode>>, PatternError> {
     let mut names = Vec::new(alloc);
     for _ in stand_ins {
         names.push(Spelling::Name)?;
     }
     let text = spelled_text(alloc, pieces, stand_ins, names.as_slice())?;
-    let first = read_as(alloc, dialect, fragment, text.as_str())?;
-    if first.is_some() {
-        return Ok(first);
+    if let Some(tree) = read_as(alloc, dialect, fragment, text.as_str())? {
+        return Ok(Some(Spelled {
+            tree,
+            spellings: names,
+        }));
     }
     let before = before(fragment);
     let after = after(fragment);
@@ -41,20 +50,27 @@ fn read_pattern(
     let root = document.root().cursor().green().as_ref();
     let spelled = spellings(alloc, stand_ins, &root)?;
     let text = spelled_text(alloc, pieces, stand_ins, spelled.as_slice())?;
-    read_as(alloc, dialect, fragment, text.as_str())
+    match read_as(alloc, dialect, fragment, text.as_str())? {
+        Some(tree) => Ok(Some(Spelled {
+            tree,
+            spellings: spelled,
+        })),
+        None => Ok(None),
+    }
 }
 
 /// Returns the tree of a pattern that is read as a fragment, if it reads so.
-fn pattern_as(
+pub(crate) fn pattern_as(
     alloc: Global,
     dialect: Dialect,
     fragment: Fragment,
     pieces: &[Piece<'_>],
     stand_ins: &[StandIn],
-) -> Result<Option<GreenElement>, PatternError> {
-    let Some(tree) = read_pattern(alloc, dialect, fragment, pieces, stand_ins)? else {
+) -> Result<Option<Spelled<GreenElement>>, PatternError> {
+    let Some(read) = read_pattern(alloc, dialect, fragment, pieces, stand_ins)? else {
         return Ok(None);
     };
+    let Spelled { tree, spellings } = read;
     let element = compiled(alloc, stand_ins, &tree.as_ref())?;
     let places = match &element {
         NodeOrToken::Node(node) => count_places(alloc, &node.as_ref())?,
@@ -66,18 +82,24 @@ fn pattern_as(
     if is_mixed(stand_ins) {
         return Err(PatternError::Mixed);
     }
-    Ok(Some(element))
+    Ok(Some(Spelled {
+        tree: element,
+        spellings,
+    }))
 }
 
 /// A text with metavariables, taken apart.
 #[derive(Drop)]
-struct Parts<'a> {
-    pieces: Vec<Piece<'a>>,
-    stand_ins: Vec<StandIn>,
+pub(crate) struct Parts<'a> {
+    pub pieces: Vec<Piece<'a>>,
+    pub stand_ins: Vec<StandIn>,
 }
 
 /// Takes apart the text of an opened document.
-fn parts_of<'a>(alloc: Global, document: &'a Document) -> Result<Parts<'a>, PatternError> {
+pub(crate) fn parts_of<'a>(
+    alloc: Global,
+    document: &'a Document,
+) -> Result<Parts<'a>, PatternError> {
     let root = document.root().cursor().green().as_ref();
     let leaves = leaves_of(alloc, &root)?;
     let Some(pieces) = pieces_of(alloc, leaves)? else {
@@ -108,10 +130,13 @@ pub fn parse_pattern(
             }
         }
         let read = pattern_as(alloc, dialect, one, pieces.as_slice(), stand_ins.as_slice())?;
-        match read {
-            None => {}
-            Some(NodeOrToken::Token(_)) => return Err(PatternError::OnlyMetavariable),
-            Some(NodeOrToken::Node(tree)) => {
+        let Some(read) = read else {
+            continue;
+        };
+        let Spelled { tree, spellings: _ } = read;
+        match tree {
+            NodeOrToken::Token(_) => return Err(PatternError::OnlyMetavariable),
+            NodeOrToken::Node(tree) => {
                 if has_two_sequences(&tree.as_ref()) {
                     return Err(PatternError::TwoSequences);
                 }

@@ -7,7 +7,7 @@ use ra_parser::Grammar;
 use rowan_green::{GreenNode, GreenNodeRef, NodeOrToken};
 use rust_document::{Document, OpenError};
 use std::alloc::Global;
-use syntax_tree::TreeIds;
+use syntax_tree::{SyntaxNode, TreeIds};
 use tree_patterns::Fragment;
 
 /// The Rust that texts are read as.
@@ -86,4 +86,54 @@ pub fn read_as(
         Some(node) if has_kind(fragment, node.kind().0) => Ok(Some(node.to_owned()?)),
         _ => Ok(None),
     }
+}
+
+/// Returns the node that a text is as a fragment, if it reads so without messages, in a new tree.
+///
+/// # Errors
+///
+/// - [`PatternError::TooLong`] if the text is past the limit of a document.
+/// - [`PatternError::NoMemory`] if an allocation fails.
+pub fn read_node(
+    alloc: Global,
+    dialect: Dialect,
+    fragment: Fragment,
+    text: &str,
+) -> Result<Option<SyntaxNode>, PatternError> {
+    let before = before(fragment);
+    let after = after(fragment);
+    let found = node_between(alloc, dialect, before, text, after)?;
+    Ok(match found {
+        Some(node) if has_kind(fragment, node.cursor().green().kind().0) => Some(node),
+        _ => None,
+    })
+}
+
+/// Returns the outermost node that a text is between two others, if they read so without messages.
+///
+/// # Errors
+///
+/// As of [`read_node`].
+pub fn node_between(
+    alloc: Global,
+    dialect: Dialect,
+    before: &str,
+    text: &str,
+    after: &str,
+) -> Result<Option<SyntaxNode>, PatternError> {
+    let whole = format!(in alloc; "{before}{text}{after}")?;
+    let document = opened(alloc, dialect, whole.as_str())?;
+    if !document.errors().is_empty() {
+        return Ok(None);
+    }
+    let start = size_of(before)?;
+    let end = start.saturating_add(size_of(text)?);
+    for node in document.root().descendants(alloc)? {
+        let node = node?;
+        let range = node.text_range();
+        if range.start().0 == start && range.end().0 == end {
+            return Ok(Some(node));
+        }
+    }
+    Ok(None)
 }

@@ -68,7 +68,11 @@ pub fn stand_ins(
 }
 
 /// Adds a stand-in as it is spelled.
-fn push_spelled(text: &mut String, word: &str, spelling: Spelling) -> Result<(), AllocError> {
+pub(crate) fn push_spelled(
+    text: &mut String,
+    word: &str,
+    spelling: Spelling,
+) -> Result<(), AllocError> {
     text.push_str(word)?;
     match spelling {
         Spelling::Name => {}

@@ -4,7 +4,7 @@ use clap::{Arg, ArgAction, Command};
 use std::alloc::{AllocError, Global};
 
 const ABOUT: &str =
-    "Reads Rust source files: their messages, tokens and trees; renames in them and rewrites them";
+    "Reads Rust source files: their messages, tokens and trees; searches them; renames and replaces in them and rewrites them";
 
 const AFTER: &str = "\
 A FILE is a path, `-` for standard input, or a directory for the `.rs` files in it, in order of name; \
@@ -89,6 +89,24 @@ match `pub fn f() {}`. Matches are not looked for inside macro calls, nor in wha
 A row has the path, line and column of a match, and its first line. The exit status is 0 if there is a match, 1 if there is \
 none, and 2 after a fault: a file that cannot be read, or whose edition does not read the pattern, is left out.";
 
+const REPLACE: &str = "\
+Replaces the matches of PATTERN by TEMPLATE, in which `$a` and `$$$a` stand for what they match. PATTERN is read as by \
+`search`, TEMPLATE as the same fragment.
+
+    tevondimby replace '$a.unwrap()' '$a?' src
+    tevondimby replace 'max($a, $b)' '$a.max($b)' src --write
+
+The new text reads as the tree with these replacements: what takes the place of a match, and what it binds, is in \
+parentheses where the text would read otherwise without them, or where rustc asks for them, and nowhere else. Matches in \
+what a match binds are replaced, too. A match with a comment that no part of TEMPLATE keeps is refused, unless `--comments \
+drop` is given, and so is one that reads otherwise with parentheses, too. A file with such a match, or with messages, is \
+refused, unless `--skip` leaves these matches, or `--allow-messages` is given; then no file is written.
+
+Without `--write` nothing is written, and a diff is printed, as by `rename`; of standard input, `-`, the new text is \
+printed. The exit status is 0, or 1 if matches are left, or if with `--check` a file would change, or 2 after a fault.";
+
+const COMMENTS: &str = "How a comment is treated that no part of TEMPLATE keeps";
+
 const AS: &str = "What the pattern is read as; else the first of these that it reads as";
 
 fn edition<'a>(alloc: Global) -> Arg<'a> {
@@ -170,8 +188,8 @@ fn with_names<'a>(alloc: Global, command: Command<'a>) -> Result<Command<'a>, Al
     command.arg(merge)?.arg(old)?.arg(new)
 }
 
-/// Returns the command that searches.
-fn searching<'a>(alloc: Global) -> Result<Command<'a>, AllocError> {
+/// Adds a pattern, and what it is read as.
+fn with_pattern<'a>(alloc: Global, command: Command<'a>) -> Result<Command<'a>, AllocError> {
     let fragment = Arg::new(alloc, "as")
         .long("as")
         .value_name("FRAGMENT")
@@ -184,11 +202,42 @@ fn searching<'a>(alloc: Global) -> Result<Command<'a>, AllocError> {
         "PATTERN",
         "A fragment of Rust with places",
     );
+    command.arg(fragment)?.arg(pattern)
+}
+
+/// Returns the command that searches.
+fn searching<'a>(alloc: Global) -> Result<Command<'a>, AllocError> {
     let command = Command::new(alloc, "search")
         .about("Prints the matches of a pattern")
-        .long_about(SEARCH)
-        .arg(fragment)?
-        .arg(pattern)?;
+        .long_about(SEARCH);
+    let command = with_pattern(alloc, command)?;
+    with_dialect(alloc, command)?.arg(files(alloc))
+}
+
+/// Returns the command that replaces matches.
+fn replacing<'a>(alloc: Global) -> Result<Command<'a>, AllocError> {
+    let comments = Arg::new(alloc, "comments")
+        .long("comments")
+        .value_name("HOW")
+        .value_parser(["refuse", "drop"].as_slice())
+        .help(COMMENTS)
+        .action(ArgAction::Set);
+    let skip = flag(alloc, "skip", "Leaves matches that cannot be replaced");
+    let messages = flag(alloc, "allow-messages", "The texts may have messages");
+    let template = word(
+        alloc,
+        "template",
+        "TEMPLATE",
+        "What takes the place of a match",
+    );
+    let command = Command::new(alloc, "replace")
+        .about("Replaces the matches of a pattern")
+        .long_about(REPLACE);
+    let command = with_flags(alloc, command)?
+        .arg(comments)?
+        .arg(skip)?
+        .arg(messages)?;
+    let command = with_pattern(alloc, command)?.arg(template)?;
     with_dialect(alloc, command)?.arg(files(alloc))
 }
 
@@ -255,6 +304,7 @@ pub(crate) fn command<'a>(alloc: Global) -> Result<Command<'a>, AllocError> {
     let command = command.subcommand(tree)?.subcommand(searching(alloc)?)?;
     command
         .subcommand(renaming(alloc)?)?
+        .subcommand(replacing(alloc)?)?
         .subcommand(rewriting(alloc)?)?
         .subcommand(serving(alloc))
 }

@@ -1,5 +1,5 @@
 //! The command `tevondimby`: messages, tokens and trees of source files, matches of patterns in them,
-//! renamings and rewrites of them, and answers to requests.
+//! renamings, replacements and rewrites of them, and answers to requests.
 #![tactic(auto)]
 
 mod advice;
@@ -12,6 +12,7 @@ mod inputs;
 mod output;
 mod reasons;
 mod rename;
+mod replace;
 mod report;
 mod rewrite;
 mod run;

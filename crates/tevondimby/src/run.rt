@@ -4,6 +4,7 @@ use crate::command_line::command;
 use crate::dialects::Dialects;
 use crate::output::is_closed;
 use crate::rename::rename;
+use crate::replace::replace_files;
 use crate::rewrite::rewrite;
 use crate::search::search;
 use crate::serve::serve;
@@ -69,6 +70,7 @@ pub(crate) fn run(rt: &HostRuntime) -> Result<Outcome> {
         Some(("tree", matches)) => view(rt, View::Tree(format_of(matches)), matches),
         Some(("search", matches)) => search(rt, matches),
         Some(("rename", matches)) => rename(rt, matches),
+        Some(("replace", matches)) => replace_files(rt, matches),
         Some(("rewrite", matches)) => rewrite(rt, matches),
         Some(("serve", _)) => serve(rt),
         _ => Ok(Outcome::Fault),

@@ -10,7 +10,7 @@ use command_report::{Outcome, search_outcome};
 use file_target::Target;
 use match_rows::push_matches;
 use parser_input::Edition;
-use pattern_parser::{PatternError, other_fragments, parse_pattern};
+use pattern_parser::{PatternError, may_match, other_fragments, parse_pattern};
 use rust_document::{Document, OpenError};
 use source_tools::{Dialect, FileError, Source, Stop, text_of};
 use std::alloc::{AllocError, Global};
@@ -100,16 +100,26 @@ fn report_fragments(
     }
 }
 
-/// Opens the file of a source.
-fn opened(alloc: Global, inputs: &Inputs<'_>, source: &Source) -> Result<Document, FileError> {
+/// Opens the file of a source, if it may have a match.
+fn opened(
+    alloc: Global,
+    inputs: &Inputs<'_>,
+    source: &Source,
+    pattern: &Pattern,
+) -> Result<Option<Document>, FileError> {
     let contents = inputs.read(alloc, source.path.as_str())?;
     let Some(text) = text_of(contents.bytes.as_slice()) else {
         return Err(FileError::NotUtf8);
     };
+    match may_match(alloc, pattern, text.as_bytes()) {
+        Ok(true) => {}
+        Ok(false) => return Ok(None),
+        Err(_) => return Err(FileError::NoMemory),
+    }
     let Dialect { edition, grammar } = source.dialect;
     let mut ids = TreeIds::new();
     match Document::open_by(alloc, edition, grammar, text, &mut ids) {
-        Ok(document) => Ok(document),
+        Ok(document) => Ok(Some(document)),
         Err(OpenError::TooLong) => Err(FileError::TooLong),
         Err(_) => Err(FileError::NoMemory),
     }
@@ -125,8 +135,9 @@ fn rows_of(
     rows: &mut Vec<u8>,
 ) -> Result<Option<usize>, AllocError> {
     let path = source.path.as_str();
-    match opened(rt.alloc(), inputs, source) {
-        Ok(document) => {
+    match opened(rt.alloc(), inputs, source, pattern) {
+        Ok(None) => Ok(Some(0)),
+        Ok(Some(document)) => {
             let count = push_matches(rt.alloc(), path, &document, pattern, rows)?;
             Ok(Some(count))
         }
