@@ -20,14 +20,14 @@ fn diagnostic(
     alloc: Global,
     index: &LineIndex<'_>,
     encoding: Encoding,
-    ranged: &RangedError,
+    found: &RangedError,
     start: LineCol,
 ) -> Result<Diagnostic, AllocError>
-    requires { start ≡ line_col encoding index.now ranged.now.error.offset }
-    ensures { IfOk result (λ d. shown_of d ≡ shown encoding index.now (ranged ranged.now)) }
+    requires { start ≡ line_col encoding index.now found.now.error.offset }
+    ensures { IfOk result (λ d. shown_of d ≡ shown encoding index.now (ranged found.now)) }
 {
-    let error = ranged.error;
-    let end = index.line_col_from(encoding, error.offset, start, ranged.end);
+    let error = found.error;
+    let end = index.line_col_from(encoding, error.offset, start, found.end);
     let message = message_words(alloc, &error.message)?;
     Ok(Diagnostic {
         start,
@@ -49,10 +49,10 @@ fn diagnostics_of(
     let mut list = Vec::with_capacity(alloc, errors.len())?;
     let mut from = 0;
     let mut place = index.line_col(encoding, 0);
-    for ranged in errors {
-        let start = index.line_col_from(encoding, from, place, ranged.error.offset);
-        list.push(diagnostic(alloc, index, encoding, ranged, start)?)?;
-        from = ranged.error.offset;
+    for error in errors {
+        let start = index.line_col_from(encoding, from, place, error.error.offset);
+        list.push(diagnostic(alloc, index, encoding, error, start)?)?;
+        from = error.error.offset;
         place = start;
     }
     Ok(list)
@@ -77,5 +77,6 @@ pub fn diagnostics(
     let errors = source.ranged_errors()?;
     let errors = errors.as_slice();
     let count = errors.len().min(MAX_SHOWN);
-    diagnostics_of(alloc, &index, encoding, &errors[..count])
+    let (first, _) = errors.split_at(count);
+    diagnostics_of(alloc, &index, encoding, first)
 }

@@ -13,25 +13,25 @@ const CHUNK: usize = 65_536;
 
 /// What became of a buffer.
 #[derive(Clone, Copy, Drop)]
-enum Progress {
-    /// Each whole message is answered, and so many bytes are behind them.
-    Left(usize),
+enum Progress<'a> {
+    /// Each whole message is answered, and these bytes are behind them.
+    Left(&'a [u8]),
     /// The server ends with this status.
     Ends(u8),
 }
 
 /// Answers the whole messages at the start of `buffer`.
-fn answer_all<L: Language>(
+fn answer_all<'a, L: Language>(
     alloc: Global,
     language: &L,
     session: &mut Session,
-    buffer: &[u8],
+    buffer: &'a [u8],
     out: &mut Vec<u8>,
-) -> Result<Progress, AllocError> {
+) -> Result<Progress<'a>, AllocError> {
     let mut rest = buffer;
     for _message in 0..buffer.len() {
         match frame_in(rest) {
-            Frame::Unfinished => return Ok(Progress::Left(rest.len())),
+            Frame::Unfinished => return Ok(Progress::Left(rest)),
             Frame::Broken => {
                 tell(alloc, Reply::Refused(None, Refusal::Header), out)?;
                 return Ok(Progress::Ends(1));
@@ -44,7 +44,7 @@ fn answer_all<L: Language>(
             }
         }
     }
-    Ok(Progress::Left(rest.len()))
+    Ok(Progress::Left(rest))
 }
 
 /// Answers the messages of a client, in order, up to its `exit`, its end, or bytes that are no message. Returns the exit
@@ -81,13 +81,10 @@ pub fn serve<L: Language, R: Read, W: Write>(
         let mut out = Vec::new(alloc);
         let progress = answer_all(alloc, language, &mut session, buffer.as_slice(), &mut out)?;
         write_all(writer, out.as_slice())?;
-        match progress {
+        buffer = match progress {
             Progress::Ends(status) => return Ok(status),
-            Progress::Left(left) => {
-                let (_, rest) = buffer.as_slice().split_at(buffer.len() - left);
-                buffer = Vec::from_slice(alloc, rest)?;
-            }
-        }
+            Progress::Left(rest) => Vec::from_slice(alloc, rest)?,
+        };
     }
     Err(Stop::Reading)
 }
