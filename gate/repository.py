@@ -18,7 +18,7 @@ BY_NAME = "(only because a proof file names"
 # The comment in crates.txt below which the crates are run and not proved: tests and measuring.
 UNPROVED = re.compile(r"# Run and not proved\b")
 # Those of them that have no proofs yet: ./test --all leaves them out.
-WITHOUT_PROOFS = ("session_suite", "pattern_suite", "kept_document", "tevondimby_c", "checked_exports")
+WITHOUT_PROOFS = ("session_suite", "pattern_suite", "replace_suite", "checked_exports")
 TEST = re.compile(r"#\s*\[[^]]*\btest\b")
 
 

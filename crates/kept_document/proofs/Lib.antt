@@ -3,8 +3,6 @@ pub mod CommitAnswers
 pub mod DeepChanges
 pub mod DeepRuns
 pub mod Handles
-pub mod Puts
 pub mod Refusals
 pub mod RenamedTexts
 pub mod RewrittenTexts
-pub mod Told
