@@ -70,13 +70,14 @@ class Store:
         os.makedirs(self.folder, exist_ok=True)
         out, kept = f"{self.root}/crates/{name}/out", f"{self.folder}/{self.key(name)}"
         with tempfile.TemporaryDirectory(dir=self.folder, prefix="new-") as room:
+            # (of a static library nothing is built; that it is proved is kept)
+            os.mkdir(f"{room}/kept")
             for file in self.files(name):
                 if os.path.isdir(f"{out}/{file}"):
                     shutil.copytree(f"{out}/{file}", f"{room}/kept/{file}", symlinks=True)
                 elif os.path.isfile(f"{out}/{file}"):
-                    os.makedirs(f"{room}/kept", exist_ok=True)
                     shutil.copy2(f"{out}/{file}", f"{room}/kept/{file}")
-            if os.path.isdir(f"{room}/kept") and not os.path.isdir(kept):
+            if not os.path.isdir(kept):
                 os.utime(f"{room}/kept")
                 os.rename(f"{room}/kept", kept)
         self.drop_old()

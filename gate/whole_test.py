@@ -105,6 +105,13 @@ class Proofs(Tree):
         self.prove("top")
         self.assertEqual({*os.listdir(self.kept)}, {store.key("low"), store.key("top")})
 
+    def test_proof_that_builds_nothing_is_kept(self):
+        crate = mock.Mock(out=None)
+        crate.name = "low"
+        proof = whole.keeping(self.store(), lambda crate, flags, tests: self.proved.append(crate.name) or 0, lambda text, out: None)
+        self.assertEqual([proof(crate, [], False), proof(crate, [], False)], [0, 0])
+        self.assertEqual(self.proved, ["low"])
+
     def test_failed_proof_is_not_kept(self):
         self.status = 1
         self.assertEqual([self.prove("low"), self.prove("low")], [1, 1])
