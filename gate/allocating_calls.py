@@ -20,13 +20,10 @@ TABLES = ("*memory_suite", "command_suite")
 # are not proved yet.
 END_OF_PRODUCT = "# Run and not proved"
 # Crates whose calls are in no table yet.
-WITHOUT_ROWS = {"document_rows", "document_views", "language_session", "match_rows", "message_frames", "path_globs", "pattern_parser", "session_server", "session_words", "text_changes", "token_names", "tree_patterns", "tree_replace", "tree_search"}
+WITHOUT_ROWS = {"document_rows", "document_views", "language_session", "match_rows", "message_frames", "pattern_parser", "session_server", "session_words", "text_changes", "tree_patterns", "tree_replace", "tree_search"}
 # Calls that are steps of others, and those of the table that make them: the changes of a plan, for one, are known to `tree_rewrite`
-# alone. A call of `rust_source` is the document's, with the allocator and the numbers that the source holds. A disk's read and write ask
-# the system, and make what they allocate as a file in memory and `replace_file` do; both run where a program has files.
+# alone. A call of `rust_source` is the document's, with the allocator and the numbers that the source holds.
 MADE_BY = {
-    "file_target::Disk::read": "file_target::Memory::read",
-    "file_target::Disk::write": "file_target::replace_file",
     "file_target::Target::read": "file_target::Memory::read",
     "file_target::Target::write": "file_target::Memory::write",
     "line_reader::Client::answer": "document_requests::Dialogue::answer",

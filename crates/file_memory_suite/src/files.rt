@@ -1,9 +1,10 @@
-//! Files in memory, and one that is replaced by the calls of a file system.
+//! Files in memory, one that is replaced by the calls of a file system, and one on the disk.
 use anyhow::bail;
-use file_target::{Memory, Status, System, Target, TargetError, Version, replace_file};
+use file_target::{Disk, Memory, Status, System, Target, TargetError, Version, replace_file};
 use memory_table::row::{Ask, Row};
 use std::alloc::Global;
 use std::io::{self, ErrorKind};
+use std::{fs, process};
 
 /// The calls on files.
 #[derive(Clone, Copy)]
@@ -105,6 +106,33 @@ fn replaced(alloc: Global, refused: &mut u32) -> anyhow::Result<String> {
     match str::from_utf8(file.bytes.as_slice()) {
         Ok(text) => Ok(String::from_str(alloc, text)?),
         Err(_) => bail!("no text"),
+    }
+}
+
+/// The calls on a file on the disk.
+#[derive(Clone, Copy)]
+pub(crate) struct DiskCall<'a> {
+    pub(crate) rt: &'a HostRuntime,
+}
+
+impl<'a> Ask for DiskCall<'a> {
+    /// Returns the bytes of a file on the disk that is read and written, and read again. It is one of
+    /// this process, and is removed.
+    fn answer(self, alloc: Global, _refused: &mut u32) -> anyhow::Result<String> {
+        let rt = self.rt;
+        let id = process::id(rt.process());
+        let path = format!(in alloc; "file_memory_suite.{id}")?;
+        let path = path.as_str();
+        fs::write(rt, path, "old")?;
+        let mut disk = Disk::new(rt);
+        let version = disk.read(alloc, path)?.version;
+        disk.write(alloc, path, version, b"new")?;
+        let contents = disk.read(alloc, path)?;
+        fs::remove_file(rt, path)?;
+        match str::from_utf8(contents.bytes.as_slice()) {
+            Ok(text) => Ok(String::from_str(alloc, text)?),
+            Err(_) => bail!("no text"),
+        }
     }
 }
 

@@ -19,6 +19,12 @@ fn main(rt: HostRuntime) -> anyhow::Result<()> {
     try_all(alloc, texts::ROWS, &mut tally)?;
     try_all(alloc, reports::ROWS, &mut tally)?;
     try_all(alloc, files::ROWS, &mut tally)?;
+    let disk = [(
+        "file_target::Disk::{read, write}",
+        files::DiskCall { rt: &rt },
+        "new",
+    )];
+    try_all(alloc, disk.as_slice(), &mut tally)?;
     if tally.refused != 0 {
         println!(rt; "{} out of memory: {}", tally.refused, tally.last_refused)?;
     }

@@ -1,21 +1,27 @@
-//! Calls on texts: their lines, differences, mentions of a name, levels, and lines as they are shown.
+//! Calls on texts: their lines, differences, names and mentions of one, levels, patterns of paths, and lines as
+//! they are shown.
 use anyhow::bail;
 use line_index::LineIndex;
 use memory_table::row::{Ask, Row};
 use name_mentions::mentions_of;
-use parser_input::Edition;
+use parser_input::{Edition, SyntaxKind};
+use path_globs::is_excluded;
 use shown_lines::push_excerpt;
 use std::alloc::Global;
-use text_diff::{line_changes, unified_diff};
+use text_diff::{byte_changes, line_changes, unified_diff};
 use text_levels::{is_too_deep, levels_of};
+use token_names::has_name;
 
 /// The calls on texts.
 #[derive(Clone, Copy)]
 pub(crate) enum TextCall {
     Lines,
     Changes,
+    Bytes,
     Diff,
     Mentions,
+    Name,
+    Excluded,
     Excerpt,
     Levels,
     IsTooDeep,
@@ -37,6 +43,18 @@ fn text_of(alloc: Global, bytes: &[u8]) -> anyhow::Result<String> {
 fn changes(alloc: Global) -> anyhow::Result<String> {
     let mut shown = String::new(alloc);
     for change in line_changes(alloc, OLD.as_bytes(), NEW.as_bytes())? {
+        let (start, end) = (change.old_start, change.old_end);
+        let (new_start, new_end) = (change.new_start, change.new_end);
+        let row = format!(in alloc; "{start}..{end} {new_start}..{new_end};")?;
+        shown.push_str(row.as_str())?;
+    }
+    Ok(shown)
+}
+
+/// Returns the changed bytes of both texts.
+fn bytes(alloc: Global) -> anyhow::Result<String> {
+    let mut shown = String::new(alloc);
+    for change in byte_changes(alloc, OLD.as_bytes(), NEW.as_bytes())? {
         let (start, end) = (change.old_start, change.old_end);
         let (new_start, new_end) = (change.new_start, change.new_end);
         let row = format!(in alloc; "{start}..{end} {new_start}..{new_end};")?;
@@ -73,11 +91,21 @@ impl Ask for TextCall {
                 Ok(format!(in alloc; "{}", index.line_count())?)
             }
             TextCall::Changes => changes(alloc),
+            TextCall::Bytes => bytes(alloc),
             TextCall::Diff => {
                 let diff = unified_diff(alloc, "a.rs", OLD.as_bytes(), NEW.as_bytes())?;
                 text_of(alloc, diff.as_slice())
             }
             TextCall::Mentions => mentions(alloc),
+            TextCall::Name => {
+                let is = has_name(alloc, "caf\u{e9}", SyntaxKind::IDENT, "r#cafe\u{301}")?;
+                Ok(format!(in alloc; "{is}")?)
+            }
+            TextCall::Excluded => {
+                let globs = ["*/gen/*", "*_pb.rs"];
+                let is = is_excluded(alloc, globs.as_slice(), "./src/a_pb.rs", "a_pb.rs")?;
+                Ok(format!(in alloc; "{is}")?)
+            }
             TextCall::Excerpt => excerpt(alloc),
             TextCall::Levels => {
                 let levels = levels_of(alloc, Edition::Edition2021, "((a))")?;
@@ -94,6 +122,7 @@ impl Ask for TextCall {
 pub(crate) const ROWS: &[Row<TextCall>] = &[
     ("line_index::LineIndex::try_new", TextCall::Lines, "4"),
     ("text_diff::line_changes", TextCall::Changes, "1..2 1..2;"),
+    ("text_diff::byte_changes", TextCall::Bytes, "2..4 2..4;"),
     (
         "text_diff::unified_diff",
         TextCall::Diff,
@@ -104,6 +133,8 @@ pub(crate) const ROWS: &[Row<TextCall>] = &[
         TextCall::Mentions,
         "1;11: a in a string;20: a in a comment;",
     ),
+    ("token_names::has_name", TextCall::Name, "true"),
+    ("path_globs::is_excluded", TextCall::Excluded, "true"),
     (
         "shown_lines::push_excerpt",
         TextCall::Excerpt,

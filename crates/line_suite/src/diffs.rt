@@ -2,7 +2,7 @@
 
 use std::alloc::{AllocError, Global};
 use std::test::Fail;
-use text_diff::{Change, line_changes, unified_diff};
+use text_diff::{ByteChange, Change, byte_changes, line_changes, unified_diff};
 
 /// An old text, a new one, and the hunks between.
 const CASES: [(&str, &str, &str); 5] = [
@@ -92,6 +92,32 @@ fn changes_are_by_line(rt: HostRuntime) -> Result<(), Fail> {
         new_end: 3,
     };
     let is_right = changes.as_slice() == [expected].as_slice();
+    assert!(rt; is_right);
+    Ok(())
+}
+
+#[test]
+fn bytes_are_of_whole_lines(rt: HostRuntime) -> Result<(), Fail> {
+    let (old, new) = (b"one\ntwo\n\nfour", b"one\n2\n2\n\nfour\n");
+    let changes = match byte_changes(rt.alloc(), old, new) {
+        Ok(changes) => changes,
+        Err(AllocError) => byte_changes(rt.alloc(), old, new)?,
+    };
+    let expected = [
+        ByteChange {
+            old_start: 4,
+            old_end: 8,
+            new_start: 4,
+            new_end: 8,
+        },
+        ByteChange {
+            old_start: 9,
+            old_end: 13,
+            new_start: 9,
+            new_end: 14,
+        },
+    ];
+    let is_right = changes.as_slice() == expected.as_slice();
     assert!(rt; is_right);
     Ok(())
 }

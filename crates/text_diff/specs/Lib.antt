@@ -6,3 +6,4 @@ pub mod Names
 pub mod Unified
 pub mod DiffText
 pub mod Laws
+pub mod Bytes

@@ -1,5 +1,5 @@
 -- Edit scripts: changes that lead from old lines to new ones.
-use Rattle.std.specs.Prelude.{◌≡◌, ◌≤◌, ◌<◌, ◌+◌, ℕ, List, [], ◌∷◌, All, length, slice_index_or, slice_range}
+use Rattle.std.specs.Prelude.{◌≡◌, ◌≤◌, ◌<◌, ◌+◌, ◌-◌, ℕ, List, [], ◌∷◌, All, length, slice_index_or, slice_range}
 use Rattle.text_diff.specs.declared.change.Change.{Change}
 use Rattle.text_diff.specs.Lines.{Line}
 
@@ -37,6 +37,25 @@ StartDiffers old new c =
 
 abbrev pub StartsDiffer : List Line → List Line → List Change → Type 0
 StartsDiffer old new cs = All (StartDiffers old new) cs
+
+-- If some lines are before both p and q, from i and j on, the last ones differ.
+abbrev pub LastDiffer : List Line → List Line → (i j p q : ℕ) → Type 0
+LastDiffer old new i j p q = i < p → j < q → slice_index_or old (p - 1) [] ≡ slice_index_or new (q - 1) [] → ⊥
+
+-- Where a change replaces lines by lines, the last ones differ.
+abbrev pub EndDiffers : List Line → List Line → Change → Type 0
+EndDiffers old new c = LastDiffer old new c.old_start c.new_start c.old_end c.new_end
+
+abbrev pub EndsDiffer : List Line → List Line → List Change → Type 0
+EndsDiffer old new cs = All (EndDiffers old new) cs
+
+-- Old line p and new line q are there, and are the same.
+abbrev pub IsSamePair : List Line → List Line → (p q : ℕ) → Type 0
+IsSamePair old new p q = (p < length old) × (q < length new) × (slice_index_or old p [] ≡ slice_index_or new q [])
+
+-- Of the lines from i and j on, no two are the same that are fewer than n lines ahead, old and new ones together.
+abbrev pub AreApart : List Line → List Line → (i j n : ℕ) → Type 0
+AreApart old new i j n = (d r : ℕ) → d < n → r ≤ d → IsSamePair old new (i + r) (j + (d - r)) → ⊥
 
 -- Old line p and new line q are ahead of i and j; there are `old` and `new` lines.
 pub record IsAhead (old new i j p q : ℕ) : Type 0 where

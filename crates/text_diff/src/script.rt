@@ -1,8 +1,8 @@
 //! Edit scripts over lines.
 
-ghost use Rattle.std.specs.Prelude.{◌≡◌, ◌≤◌, ◌<◌, ◌+◌, ◌↔◌, [], IsTrue, IfOk, IfSome, length, get_or, map};
+ghost use Rattle.std.specs.Prelude.{◌≡◌, ◌≤◌, ◌<◌, ◌+◌, ◌-◌, ◌↔◌, [], IsTrue, IfOk, IfSome, length, get_or, map};
 ghost use Rattle.text_diff.specs.Lines.{lines};
-ghost use Rattle.text_diff.specs.Script.{IsAhead, IsScript, StartsDiffer};
+ghost use Rattle.text_diff.specs.Script.{EndsDiffer, IsAhead, IsSamePair, IsScript, LastDiffer, StartsDiffer};
 
 use crate::change::Change;
 use crate::lines::lines;
@@ -26,7 +26,11 @@ fn is_same(old: &[&[u8]], new: &[&[u8]], i: usize, j: usize) -> bool
 fn next_same(old: &[&[u8]], new: &[&[u8]], i: usize, j: usize) -> Option<(usize, usize)>
     requires old_line { i ≤ length old.now }
     requires new_line { j ≤ length new.now }
-    ensures { IfSome result (λ at. IsAhead (length old.now) (length new.now) i j at.0 at.1) }
+    requires differ { IsSamePair (map (λ l. l.now) old.now) (map (λ l. l.now) new.now) i j → ⊥ }
+    ensures ahead { IfSome result
+        (λ at. IsAhead (length old.now) (length new.now) i j at.0 at.1) }
+    ensures last { IfSome result (λ at.
+        LastDiffer (map (λ l. l.now) old.now) (map (λ l. l.now) new.now) i j at.0 at.1) }
 {
     for distance in 1..REACH {
         for removed in 0..distance + 1 {
@@ -44,7 +48,10 @@ fn next_same(old: &[&[u8]], new: &[&[u8]], i: usize, j: usize) -> Option<(usize,
 fn same_end(old: &[&[u8]], new: &[&[u8]], most: usize) -> usize
     requires old_lines { most ≤ length old.now }
     requires new_lines { most ≤ length new.now }
-    ensures { result ≤ most }
+    ensures most { result ≤ most }
+    ensures last { result < most
+        → get_or (map (λ l. l.now) old.now) (length old.now - 1 - result) []
+        ≡ get_or (map (λ l. l.now) new.now) (length new.now - 1 - result) [] → ⊥ }
 {
     for k in 0..most {
         if old[old.len() - 1 - k] != new[new.len() - 1 - k] {
@@ -60,7 +67,10 @@ fn change_end(old: &[&[u8]], new: &[&[u8]], i: usize, j: usize) -> (usize, usize
     requires old_line { i ≤ length old.now }
     requires new_line { j ≤ length new.now }
     requires some_left { i + j < length old.now + length new.now }
-    ensures { IsAhead (length old.now) (length new.now) i j result.0 result.1 }
+    requires differ { IsSamePair (map (λ l. l.now) old.now) (map (λ l. l.now) new.now) i j → ⊥ }
+    ensures ahead { IsAhead (length old.now) (length new.now) i j result.0 result.1 }
+    ensures last { LastDiffer (map (λ l. l.now) old.now) (map (λ l. l.now) new.now)
+        i j result.0 result.1 }
 {
     if let Some(at) = next_same(old, new, i, j) {
         return at;
@@ -78,6 +88,8 @@ pub(crate) fn script(alloc: Global, old: &[&[u8]], new: &[&[u8]]) -> Result<Vec<
         IsScript (map (λ l. l.now) old.now) (map (λ l. l.now) new.now) changes.items) }
     ensures differ { IfOk result (λ changes.
         StartsDiffer (map (λ l. l.now) old.now) (map (λ l. l.now) new.now) changes.items) }
+    ensures ends_differ { IfOk result (λ changes.
+        EndsDiffer (map (λ l. l.now) old.now) (map (λ l. l.now) new.now) changes.items) }
     ensures same { IfOk result (λ changes.
         map (λ l. l.now) old.now ≡ map (λ l. l.now) new.now → changes.items ≡ []) }
 {
@@ -114,6 +126,8 @@ pub fn line_changes(alloc: Global, old: &[u8], new: &[u8]) -> Result<Vec<Change>
         IsScript (lines old.now) (lines new.now) changes.items) }
     ensures differ { IfOk result (λ changes.
         StartsDiffer (lines old.now) (lines new.now) changes.items) }
+    ensures ends_differ { IfOk result (λ changes.
+        EndsDiffer (lines old.now) (lines new.now) changes.items) }
     ensures same { IfOk result (λ changes. old.now ≡ new.now → changes.items ≡ []) }
 {
     let old = lines(alloc, old)?;

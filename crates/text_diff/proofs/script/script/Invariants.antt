@@ -1,5 +1,5 @@
 use Rattle.std.proofs.Common.{◌≡◌, ◌≤◌, ◌+◌, ◌-◌, [], map, length}
-use Rattle.text_diff.specs.Script.{IsRun, StartsDiffer}
+use Rattle.text_diff.specs.Script.{EndsDiffer, IsRun, StartsDiffer}
 use Rattle.text_diff.proofs.script.script.Given as goal
 
 abbrev pub invariant-loop-i : goal.invariant-loop-i
@@ -8,6 +8,7 @@ invariant-loop-i l = record {
   new_line : l.j ≤ length l.new;
   run : IsRun (map (λ x. x.now) l.old) (map (λ x. x.now) l.new) 0 0 l.changes.items l.i l.j;
   differ : StartsDiffer (map (λ x. x.now) l.old) (map (λ x. x.now) l.new) l.changes.items;
+  ends_differ : EndsDiffer (map (λ x. x.now) l.old) (map (λ x. x.now) l.new) l.changes.items;
   same : map (λ x. x.now) l.old ≡ map (λ x. x.now) l.new → (l.changes.items ≡ []) × (l.i ≡ l.j);
 }
 
