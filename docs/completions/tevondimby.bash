@@ -13,11 +13,11 @@ _tevondimby() {
     esac
     local options="--help"
     case $command in
-        check|tokens|tree) options="--json --edition --grammar --help" ;;
-        search) options="--as --edition --grammar --help" ;;
-        rename) options="--write --diff --check --quiet --merge --edition --grammar --help" ;;
-        replace) options="--write --diff --check --quiet --as --comments --skip --allow-messages --edition --grammar --help" ;;
-        rewrite) options="--write --diff --check --quiet --allow-messages --edition --grammar --help" ;;
+        check|tokens|tree) options="--json --exclude --edition --grammar --help" ;;
+        search) options="--as --exclude --edition --grammar --help" ;;
+        rename) options="--write --diff --check --json --quiet --merge --pairs --exclude --edition --grammar --help" ;;
+        replace) options="--write --diff --check --json --quiet --as --comments --skip --allow-messages --exclude --edition --grammar --help" ;;
+        rewrite) options="--write --diff --check --json --quiet --allow-messages --edition --grammar --help" ;;
     esac
     case $word in
         -*) COMPREPLY=($(compgen -W "$options" -- "$word")) ;;

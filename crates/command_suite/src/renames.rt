@@ -6,7 +6,10 @@ use crate::outcome::{
 use anyhow::bail;
 use file_target::Target;
 use memory_table::row::{Ask, Row};
-use source_tools::{RenameFault, Renaming, plan_renames, rename_bytes, rename_files, write_diffs};
+use source_tools::{
+    RenameFault, Renaming, plan_renames, rename_bytes, rename_files, write_change_lists,
+    write_diffs,
+};
 use std::alloc::Global;
 
 /// The calls that rename.
@@ -17,6 +20,8 @@ pub(crate) enum RenameCall {
     Denied,
     Diffs,
     Bytes,
+    Pairs,
+    Lists,
     Taken,
 }
 
@@ -27,10 +32,17 @@ const RENAMING: Renaming<'static> = Renaming {
     merge: true,
 };
 
+/// `a` to `b`, after [`RENAMING`].
+const OTHER: Renaming<'static> = Renaming {
+    old: "a",
+    new: "b",
+    merge: false,
+};
+
 /// Renames in the files.
 pub(crate) fn rename<T: Target>(alloc: Global, target: &mut T) -> anyhow::Result<Outcome> {
     let sources = sources(alloc)?;
-    let result = rename_files(alloc, &RENAMING, target, sources.as_slice());
+    let result = rename_files(alloc, [RENAMING].as_slice(), target, sources.as_slice());
     Ok(of_rename(result))
 }
 
@@ -38,12 +50,25 @@ pub(crate) fn rename<T: Target>(alloc: Global, target: &mut T) -> anyhow::Result
 fn diffs(alloc: Global) -> anyhow::Result<String> {
     let memory = memory(alloc)?;
     let sources = sources(alloc)?;
-    let changes = match plan_renames(alloc, &RENAMING, &memory, sources.as_slice()) {
+    let changes = match plan_renames(alloc, [RENAMING].as_slice(), &memory, sources.as_slice()) {
         Ok(changes) => changes,
         Err(failure) => bail!("{}", failure.fault),
     };
     let mut output = Vec::with_capacity(alloc, 512)?;
     write_diffs(alloc, changes.as_slice(), &mut output)?;
+    text(alloc, output.as_slice())
+}
+
+/// Returns the changed bytes of a renaming, in JSON. The output has its room before.
+fn lists(alloc: Global) -> anyhow::Result<String> {
+    let memory = memory(alloc)?;
+    let sources = sources(alloc)?;
+    let changes = match plan_renames(alloc, [RENAMING].as_slice(), &memory, sources.as_slice()) {
+        Ok(changes) => changes,
+        Err(failure) => bail!("{}", failure.fault),
+    };
+    let mut output = Vec::with_capacity(alloc, 512)?;
+    write_change_lists(alloc, changes.as_slice(), &mut output)?;
     text(alloc, output.as_slice())
 }
 
@@ -56,8 +81,8 @@ fn text(alloc: Global, bytes: &[u8]) -> anyhow::Result<String> {
 }
 
 /// Returns the bytes of a file after a renaming.
-fn bytes(alloc: Global, renaming: &Renaming<'_>) -> anyhow::Result<String> {
-    match rename_bytes(alloc, renaming, DIALECT, b"fn old(a: old) { new!(old) }") {
+fn bytes(alloc: Global, renamings: &[Renaming<'_>]) -> anyhow::Result<String> {
+    match rename_bytes(alloc, renamings, DIALECT, b"fn old(a: old) { new!(old) }") {
         Ok(bytes) => text(alloc, bytes.as_slice()),
         Err(RenameFault::NameTaken) => Ok(String::from_str(alloc, "taken")?),
         Err(fault) => bail!("{fault}"),
@@ -71,14 +96,17 @@ impl Ask for RenameCall {
             RenameCall::Failing => failing_in_turn(alloc, Writing::Rename),
             RenameCall::Denied => denied_in_turn(alloc, Writing::Rename),
             RenameCall::Diffs => diffs(alloc),
-            RenameCall::Bytes => bytes(alloc, &RENAMING),
+            RenameCall::Lists => lists(alloc),
+            RenameCall::Bytes => bytes(alloc, [RENAMING].as_slice()),
+            RenameCall::Pairs => bytes(alloc, [RENAMING, OTHER].as_slice()),
             RenameCall::Taken => bytes(
                 alloc,
-                &Renaming {
+                [Renaming {
                     old: "old",
                     new: "new",
                     merge: false,
-                },
+                }]
+                .as_slice(),
             ),
         }
     }
@@ -112,9 +140,20 @@ pub(crate) const ROWS: &[Row<RenameCall>] = &[
         DIFFS,
     ),
     (
+        "source_tools::write_change_lists",
+        RenameCall::Lists,
+        "{\"path\":\"a.rs\",\"changes\":[{\"start\":0,\"end\":11,\"new_start\":0,\"new_end\":11}]}\n\
+        {\"path\":\"c.rs\",\"changes\":[{\"start\":0,\"end\":8,\"new_start\":0,\"new_end\":8}]}\n",
+    ),
+    (
         "source_tools::rename_bytes",
         RenameCall::Bytes,
         "fn new(a: new) { new!(new) }",
+    ),
+    (
+        "source_tools::rename_bytes by two renamings",
+        RenameCall::Pairs,
+        "fn new(b: new) { new!(new) }",
     ),
     (
         "source_tools::rename_bytes to a name that is there",

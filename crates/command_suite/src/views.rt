@@ -90,7 +90,7 @@ pub(crate) const ROWS: &[Row<ViewCall>] = &[
         "source_tools::show of messages as JSON",
         ViewCall::Shown(View::Messages(Format::Json)),
         "{\"path\":\"a.rs\",\"messages\":[]}\n{\"path\":\"b.rs\",\"messages\":[{\"line\":1,\"column\":2,\
-        \"offset\":1,\"message\":\"expected an item\"}]}\n1\n",
+        \"offset\":1,\"end\":1,\"message\":\"expected an item\"}]}\n1\n",
     ),
     (
         "source_tools::show of tokens",

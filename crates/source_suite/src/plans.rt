@@ -81,12 +81,19 @@ fn tokens_and_trees_have_rows(rt: HostRuntime) -> Result<(), Fail> {
 }
 
 /// Each view as JSON.
-const OBJECTS: [(View, &str, &str); 4] = [
+const OBJECTS: [(View, &str, &str); 5] = [
     (
         View::Messages(Format::Json),
         "fn f() {\n let \u{e9} = ;}",
-        "{\"path\":\"a.rs\",\"messages\":[{\"line\":2,\"column\":9,\"offset\":18,\
+        "{\"path\":\"a.rs\",\"messages\":[{\"line\":2,\"column\":9,\"offset\":18,\"end\":18,\
         \"message\":\"expected an expression\"}]}\n",
+    ),
+    (
+        View::Messages(Format::Json),
+        "mod a;\n\"bc",
+        "{\"path\":\"a.rs\",\"messages\":[{\"line\":2,\"column\":1,\"offset\":7,\"end\":10,\
+        \"message\":\"unterminated literal\"},{\"line\":2,\"column\":1,\"offset\":7,\"end\":7,\
+        \"message\":\"expected an item\"}]}\n",
     ),
     (
         View::Messages(Format::Json),
@@ -153,7 +160,7 @@ fn a_diff_is_of_the_files_that_change(rt: HostRuntime) -> Result<(), Fail> {
         new: "new",
         merge: false,
     };
-    let changes = match plan_renames(alloc, &renaming, &target, paths.as_slice()) {
+    let changes = match plan_renames(alloc, [renaming].as_slice(), &target, paths.as_slice()) {
         Ok(changes) => changes,
         Err(_) => return Ok(assert!(rt; false)),
     };
@@ -163,7 +170,7 @@ fn a_diff_is_of_the_files_that_change(rt: HostRuntime) -> Result<(), Fail> {
         \\ No newline at end of file\n+fn new() {}\n\\ No newline at end of file\n";
     assert!(rt; output.as_slice() == expected.as_bytes());
     renaming.new = "other";
-    let refused = match plan_renames(alloc, &renaming, &target, paths.as_slice()) {
+    let refused = match plan_renames(alloc, [renaming].as_slice(), &target, paths.as_slice()) {
         Ok(_) => false,
         Err(failure) => (failure.index == 1) & matches!(failure.fault, RenameFault::NameTaken),
     };

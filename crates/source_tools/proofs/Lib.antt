@@ -1,3 +1,4 @@
+mod ChangeListLemmas
 pub mod ListLemmas
 pub mod KnownLemmas
 pub mod WriteLemmas

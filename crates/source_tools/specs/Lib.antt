@@ -9,3 +9,4 @@ pub mod Outcomes
 pub mod Writes
 pub mod Renames
 pub mod Diffs
+pub mod ChangeLists

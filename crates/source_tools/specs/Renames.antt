@@ -46,9 +46,9 @@ is_free n dialect text = n.merge || not (has_identifier n.new.now dialect text)
 abbrev pub renamed : Renaming → Dialect → List ℕ → List ℕ
 renamed n dialect text = renamed_text n.old.now n.new.now (tree_in dialect.grammar dialect.edition (chars text))
 
--- what the bytes of a file become, if they are text
-abbrev pub renamed_bytes : Renaming → Dialect → List ℕ → Option (List ℕ)
-renamed_bytes n dialect bytes = option_map (λ text. encoded bytes (renamed n dialect text)) (decoded bytes)
+-- what the bytes of a file become by one renaming, if they are text
+abbrev pub renamed_once : Renaming → Dialect → List ℕ → Option (List ℕ)
+renamed_once n dialect bytes = option_map (λ text. encoded bytes (renamed n dialect text)) (decoded bytes)
 
 -- a document as it is opened
 abbrev pub opened : Dialect → List ℕ → State
@@ -56,7 +56,7 @@ opened dialect text =
     record { edition = dialect.edition; grammar = dialect.grammar; text = text; number = 1 }
 
 -- The bytes are text, the new name is free in it, and is a token with which it reads as the renamed tree.
-pub record IsRenamable (n : Renaming) (dialect : Dialect) (bytes : List ℕ) : Type 0 where
+pub record IsRenamableOnce (n : Renaming) (dialect : Dialect) (bytes : List ℕ) : Type 0 where
   pub text : List ℕ
   pub decodes : decoded bytes ≡ Some text
   pub free : is_free n dialect text ≡ true
@@ -79,9 +79,34 @@ abbrev pub RefusesIfAny : Renaming → Dialect → Option (List ℕ) → RenameF
 RefusesIfAny n dialect None e = (e ≡ File errors.NotUtf8) ⊎ (e ≡ File errors.NoMemory)
 RefusesIfAny n dialect (Some text) e = RefusesText n dialect text e
 
--- why a file with these bytes is not renamed in
-abbrev pub RefusesBytes : Renaming → Dialect → List ℕ → RenameFault → Type 0
-RefusesBytes n dialect bytes e = RefusesIfAny n dialect (decoded bytes) e
+-- why bytes are not renamed in once
+abbrev pub RefusesOnce : Renaming → Dialect → List ℕ → RenameFault → Type 0
+RefusesOnce n dialect bytes e = RefusesIfAny n dialect (decoded bytes) e
+
+-- ---- renamings one after another
+
+-- what bytes become by the renamings that follow, if they are text
+abbrev pub renamed_next : (List ℕ → Option (List ℕ)) → Option (List ℕ) → Option (List ℕ)
+renamed_next next None = None
+renamed_next next (Some bytes) = next bytes
+
+-- what the bytes of a file become by renamings, each on what the one before it left
+abbrev pub renamed_bytes : List Renaming → Dialect → List ℕ → Option (List ℕ)
+renamed_bytes [] dialect bytes = Some bytes
+renamed_bytes (n ∷ ns) dialect bytes = renamed_next (renamed_bytes ns dialect) (renamed_once n dialect bytes)
+
+-- Each renaming can be made of what the one before it left.
+abbrev pub IsRenamable : List Renaming → Dialect → List ℕ → Type 0
+IsRenamable [] dialect bytes = Unit {0}
+IsRenamable (n ∷ ns) dialect bytes =
+    IsRenamableOnce n dialect bytes × ((next : List ℕ) × (renamed_once n dialect bytes ≡ Some next) × IsRenamable ns dialect next)
+
+-- why a file with these bytes is not renamed in: the first renaming that is refused, of what the one before it left
+abbrev pub RefusesBytes : List Renaming → Dialect → List ℕ → RenameFault → Type 0
+RefusesBytes [] dialect bytes e = e ≡ File errors.NoMemory
+RefusesBytes (n ∷ ns) dialect bytes e =
+    RefusesOnce n dialect bytes e
+    ⊎ (IsRenamableOnce n dialect bytes × ((next : List ℕ) × (renamed_once n dialect bytes ≡ Some next) × RefusesBytes ns dialect next e))
 
 -- ---- files
 
@@ -92,31 +117,31 @@ change_to path version old (Some new) =
     if bytes_eq new old then [] else record { path = path; version = version; old = old; bytes = new } ∷ []
 
 -- the change of a file, if its bytes change, by what a read of it answers
-abbrev pub changes_read : Renaming → Source → Result (List ℕ × Version) TargetError → List Change
-changes_read n s (Ok read) = change_to (string_bytes s.path) read.1 read.0 (renamed_bytes n s.dialect read.0)
-changes_read n s (Err e) = []
+abbrev pub changes_read : List Renaming → Source → Result (List ℕ × Version) TargetError → List Change
+changes_read ns s (Ok read) = change_to (string_bytes s.path) read.1 read.0 (renamed_bytes ns s.dialect read.0)
+changes_read ns s (Err e) = []
 
-abbrev pub changes_of : Renaming → Files → Source → List Change
-changes_of n files s = changes_read n s (read_of (files (string_bytes s.path)))
+abbrev pub changes_of : List Renaming → Files → Source → List Change
+changes_of ns files s = changes_read ns s (read_of (files (string_bytes s.path)))
 
 -- A read answers bytes that can be renamed in.
-abbrev pub IsRenamableRead : Renaming → Source → Result (List ℕ × Version) TargetError → Type 0
-IsRenamableRead n s (Ok read) = IsRenamable n s.dialect read.0
-IsRenamableRead n s (Err e) = ⊥
+abbrev pub IsRenamableRead : List Renaming → Source → Result (List ℕ × Version) TargetError → Type 0
+IsRenamableRead ns s (Ok read) = IsRenamable ns s.dialect read.0
+IsRenamableRead ns s (Err e) = ⊥
 
 -- There is a file, the system reads it, and it can be renamed in.
-abbrev pub IsRenamableFile : Renaming → Files → Source → Type 0
-IsRenamableFile n files s = IsRenamableRead n s (read_of (files (string_bytes s.path)))
+abbrev pub IsRenamableFile : List Renaming → Files → Source → Type 0
+IsRenamableFile ns files s = IsRenamableRead ns s (read_of (files (string_bytes s.path)))
 
 -- Why a file is not renamed in, by what a read of it answers. If there is a file, out of memory comes at any point.
-abbrev pub RefusesRead : Renaming → Source → Result (List ℕ × Version) TargetError → RenameFault → Type 0
-RefusesRead n s (Ok read) e = RefusesBytes n s.dialect read.0 e
-RefusesRead n s (Err targets.NotFound) e = e ≡ File errors.NotFound
-RefusesRead n s (Err d) e = (e ≡ File (file_error_of d)) ⊎ (e ≡ File errors.NoMemory)
+abbrev pub RefusesRead : List Renaming → Source → Result (List ℕ × Version) TargetError → RenameFault → Type 0
+RefusesRead ns s (Ok read) e = RefusesBytes ns s.dialect read.0 e
+RefusesRead ns s (Err targets.NotFound) e = e ≡ File errors.NotFound
+RefusesRead ns s (Err d) e = (e ≡ File (file_error_of d)) ⊎ (e ≡ File errors.NoMemory)
 
 -- why a file is not renamed in
-abbrev pub RefusesFile : Renaming → Files → Source → RenameFault → Type 0
-RefusesFile n files s e = RefusesRead n s (read_of (files (string_bytes s.path))) e
+abbrev pub RefusesFile : List Renaming → Files → Source → RenameFault → Type 0
+RefusesFile ns files s e = RefusesRead ns s (read_of (files (string_bytes s.path))) e
 
 -- ---- renames in code
 
@@ -125,36 +150,36 @@ changes_in None = []
 changes_in (Some c) = change_in c ∷ []
 
 -- the result of renaming in a file, by what a read of it answers
-abbrev pub IsRenamedRead : Renaming → Source → Result (List ℕ × Version) TargetError → Result (Option FileChange) RenameFault → Type 0
-IsRenamedRead n s read r =
-    MatchResult r (λ c. IsRenamableRead n s read × (changes_in c ≡ changes_read n s read)) (RefusesRead n s read)
+abbrev pub IsRenamedRead : List Renaming → Source → Result (List ℕ × Version) TargetError → Result (Option FileChange) RenameFault → Type 0
+IsRenamedRead ns s read r =
+    MatchResult r (λ c. IsRenamableRead ns s read × (changes_in c ≡ changes_read ns s read)) (RefusesRead ns s read)
 
-abbrev pub IsRenamedFile : Renaming → Files → Source → Result (Option FileChange) RenameFault → Type 0
-IsRenamedFile n files s r = IsRenamedRead n s (read_of (files (string_bytes s.path))) r
+abbrev pub IsRenamedFile : List Renaming → Files → Source → Result (Option FileChange) RenameFault → Type 0
+IsRenamedFile ns files s r = IsRenamedRead ns s (read_of (files (string_bytes s.path))) r
 
 -- What is planned for files: the changes of all of them; or the first that is refused, and why.
-abbrev pub IsPlan : Renaming → Files → List Source → Result (Vec FileChange Global) RenameFailure → Type 0
-IsPlan n files sources r =
+abbrev pub IsPlan : List Renaming → Files → List Source → Result (Vec FileChange Global) RenameFailure → Type 0
+IsPlan ns files sources r =
     MatchResult r
-    (λ cs. All (IsRenamableFile n files) sources × (map change_in cs.items ≡ flat_map (changes_of n files) sources))
-    (λ f. (f.index < length sources) × All (IsRenamableFile n files) (take f.index sources)
-    × ((d : Source) → RefusesFile n files (slice_index_or sources f.index d) f.fault))
+    (λ cs. All (IsRenamableFile ns files) sources × (map change_in cs.items ≡ flat_map (changes_of ns files) sources))
+    (λ f. (f.index < length sources) × All (IsRenamableFile ns files) (take f.index sources)
+    × ((d : Source) → RefusesFile ns files (slice_index_or sources f.index d) f.fault))
 
 -- What a renaming that stopped has done: nothing, if a file was refused; else the write of the change of this path failed with this
 -- error, and the changes before it are made.
-abbrev pub StopsRename : {T : Type 0} → Renaming → List Source → (T → Option Files) → T → T → RenameStop → Type 0
-StopsRename n sources files_of before after (RefusedFile f) = after ≡ before
-StopsRename n sources files_of before after (Unwritten path e) =
-    IfSome (files_of before) (λ files. IsUnwritten (flat_map (changes_of n files) sources) files (files_of after) (string_bytes path) e)
+abbrev pub StopsRename : {T : Type 0} → List Renaming → List Source → (T → Option Files) → T → T → RenameStop → Type 0
+StopsRename ns sources files_of before after (RefusedFile f) = after ≡ before
+StopsRename ns sources files_of before after (Unwritten path e) =
+    IfSome (files_of before) (λ files. IsUnwritten (flat_map (changes_of ns files) sources) files (files_of after) (string_bytes path) e)
 
 -- why a renaming stopped, where a file was refused
-abbrev pub RefusesRename : Renaming → List Source → Option Files → RenameStop → Type 0
-RefusesRename n sources before (RefusedFile f) = IfSome before (λ files. IsPlan n files sources (Err f))
-RefusesRename n sources before (Unwritten path e) = Unit {0}
+abbrev pub RefusesRename : List Renaming → List Source → Option Files → RenameStop → Type 0
+RefusesRename ns sources before (RefusedFile f) = IfSome before (λ files. IsPlan ns files sources (Err f))
+RefusesRename ns sources before (Unwritten path e) = Unit {0}
 
 -- what a renaming has done: the changes of all files are made, and counted
-abbrev pub Renames : Renaming → List Source → Option Files → Option Files → ℕ → Type 0
-Renames n sources before after count =
+abbrev pub Renames : List Renaming → List Source → Option Files → Option Files → ℕ → Type 0
+Renames ns sources before after count =
     IfSome before (λ files.
-    All (IsRenamableFile n files) sources × HasChanges (flat_map (changes_of n files) sources) (Some files) after
-    × (count ≡ length (flat_map (changes_of n files) sources)))
+    All (IsRenamableFile ns files) sources × HasChanges (flat_map (changes_of ns files) sources) (Some files) after
+    × (count ≡ length (flat_map (changes_of ns files) sources)))

@@ -13,6 +13,7 @@ use Rattle.rust_document.specs.Tokens.{Span, tokens_of}
 use Rattle.source_tools.specs.Rows.{message_rows, range_text, token_row, quoted}
 use Rattle.source_tools.specs.Order.{in_order}
 use Rattle.source_tools.specs.Words.{kind_name, words}
+use Rattle.message_ends.specs.Ends.{message_end}
 use Rattle.line_index.specs.declared.encoding.Encoding.TheVariants.{Utf32}
 use Rattle.line_index.specs.Columns.{line_col}
 use Rattle.source_tools.specs.Json.{message_item, token_item, element_item, file_object}
@@ -54,8 +55,8 @@ tree_rows margin (Leave c ∷ events) = tree_rows (outer margin) events
 
 -- ---- items of a list in JSON
 
-abbrev pub item_of_message : List ℕ → Message → List ℕ
-item_of_message text m = message_item (line_col Utf32 text m.0) m.0 (words m.1)
+abbrev pub item_of_message : List Span → List ℕ → Message → List ℕ
+item_of_message tokens text m = message_item (line_col Utf32 text m.0) m.0 (message_end tokens m) (words m.1)
 
 abbrev pub item_of_token : Span → List ℕ
 item_of_token t = token_item (kind_name t.kind) t.start t.end
@@ -80,7 +81,7 @@ events_of dialect text = walk (Node (element_at 0 (tree_in dialect.grammar diale
 
 abbrev pub message_view : Format → List ℕ → Dialect → List ℕ → List ℕ
 message_view Text path dialect text = flat_map (rows_of_message path text) (in_order (messages_in dialect.grammar dialect.edition (chars text)))
-message_view Json path dialect text = file_object path (codes "messages") (flat_map (item_of_message text) (in_order (messages_in dialect.grammar dialect.edition (chars text))))
+message_view Json path dialect text = file_object path (codes "messages") (flat_map (item_of_message (tokens_of dialect.edition (chars text)) text) (in_order (messages_in dialect.grammar dialect.edition (chars text))))
 
 abbrev pub token_view : Format → List ℕ → Dialect → List ℕ → List ℕ
 token_view Text path dialect text = flat_map (row_of_token text) (tokens_of dialect.edition (chars text))

@@ -1,11 +1,12 @@
 //! Rows of JSON.
 
 ghost use Rattle.std.specs.Prelude.{◌≡◌, ◌<◌, ◌+◌, ◌^◌, ◌++◌, OnOk, IfOk, drop, string_bytes};
-ghost use Rattle.source_tools.specs.Json.{element_item, file_object, json_string, message_item, token_item};
+ghost use Rattle.source_tools.specs.Json.{change_item, element_item, file_object, json_string, message_item, message_place, token_item};
 
 use crate::rows::Message;
 use serde_json::Value;
 use std::alloc::{AllocError, Global};
+use text_diff::ByteChange;
 
 /// Returns `text` as a string in JSON.
 fn json_string(alloc: Global, text: &str) -> Result<String, AllocError>
@@ -15,34 +16,44 @@ fn json_string(alloc: Global, text: &str) -> Result<String, AllocError>
     value.to_string(alloc)
 }
 
-/// Returns the item of a message.
-fn message_item(alloc: Global, message: &Message<'_>) -> Result<String, AllocError>
+/// Returns what the item of a message begins with: where it is.
+fn message_place(alloc: Global, message: &Message<'_>) -> Result<String, AllocError>
     requires line { message.now.place.line + 1 < 2 ^ 64 }
     requires col { message.now.place.col + 1 < 2 ^ 64 }
-    ensures { IfOk result (λ item. string_bytes item
-        ≡ message_item message.now.place message.now.offset message.now.words.now) }
+    ensures { IfOk result (λ text. string_bytes text
+        ≡ message_place message.now.place message.now.offset) }
 {
-    let words = json_string(alloc, message.words)?;
     let line = message.place.line + 1;
     let column = message.place.col + 1;
     let offset = message.offset;
-    format!(in alloc;
-        ",{{\"line\":{line},\"column\":{column},\"offset\":{offset},\"message\":{words}}}"
-    )
+    format!(in alloc; ",{{\"line\":{line},\"column\":{column},\"offset\":{offset}")
 }
 
-/// Appends the item of a message.
+/// Returns the item of a message that ends at the offset `end`.
+fn message_item(alloc: Global, message: &Message<'_>, end: usize) -> Result<String, AllocError>
+    requires line { message.now.place.line + 1 < 2 ^ 64 }
+    requires col { message.now.place.col + 1 < 2 ^ 64 }
+    ensures { IfOk result (λ item. string_bytes item
+        ≡ message_item message.now.place message.now.offset end message.now.words.now) }
+{
+    let place = message_place(alloc, message)?;
+    let words = json_string(alloc, message.words)?;
+    format!(in alloc; "{place},\"end\":{end},\"message\":{words}}}")
+}
+
+/// Appends the item of a message that ends at the offset `end`.
 pub(crate) fn push_message_item(
     alloc: Global,
     message: &Message<'_>,
+    end: usize,
     items: &mut Vec<u8>,
 ) -> Result<(), AllocError>
     requires line { message.now.place.line + 1 < 2 ^ 64 }
     requires col { message.now.place.col + 1 < 2 ^ 64 }
     ensures { OnOk result (items.new.items ≡ items.old.items
-        ++ message_item message.now.place message.now.offset message.now.words.now) }
+        ++ message_item message.now.place message.now.offset end message.now.words.now) }
 {
-    let item = message_item(alloc, message)?;
+    let item = message_item(alloc, message, end)?;
     items.extend_from_slice(item.as_str().as_bytes())
 }
 
@@ -83,6 +94,24 @@ pub(crate) fn push_element_item(
     let end = place.end;
     let item = format!(in alloc;
         ",{{\"depth\":{depth},\"kind\":\"{name}\",\"start\":{start},\"end\":{end}}}"
+    )?;
+    items.extend_from_slice(item.as_str().as_bytes())
+}
+
+/// Appends the item of a change.
+pub(crate) fn push_change_item(
+    alloc: Global,
+    change: &ByteChange,
+    items: &mut Vec<u8>,
+) -> Result<(), AllocError>
+    ensures { OnOk result (items.new.items ≡ items.old.items ++ change_item change.now) }
+{
+    let start = change.old_start;
+    let end = change.old_end;
+    let new_start = change.new_start;
+    let new_end = change.new_end;
+    let item = format!(in alloc;
+        ",{{\"start\":{start},\"end\":{end},\"new_start\":{new_start},\"new_end\":{new_end}}}"
     )?;
     items.extend_from_slice(item.as_str().as_bytes())
 }

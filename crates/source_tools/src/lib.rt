@@ -1,6 +1,7 @@
 //! Commands over source files: messages, tokens, trees and renamings of files behind a `Target`.
 #![tactic(auto)]
 
+mod change_lists;
 mod decode;
 mod diffs;
 mod json;
@@ -19,6 +20,7 @@ mod view;
 mod wording;
 mod writes;
 
+pub use change_lists::write_change_lists;
 pub use decode::{encode, text_of};
 pub use diffs::write_diffs;
 pub use plan::{RenameFailure, plan_renames};

@@ -3,18 +3,22 @@
 ghost use Rattle.std.specs.Prelude.{◌≡◌, ◌<◌, ◌^◌, ◌++◌, OnOk, codes, length, chars, map};
 ghost use Rattle.std.specs.List.{flat_map};
 ghost use Rattle.rust_document.specs.Reading.{messages_in};
-ghost use Rattle.rust_document.specs.Seen.{message_of_error};
+ghost use Rattle.rust_document.specs.Seen.{fault_of, message_of_error};
+ghost use Rattle.rust_document.specs.Tokens.{tokens_of};
+ghost use Rattle.message_ends.specs.Ends.{all_tokens};
 ghost use Rattle.line_index.specs.declared.encoding.Encoding.TheVariants.{Utf32};
 ghost use Rattle.line_index.specs.Columns.{line_col};
-ghost use Rattle.source_tools.specs.Json.{file_object};
+ghost use Rattle.source_tools.specs.Json.{file_object, message_item};
 ghost use Rattle.source_tools.specs.Order.{in_order};
 ghost use Rattle.source_tools.specs.Texts.{item_of_message, rows_of_message};
+ghost use Rattle.source_tools.specs.Words.{words};
 
 use crate::json::{push_message_item, push_object};
 use crate::order::in_order;
 use crate::rows::{Message, push_message};
 use crate::wording::error_words;
 use line_index::{Encoding, LineCol, LineIndex};
+use message_ends::MessageEnds;
 use rust_document::{Document, SyntaxError};
 use std::alloc::{AllocError, Global};
 
@@ -96,17 +100,19 @@ pub(crate) fn push_messages(
     Ok(())
 }
 
-/// Appends the item of an error, which is about the text of `index`.
+/// Appends the item of an error, which is about the text of `index` and ends at the offset `end`.
 fn push_error_item(
     alloc: Global,
     index: &LineIndex<'_>,
     placed: &PlacedError,
+    end: usize,
     items: &mut Vec<u8>,
 ) -> Result<(), AllocError>
     requires text { length index.now < 2 ^ 32 }
     requires place { placed.now.place ≡ line_col Utf32 index.now placed.now.error.offset }
     ensures { OnOk result (items.new.items ≡ items.old.items
-        ++ item_of_message index.now (message_of_error placed.now.error)) }
+        ++ message_item (line_col Utf32 index.now placed.now.error.offset)
+        placed.now.error.offset end (words (fault_of placed.now.error.message))) }
 {
     let error = placed.error;
     let words = error_words(alloc, &error.message)?;
@@ -115,20 +121,22 @@ fn push_error_item(
         place: placed.place,
         words: words.as_str(),
     };
-    push_message_item(alloc, &message, items)?;
+    push_message_item(alloc, &message, end, items)?;
     Ok(())
 }
 
-/// Appends the items of `errors`, which are about the text of `index`.
+/// Appends the items of `errors`, which are about the text of `index` and end where `ends` says.
 fn push_error_items(
     alloc: Global,
     index: &LineIndex<'_>,
+    ends: &mut MessageEnds<'_>,
     errors: &[SyntaxError],
     items: &mut Vec<u8>,
 ) -> Result<(), AllocError>
     requires { length index.now < 2 ^ 32 }
     ensures { OnOk result (items.new.items ≡ items.old.items
-        ++ flat_map (item_of_message index.now) (map message_of_error errors.now)) }
+        ++ flat_map (item_of_message (all_tokens ends.old) index.now)
+        (map message_of_error errors.now)) }
 {
     let mut from = 0;
     let mut place = index.line_col(Encoding::Utf32, 0);
@@ -139,7 +147,8 @@ fn push_error_items(
             error: *error,
             place,
         };
-        push_error_item(alloc, index, &placed, items)?;
+        let end = ends.end_of(error);
+        push_error_item(alloc, index, &placed, end, items)?;
     }
     Ok(())
 }
@@ -152,14 +161,15 @@ pub(crate) fn push_message_list(
     rows: &mut Vec<u8>,
 ) -> Result<(), AllocError>
     ensures { OnOk result (rows.new.items ≡ rows.old.items ++ file_object path.now (codes "messages")
-        (flat_map (item_of_message document.now.text)
-        (in_order (messages_in document.now.grammar document.now.edition
+        (flat_map (item_of_message (tokens_of document.now.edition (chars document.now.text))
+        document.now.text) (in_order (messages_in document.now.grammar document.now.edition
         (chars document.now.text))))) }
 {
     let index = LineIndex::try_new(alloc, document.text())?;
     let errors = in_order(alloc, document.errors())?;
+    let mut ends = MessageEnds::of(document);
     let mut items = Vec::new(alloc);
-    push_error_items(alloc, &index, errors.as_slice(), &mut items)?;
+    push_error_items(alloc, &index, &mut ends, errors.as_slice(), &mut items)?;
     push_object(alloc, path, "messages", items.as_slice(), rows)?;
     Ok(())
 }

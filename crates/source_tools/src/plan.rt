@@ -20,22 +20,22 @@ pub struct RenameFailure {
     pub fault: RenameFault,
 }
 
-/// Returns the change that the renaming makes of a file with these contents, or `None` if its bytes
+/// Returns the change that the renamings make of a file with these contents, or `None` if its bytes
 /// stay.
 fn change_of(
     alloc: Global,
-    renaming: &Renaming<'_>,
+    renamings: &[Renaming<'_>],
     source: &Source,
     contents: Contents,
 ) -> Result<Option<FileChange>, RenameFault>
-    ensures { IsRenamedRead renaming.now source.now (Ok (contents.bytes.items, contents.version))
+    ensures { IsRenamedRead renamings.now source.now (Ok (contents.bytes.items, contents.version))
         result }
 {
     let Contents {
         bytes: old,
         version,
     } = contents;
-    let new = match rename_bytes(alloc, renaming, source.dialect, old.as_slice()) {
+    let new = match rename_bytes(alloc, renamings, source.dialect, old.as_slice()) {
         Ok(new) => new,
         Err(fault) => return Err(fault),
     };
@@ -53,18 +53,18 @@ fn change_of(
     }))
 }
 
-/// Returns the change that the renaming makes of a file, or `None` if its bytes stay.
+/// Returns the change that the renamings make of a file, or `None` if its bytes stay.
 fn rename_file<T: Target>(
     alloc: Global,
-    renaming: &Renaming<'_>,
+    renamings: &[Renaming<'_>],
     target: &T,
     source: &Source,
 ) -> Result<Option<FileChange>, RenameFault>
     ensures { IfSome (T.files target.now)
-        (λ files. IsRenamedFile renaming.now files source.now result) }
+        (λ files. IsRenamedFile renamings.now files source.now result) }
 {
     match target.read(alloc, source.path.as_str()) {
-        Ok(contents) => change_of(alloc, renaming, source, contents),
+        Ok(contents) => change_of(alloc, renamings, source, contents),
         Err(error) => Err(RenameFault::File(FileError::from(error))),
     }
 }
@@ -83,23 +83,24 @@ fn push_change(change: Option<FileChange>, changes: &mut Vec<FileChange>) -> Res
     }
 }
 
-/// Returns the changes that the renaming makes of the files, in order. Nothing is written.
+/// Returns the changes that the renamings make of the files, each on what the one before it left, in
+/// order. Nothing is written.
 ///
 /// # Errors
 ///
 /// The first file that the target does not read, or that cannot be renamed in.
 pub fn plan_renames<T: Target>(
     alloc: Global,
-    renaming: &Renaming<'_>,
+    renamings: &[Renaming<'_>],
     target: &T,
     sources: &[Source],
 ) -> Result<Vec<FileChange>, RenameFailure>
     ensures { IfSome (T.files target.now)
-        (λ files. IsPlan renaming.now files sources.now result) }
+        (λ files. IsPlan renamings.now files sources.now result) }
 {
     let mut changes = Vec::new(alloc);
     for (index, source) in sources.iter().enumerate() {
-        let change = match rename_file(alloc, renaming, target, source) {
+        let change = match rename_file(alloc, renamings, target, source) {
             Ok(change) => change,
             Err(fault) => return Err(RenameFailure { index, fault }),
         };

@@ -19,7 +19,7 @@ pub enum RenameStop {
     Unwritten(String, TargetError),
 }
 
-/// Renames identifiers in the files, and writes those whose bytes change, in order. Returns how many
+/// Renames identifiers in the files, by one renaming after another, and writes those whose bytes change, in order. Returns how many
 /// are written.
 ///
 /// # Errors
@@ -29,17 +29,17 @@ pub enum RenameStop {
 ///   any, are written.
 pub fn rename_files<T: Target>(
     alloc: Global,
-    renaming: &Renaming<'_>,
+    renamings: &[Renaming<'_>],
     target: &mut T,
     sources: &[Source],
 ) -> Result<usize, RenameStop>
     ensures renamed { IfOk result
-        (Renames renaming.now sources.now (T.files target.old) (T.files target.new)) }
+        (Renames renamings.now sources.now (T.files target.old) (T.files target.new)) }
     ensures stopped { IfErr result
-        (StopsRename renaming.now sources.now T.files target.old target.new) }
-    ensures refused { IfErr result (RefusesRename renaming.now sources.now (T.files target.old)) }
+        (StopsRename renamings.now sources.now T.files target.old target.new) }
+    ensures refused { IfErr result (RefusesRename renamings.now sources.now (T.files target.old)) }
 {
-    let mut changes = match plan_renames(alloc, renaming, &*target, sources) {
+    let mut changes = match plan_renames(alloc, renamings, &*target, sources) {
         Ok(changes) => changes,
         Err(failure) => return Err(RenameStop::RefusedFile(failure)),
     };

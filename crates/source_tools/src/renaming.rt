@@ -1,7 +1,7 @@
 //! Identifiers are renamed in the bytes of a file.
 
 ghost use Rattle.std.specs.Prelude.{◌≡◌, MatchResult, Some, chars};
-ghost use Rattle.source_tools.specs.Renames.{IsRenamable, RefusesBytes, has_identifier, is_free, is_identifier, renamed_bytes};
+ghost use Rattle.source_tools.specs.Renames.{IsRenamable, IsRenamableOnce, RefusesBytes, RefusesOnce, has_identifier, is_free, is_identifier, renamed_bytes, renamed_once};
 ghost use Rattle.rust_document.specs.Tokens.{span_of};
 ghost use Rattle.source_tools.specs.Texts.{dialect_of};
 
@@ -92,24 +92,17 @@ fn is_free(renaming: &Renaming<'_>, document: &Document) -> bool
     renaming.merge || !has_identifier(document, renaming.new)
 }
 
-/// Returns the bytes of a file after the renaming.
-///
-/// # Errors
-///
-/// - [`RenameFault::File`] if the bytes are not UTF-8, the text is too long, or out of memory.
-/// - [`RenameFault::NameTaken`] if the new name is an identifier of the text, unless it may be.
-/// - [`RenameFault::Refused`] if the new name is no token, or the new text would not read as the
-///   renamed tree.
-pub fn rename_bytes(
+/// Returns the bytes of a file after one renaming.
+fn rename_once(
     alloc: Global,
     renaming: &Renaming<'_>,
     dialect: Dialect,
     bytes: &[u8],
 ) -> Result<Vec<u8>, RenameFault>
     ensures { MatchResult result
-        (λ new. IsRenamable renaming.now dialect bytes.now
-        × (renamed_bytes renaming.now dialect bytes.now ≡ Some new.items))
-        (RefusesBytes renaming.now dialect bytes.now) }
+        (λ new. IsRenamableOnce renaming.now dialect bytes.now
+        × (renamed_once renaming.now dialect bytes.now ≡ Some new.items))
+        (RefusesOnce renaming.now dialect bytes.now) }
 {
     let Some(text) = text_of(bytes) else {
         return Err(RenameFault::File(FileError::NotUtf8));
@@ -130,4 +123,38 @@ pub fn rename_bytes(
     }
     let new = encode(alloc, bytes, document.text())?;
     Ok(new)
+}
+
+/// Returns the bytes of a file after the renamings, each on what the one before it left.
+///
+/// # Errors
+///
+/// Of the first renaming that is refused:
+///
+/// - [`RenameFault::File`] if the bytes are not UTF-8, the text is too long, or out of memory.
+/// - [`RenameFault::NameTaken`] if the new name is an identifier of the text, unless it may be.
+/// - [`RenameFault::Refused`] if the new name is no token, or the new text would not read as the
+///   renamed tree.
+pub fn rename_bytes(
+    alloc: Global,
+    renamings: &[Renaming<'_>],
+    dialect: Dialect,
+    bytes: &[u8],
+) -> Result<Vec<u8>, RenameFault>
+    ensures { MatchResult result
+        (λ new. IsRenamable renamings.now dialect bytes.now
+        × (renamed_bytes renamings.now dialect bytes.now ≡ Some new.items))
+        (RefusesBytes renamings.now dialect bytes.now) }
+{
+    match renamings {
+        [] => {
+            let mut new = Vec::new(alloc);
+            new.extend_from_slice(bytes)?;
+            Ok(new)
+        }
+        [renaming, rest @ ..] => {
+            let next = rename_once(alloc, renaming, dialect, bytes)?;
+            rename_bytes(alloc, rest, dialect, next.as_slice())
+        }
+    }
 }

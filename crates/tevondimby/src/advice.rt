@@ -3,22 +3,27 @@
 use crate::inputs::Inputs;
 use file_target::Target;
 use line_index::{Encoding, LineCol, LineIndex};
-use parser_input::{LexedStr, SyntaxKind};
+use parser_input::LexedStr;
+use rename_pairs::NamePair;
 use renamer::RenameError;
 use rust_document::{CommitError, is_plain_name};
-use source_tools::{RenameFault, Renaming, Source, text_of};
+use source_tools::{RenameFault, Source, text_of};
 use std::alloc::{AllocError, Global};
+use token_names::has_name;
 
-/// Returns the line and column of the first identifier `name` of a text.
+/// Returns the line and column of the first identifier of a text that is `name`, however it is spelled;
+/// with `is_other` the first that is spelled otherwise.
 fn place_in(
     alloc: Global,
     source: &Source,
     text: &str,
     name: &str,
+    is_other: bool,
 ) -> Result<Option<LineCol>, AllocError> {
     let tokens = LexedStr::new(alloc, source.dialect.edition, text)?;
     for i in 0..tokens.len() {
-        if tokens.kind(i) == SyntaxKind::IDENT && tokens.text(i) == name {
+        let token = tokens.text(i);
+        if has_name(alloc, name, tokens.kind(i), token)? && (!is_other || token != name) {
             let lines = LineIndex::try_new(alloc, text)?;
             return Ok(Some(lines.line_col(Encoding::Utf32, tokens.text_start(i))));
         }
@@ -26,44 +31,73 @@ fn place_in(
     Ok(None)
 }
 
-/// Returns the line and column of the first identifier `name` of a file that can be read.
-fn place_of(rt: &HostRuntime, source: &Source, name: &str) -> Result<Option<LineCol>, AllocError> {
+/// Returns such a place of a file that can be read.
+fn place_of(
+    rt: &HostRuntime,
+    source: &Source,
+    name: &str,
+    is_other: bool,
+) -> Result<Option<LineCol>, AllocError> {
     let Ok(contents) = Inputs::new(rt).read(rt.alloc(), source.path.as_str()) else {
         return Ok(None);
     };
     match text_of(contents.bytes.as_slice()) {
-        Some(text) => place_in(rt.alloc(), source, text, name),
+        Some(text) => place_in(rt.alloc(), source, text, name, is_other),
         None => Ok(None),
     }
+}
+
+/// Says where a new name is.
+fn report_place(rt: &HostRuntime, source: &Source, place: LineCol, new: &str) {
+    let line = place.line.saturating_add(1);
+    let column = place.col.saturating_add(1);
+    let path = source.path.as_str();
+    let _ = eprintln!(rt; "{path}:{line}:{column}: `{new}` is here; --merge makes both names one");
+}
+
+/// Returns `true` if a new name is in one of the files in another spelling, and says where.
+pub(crate) fn is_spelled_otherwise(
+    rt: &HostRuntime,
+    sources: &[Source],
+    new: &str,
+) -> Result<bool, AllocError> {
+    for source in sources {
+        if let Some(place) = place_of(rt, source, new, true)? {
+            let path = source.path.as_str();
+            let _ = eprintln!(rt;
+                "tevondimby: {path}: the new name is an identifier here already, in another spelling; no file is written"
+            );
+            report_place(rt, source, place, new);
+            return Ok(true);
+        }
+    }
+    Ok(false)
 }
 
 /// Says what leads on after a file was refused by a renaming.
 pub(crate) fn advise(
     rt: &HostRuntime,
-    renaming: &Renaming<'_>,
+    pairs: &[NamePair<'_>],
     source: &Source,
     fault: &RenameFault,
 ) -> Result<(), AllocError> {
-    let new = renaming.new;
-    match fault {
-        RenameFault::NameTaken => {
-            if let Some(place) = place_of(rt, source, new)? {
-                let line = place.line.saturating_add(1);
-                let column = place.col.saturating_add(1);
-                let path = source.path.as_str();
-                let _ = eprintln!(rt;
-                    "{path}:{line}:{column}: `{new}` is here; --merge makes both names one"
-                );
+    for pair in pairs {
+        let new = pair.new;
+        match fault {
+            RenameFault::NameTaken => {
+                if let Some(place) = place_of(rt, source, new, false)? {
+                    report_place(rt, source, place, new);
+                }
             }
-        }
-        RenameFault::Refused(RenameError::Refused(CommitError::Unfaithful)) => {
-            if !is_plain_name(source.dialect.edition, new) {
-                let _ = eprintln!(rt;
-                    "`{new}` is a keyword, or another word with a meaning of its own, in the file's edition"
-                );
+            RenameFault::Refused(RenameError::Refused(CommitError::Unfaithful)) => {
+                if !is_plain_name(source.dialect.edition, new) {
+                    let _ = eprintln!(rt;
+                        "`{new}` is a keyword, or another word with a meaning of its own, in the file's edition"
+                    );
+                }
             }
+            RenameFault::File(_) | RenameFault::Refused(_) => {}
         }
-        RenameFault::File(_) | RenameFault::Refused(_) => {}
     }
     Ok(())
 }

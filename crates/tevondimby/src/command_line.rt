@@ -8,8 +8,8 @@ const ABOUT: &str =
 
 const AFTER: &str = "\
 A FILE is a path, `-` for standard input, or a directory for the `.rs` files in it, in order of name; \
-links in it are not followed, and in it directories that are hidden or named `target` are left out. A \
-file that several paths lead to is taken once. A file's edition is that \
+links in it are not followed, and in it directories that are hidden or named `target` are left out, and \
+what a pattern of `--exclude` matches. A file that several paths lead to is taken once. A file's edition is that \
 of `--edition`, or else of the nearest `Cargo.toml`, or else 2021; a `Cargo.toml` that cannot be read \
 or names no edition of Rust is named on standard error. Its grammar is the whole language, or with \
 `--grammar profile` the part of it that a request is read by if it names no grammar.
@@ -18,11 +18,22 @@ The exit status is 0; or 1 if `check` prints messages, if `search` finds no matc
 `--check` a file would change or OLD would be left, or if there is no file; or 2 after a fault: a file \
 that cannot be read is named on standard error, and `check`, `tokens` and `tree` still read the others.
 
-One process reads one file after another. For more processors, or to leave files out:
+One process reads one file after another. For more processors:
 
-    find src -name '*.rs' ! -path '*/gen/*' -print0 | xargs -0 -P 4 -n 100 tevondimby check";
+    find src -name '*.rs' -print0 | xargs -0 -P 4 -n 100 tevondimby check";
 
 const JSON: &str = "Prints an object in JSON for each file, on a line of its own";
+
+const EXCLUDE: &str = "\
+Leaves out the files and directories in a directory whose path or name the pattern matches; in it `*` is \
+any text, also with `/`, and `?` one character";
+
+const CHANGES: &str = "\
+Prints no diff, but an object in JSON for each file that would change, on a line of its own: the ranges of \
+the lines that differ, in bytes of the old and of the new file";
+
+const PAIRS: &str =
+    "Reads pairs OLD=NEW from a file, one a line; empty lines and those that begin with # say nothing";
 
 const CHECK: &str =
     "Prints the paths of the files that would change; the exit status is 1 if there are any";
@@ -57,12 +68,22 @@ the request program, which ignores the member.
 
 The exit status is 0 at the end of the input, or 2 if reading, writing or memory fails.";
 
+const RENAME_USAGE: &str = "tevondimby rename [OPTIONS] <OLD> <NEW> <FILE>...
+       tevondimby rename [OPTIONS] <OLD=NEW>... <FILE>...
+       tevondimby rename [OPTIONS] --pairs <PAIRS> <FILE>...";
+
 const RENAME: &str = "\
 Renames each identifier OLD to NEW, in macro calls too. These are tokens: scopes, names in format \
-strings and names that macros make are not followed.
+strings and names that macros make are not followed. As for the compiler, `r#OLD` is OLD, and so is \
+OLD in its other Unicode spelling (Normalization Form C): both become NEW as it is given. So do `$OLD` in a \
+macro definition, and a fragment specifier OLD, which standard error names. Lifetimes and labels are not \
+renamed.
+
+With OLD=NEW, or with `--pairs`, several names are renamed, one after another, and the files are written \
+once. No OLD may be given twice, and no NEW may be an OLD.
 
 After that, standard error names the places that still spell OLD, as `src/a.rs:4:17: OLD in a string`: \
-in strings and characters, comments, lifetimes and raw identifiers, where OLD is a word of its own; at \
+in strings and characters, comments and lifetimes, where OLD is a word of its own; at \
 most 20, then how many more there are. A last line counts the names and files that change and the \
 places that are left. Without `--write` the places are those of the files as they are, else those of \
 the files as they are written.
@@ -127,6 +148,19 @@ fn grammar<'a>(alloc: Global) -> Arg<'a> {
         .action(ArgAction::Set)
 }
 
+fn exclude<'a>(alloc: Global) -> Arg<'a> {
+    Arg::new(alloc, "exclude")
+        .long("exclude")
+        .value_name("GLOB")
+        .help(EXCLUDE)
+        .action(ArgAction::Append)
+}
+
+/// Adds the files, and the patterns of those that are left out.
+fn with_files<'a>(alloc: Global, command: Command<'a>) -> Result<Command<'a>, AllocError> {
+    command.arg(exclude(alloc))?.arg(files(alloc))
+}
+
 /// Adds the Rust that files are read as.
 fn with_dialect<'a>(alloc: Global, command: Command<'a>) -> Result<Command<'a>, AllocError> {
     command.arg(edition(alloc))?.arg(grammar(alloc))
@@ -146,7 +180,7 @@ fn reading<'a>(alloc: Global, name: &'a str, about: &'a str) -> Result<Command<'
     let command = Command::new(alloc, name)
         .about(about)
         .arg(flag(alloc, "json", JSON))?;
-    with_dialect(alloc, command)?.arg(files(alloc))
+    with_files(alloc, with_dialect(alloc, command)?)
 }
 
 /// Returns a flag.
@@ -172,20 +206,33 @@ fn with_flags<'a>(alloc: Global, command: Command<'a>) -> Result<Command<'a>, Al
     let diff = flag(alloc, "diff", "Prints a diff, as without --write").conflicts_with("write")?;
     let check = flag(alloc, "check", CHECK).conflicts_with("write")?;
     let check = check.conflicts_with("diff")?;
+    let json = flag(alloc, "json", CHANGES).conflicts_with("write")?;
+    let json = json.conflicts_with("diff")?.conflicts_with("check")?;
     let quiet = flag(alloc, "quiet", "Says nothing on standard error but faults").short('q');
-    command.arg(write)?.arg(diff)?.arg(check)?.arg(quiet)
+    let command = command.arg(write)?.arg(diff)?.arg(check)?;
+    command.arg(json)?.arg(quiet)
 }
 
-/// Adds the names of a renaming.
+/// Adds the names of a renaming, and the files after them.
 fn with_names<'a>(alloc: Global, command: Command<'a>) -> Result<Command<'a>, AllocError> {
     let merge = flag(
         alloc,
         "merge",
         "NEW may be an identifier of the files already",
     );
-    let old = word(alloc, "old", "OLD", "The identifier that is renamed");
-    let new = word(alloc, "new", "NEW", "Its new name");
-    command.arg(merge)?.arg(old)?.arg(new)
+    let pairs = Arg::new(alloc, "pairs")
+        .long("pairs")
+        .value_name("PAIRS")
+        .help(PAIRS)
+        .action(ArgAction::Set);
+    let words = Arg::new(alloc, "words")
+        .value_name("OLD NEW FILE")
+        .help("The old name, the new one and the files; or pairs OLD=NEW and the files")
+        .required(true)
+        .action(ArgAction::Append)
+        .num_args(1..);
+    let command = command.arg(merge)?.arg(pairs)?.arg(exclude(alloc))?;
+    command.arg(words)
 }
 
 /// Adds a pattern, and what it is read as.
@@ -211,7 +258,7 @@ fn searching<'a>(alloc: Global) -> Result<Command<'a>, AllocError> {
         .about("Prints the matches of a pattern")
         .long_about(SEARCH);
     let command = with_pattern(alloc, command)?;
-    with_dialect(alloc, command)?.arg(files(alloc))
+    with_files(alloc, with_dialect(alloc, command)?)
 }
 
 /// Returns the command that replaces matches.
@@ -238,16 +285,17 @@ fn replacing<'a>(alloc: Global) -> Result<Command<'a>, AllocError> {
         .arg(skip)?
         .arg(messages)?;
     let command = with_pattern(alloc, command)?.arg(template)?;
-    with_dialect(alloc, command)?.arg(files(alloc))
+    with_files(alloc, with_dialect(alloc, command)?)
 }
 
 /// Returns the command that renames.
 fn renaming<'a>(alloc: Global) -> Result<Command<'a>, AllocError> {
     let command = Command::new(alloc, "rename")
         .about("Renames identifiers")
-        .long_about(RENAME);
-    let command = with_names(alloc, with_flags(alloc, command)?)?;
-    with_dialect(alloc, command)?.arg(files(alloc))
+        .long_about(RENAME)
+        .override_usage(RENAME_USAGE);
+    let command = with_dialect(alloc, with_flags(alloc, command)?)?;
+    with_names(alloc, command)
 }
 
 /// Returns the command that rewrites files.
@@ -278,17 +326,17 @@ fn serving<'a>(alloc: Global) -> Command<'a> {
 }
 
 /// Returns the command without its subcommands.
-fn bare_command<'a>(alloc: Global) -> Command<'a> {
+fn bare_command<'a>(alloc: Global, version: &'a str) -> Command<'a> {
     Command::new(alloc, "tevondimby")
         .about(ABOUT)
         .after_help(AFTER)
-        .version("0.1.0")
+        .version(version)
         .subcommand_required(true)
         .arg_required_else_help(true)
 }
 
-/// Returns the whole command.
-pub(crate) fn command<'a>(alloc: Global) -> Result<Command<'a>, AllocError> {
+/// Returns the whole command, which says that it has this version.
+pub(crate) fn command<'a>(alloc: Global, version: &'a str) -> Result<Command<'a>, AllocError> {
     let check = reading(
         alloc,
         "check",
@@ -300,7 +348,9 @@ pub(crate) fn command<'a>(alloc: Global) -> Result<Command<'a>, AllocError> {
         "tree",
         "Prints the trees of files, a row for each element",
     )?;
-    let command = bare_command(alloc).subcommand(check)?.subcommand(tokens)?;
+    let command = bare_command(alloc, version)
+        .subcommand(check)?
+        .subcommand(tokens)?;
     let command = command.subcommand(tree)?.subcommand(searching(alloc)?)?;
     command
         .subcommand(renaming(alloc)?)?

@@ -3,7 +3,7 @@
 use crate::output::{is_closed, unless_closed};
 use anyhow::{Result, anyhow};
 use file_paths::{common_folder, name_in};
-use source_tools::{FileChange, write_diffs};
+use source_tools::{FileChange, write_change_lists, write_diffs};
 use std::alloc::AllocError;
 use std::io::Write;
 use std::{env, fs};
@@ -69,6 +69,13 @@ pub(crate) fn print_diffs(rt: &HostRuntime, changes: Vec<FileChange>) -> Result<
     let mut changes = changes;
     name_changes(rt, changes.as_mut_slice())?;
     let _written = unless_closed(write_diffs(rt.alloc(), changes.as_slice(), &mut rt.stdout()))?;
+    Ok(())
+}
+
+/// Prints the changes as ranges of bytes, in JSON.
+pub(crate) fn print_ranges(rt: &HostRuntime, changes: &[FileChange]) -> Result<()> {
+    let written = write_change_lists(rt.alloc(), changes, &mut rt.stdout());
+    let _written = unless_closed(written)?;
     Ok(())
 }
 

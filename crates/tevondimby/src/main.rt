@@ -9,6 +9,7 @@ mod diffs;
 mod editions;
 mod file_ids;
 mod inputs;
+mod names;
 mod output;
 mod reasons;
 mod rename;
@@ -20,6 +21,7 @@ mod search;
 mod serve;
 mod source_list;
 mod survey;
+mod version;
 mod view;
 
 use command_report::Outcome;

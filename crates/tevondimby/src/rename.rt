@@ -1,27 +1,32 @@
 //! Identifiers are renamed in files.
 
-use crate::advice::advise;
+use crate::advice::{advise, is_spelled_otherwise};
 use crate::dialects::Dialects;
-use crate::diffs::{print_diffs, print_paths};
+use crate::diffs::{print_diffs, print_paths, print_ranges};
 use crate::inputs::{Inputs, STANDARD_INPUT};
+use crate::names::{Names, names_of, pairs_text};
 use crate::output::is_closed;
 use crate::report::{report_unwritten, usage_error};
-use crate::run::{files_of, path_of};
+use crate::run::{excluded_of, path_of};
+use crate::source_list::source_list;
 use crate::survey::{Survey, survey_bytes, survey_files};
 use anyhow::{Result, anyhow};
 use clap::ArgMatches;
 use command_report::{Outcome, RenameCounts, tally_row, unchanged_row};
 use file_target::Target;
+use parser_input::SyntaxKind;
+use rename_pairs::NamePair;
 use source_tools::{
     RenameFailure, RenameStop, Renaming, Source, plan_renames, rename_bytes, rename_files,
 };
-use std::alloc::AllocError;
+use std::alloc::{AllocError, Global};
 use std::io::Write;
+use token_names::has_name;
 
 /// Names the file that stopped a renaming, and says what leads on.
 fn report_stop(
     rt: &HostRuntime,
-    renaming: &Renaming<'_>,
+    pairs: &[NamePair<'_>],
     sources: &[Source],
     stop: &RenameStop,
 ) -> Outcome {
@@ -30,7 +35,7 @@ fn report_stop(
             let path = path_of(sources, *index);
             let _ = eprintln!(rt; "tevondimby: {path}: {fault}; no file is written");
             if let Some(source) = sources.get(*index) {
-                let _ = advise(rt, renaming, source, fault);
+                let _ = advise(rt, pairs, source, fault);
             }
         }
         RenameStop::Unwritten(path, error) => report_unwritten(rt, path.as_str(), error),
@@ -43,130 +48,205 @@ fn report_stop(
 struct Manner {
     is_written: bool,
     is_check: bool,
+    is_json: bool,
     is_quiet: bool,
+    /// The new names may be identifiers of the files already.
+    is_merge: bool,
     /// The number of files that are read.
     files: usize,
 }
 
-/// Says where the old name is left, and how many names and files change. Returns what the renaming
+/// Returns the old names of pairs.
+fn old_names<'a>(alloc: Global, pairs: &[NamePair<'a>]) -> Result<Vec<&'a str>, AllocError> {
+    let mut names = Vec::new(alloc);
+    for pair in pairs {
+        names.push(pair.old)?;
+    }
+    Ok(names)
+}
+
+/// Returns a renaming for each spelling of each old name. Past the first one of a name the new name is
+/// there.
+fn renamings_of<'a>(
+    alloc: Global,
+    pairs: &[NamePair<'a>],
+    surveys: &'a [Survey],
+    is_merge: bool,
+) -> Result<Vec<Renaming<'a>>, AllocError> {
+    let mut renamings = Vec::new(alloc);
+    for (pair, survey) in pairs.iter().zip(surveys) {
+        let mut merge = is_merge || is_one_name(alloc, pair)?;
+        for spelling in survey.spellings.as_slice() {
+            let old = spelling.as_str();
+            if old != pair.new {
+                renamings.push(Renaming {
+                    old,
+                    new: pair.new,
+                    merge,
+                })?;
+                merge = true;
+            }
+        }
+    }
+    Ok(renamings)
+}
+
+/// Returns `true` if both names of a pair are one in two spellings.
+fn is_one_name(alloc: Global, pair: &NamePair<'_>) -> Result<bool, AllocError> {
+    has_name(alloc, pair.old, SyntaxKind::IDENT, pair.new)
+}
+
+/// Returns `true` if a new name is in the files in another spelling, and may not be, and says where.
+fn is_taken(
+    rt: &HostRuntime,
+    manner: Manner,
+    pairs: &[NamePair<'_>],
+    sources: &[Source],
+) -> Result<bool, AllocError> {
+    if manner.is_merge {
+        return Ok(false);
+    }
+    for pair in pairs {
+        if !is_one_name(rt.alloc(), pair)? && is_spelled_otherwise(rt, sources, pair.new)? {
+            return Ok(true);
+        }
+    }
+    Ok(false)
+}
+
+/// Says where the old names are left, and how many names and files change. Returns what the renaming
 /// came to.
 fn report(
     rt: &HostRuntime,
     manner: Manner,
-    old: &str,
-    counts: RenameCounts,
-    left: &Survey,
+    pairs: &[NamePair<'_>],
+    before: &[Survey],
+    left: &[Survey],
+    files: usize,
 ) -> Result<Outcome, AllocError> {
-    if !manner.is_quiet {
-        left.report(rt)?;
-        let row = if counts.files == 0 {
-            unchanged_row(rt.alloc(), old, manner.files)?
-        } else {
-            tally_row(rt.alloc(), counts.names, counts.files, counts.left)?
-        };
+    let mut counts = RenameCounts {
+        names: 0,
+        files,
+        left: 0,
+    };
+    let mut outcome = Outcome::Done;
+    for (pair, survey) in pairs.iter().zip(before) {
+        counts.names = counts.names.saturating_add(survey.names);
+        if !manner.is_quiet {
+            survey.report_specifiers(rt);
+        }
+        if survey.names == 0 {
+            outcome = Outcome::Found;
+            if !manner.is_quiet {
+                let row = unchanged_row(rt.alloc(), pair.old, manner.files)?;
+                let _ = eprint!(rt; "tevondimby: {row}");
+            }
+        }
+    }
+    for survey in left {
+        counts.left = counts.left.saturating_add(survey.left);
+        if !manner.is_quiet {
+            survey.report(rt)?;
+        }
+    }
+    if !manner.is_quiet && counts.names != 0 {
+        let row = tally_row(rt.alloc(), counts.names, counts.files, counts.left)?;
         let _ = eprint!(rt; "tevondimby: {row}");
     }
-    Ok(counts.outcome(manner.is_check))
-}
-
-/// Says where the old name is left in standard input, and how many names change.
-fn report_input(
-    rt: &HostRuntime,
-    renaming: &Renaming<'_>,
-    manner: Manner,
-    source: Source,
-    texts: (&[u8], &[u8]),
-) -> Result<Outcome, AllocError> {
-    let (old, new) = texts;
-    let before = survey_bytes(rt, &source, old, renaming.old)?;
-    let after = survey_bytes(rt, &source, new, renaming.old)?;
-    let counts = RenameCounts {
-        names: before.names,
-        files: if old == new { 0 } else { 1 },
-        left: after.left,
-    };
-    report(rt, manner, renaming.old, counts, &after)
+    Ok(outcome.and(counts.outcome(manner.is_check)))
 }
 
 /// Renames in standard input, and prints the new text.
 fn rename_input(
     rt: &HostRuntime,
-    renaming: &Renaming<'_>,
+    pairs: &[NamePair<'_>],
     manner: Manner,
     matches: &ArgMatches<'_>,
 ) -> Result<Outcome> {
-    let alloc = rt.alloc();
+    let alloc: Global = rt.alloc();
     let dialect = Dialects::new(rt, matches).dialect(STANDARD_INPUT)?;
     let contents = match Inputs::new(rt).read(alloc, STANDARD_INPUT) {
         Ok(contents) => contents,
         Err(error) => return Err(anyhow!("-: {error}")),
     };
-    let old = contents.bytes.as_slice();
-    let new = match rename_bytes(alloc, renaming, dialect, old) {
-        Ok(new) => new,
-        Err(fault) => return Err(anyhow!("-: {fault}")),
-    };
-    let mut output = rt.stdout();
-    match output.write_all(new.as_slice()) {
-        Ok(()) => {}
-        Err(error) if is_closed(&error) => return Ok(Outcome::Done),
-        Err(error) => return Err(anyhow!("the output could not be written: {error}")),
-    }
     let source = Source {
         path: String::from_str(alloc, STANDARD_INPUT)?,
         dialect,
     };
-    Ok(report_input(rt, renaming, manner, source, (old, new.as_slice()))?)
+    let old = contents.bytes.as_slice();
+    let names = old_names(alloc, pairs)?;
+    let before = survey_bytes(rt, &source, old, names.as_slice())?;
+    let renamings = renamings_of(alloc, pairs, before.as_slice(), manner.is_merge)?;
+    let new = match rename_bytes(alloc, renamings.as_slice(), dialect, old) {
+        Ok(new) => new,
+        Err(fault) => return Err(anyhow!("-: {fault}")),
+    };
+    let new = new.as_slice();
+    let mut output = rt.stdout();
+    match output.write_all(new) {
+        Ok(()) => {}
+        Err(error) if is_closed(&error) => return Ok(Outcome::Done),
+        Err(error) => return Err(anyhow!("the output could not be written: {error}")),
+    }
+    let after = survey_bytes(rt, &source, new, names.as_slice())?;
+    let files = if old == new { 0 } else { 1 };
+    let outcome = report(
+        rt,
+        manner,
+        pairs,
+        before.as_slice(),
+        after.as_slice(),
+        files,
+    )?;
+    Ok(outcome)
 }
 
 /// Renames in files, and writes them.
 fn rename_written(
     rt: &HostRuntime,
-    renaming: &Renaming<'_>,
+    pairs: &[NamePair<'_>],
     manner: Manner,
     sources: &[Source],
+    before: &[Survey],
 ) -> Result<Outcome> {
-    let before = survey_files(rt, sources, renaming.old)?;
-    match rename_files(rt.alloc(), renaming, &mut Inputs::new(rt), sources) {
+    let alloc: Global = rt.alloc();
+    let renamings = renamings_of(alloc, pairs, before, manner.is_merge)?;
+    match rename_files(alloc, renamings.as_slice(), &mut Inputs::new(rt), sources) {
         Ok(files) => {
-            let after = survey_files(rt, sources, renaming.old)?;
-            let counts = RenameCounts {
-                names: before.names,
-                files,
-                left: after.left,
-            };
-            Ok(report(rt, manner, renaming.old, counts, &after)?)
+            let names = old_names(alloc, pairs)?;
+            let after = survey_files(rt, sources, names.as_slice())?;
+            Ok(report(rt, manner, pairs, before, after.as_slice(), files)?)
         }
-        Err(stop) => Ok(report_stop(rt, renaming, sources, &stop)),
+        Err(stop) => Ok(report_stop(rt, pairs, sources, &stop)),
     }
 }
 
-/// Renames in files, and prints a diff, or the paths of the files that would change.
+/// Renames in files, and prints a diff, the changed ranges, or the paths of the files that would change.
 fn rename_shown(
     rt: &HostRuntime,
-    renaming: &Renaming<'_>,
+    pairs: &[NamePair<'_>],
     manner: Manner,
     sources: &[Source],
+    before: &[Survey],
 ) -> Result<Outcome> {
-    let changes = match plan_renames(rt.alloc(), renaming, &Inputs::new(rt), sources) {
+    let alloc: Global = rt.alloc();
+    let renamings = renamings_of(alloc, pairs, before, manner.is_merge)?;
+    let changes = match plan_renames(alloc, renamings.as_slice(), &Inputs::new(rt), sources) {
         Ok(changes) => changes,
         Err(failure) => {
             let stop = RenameStop::RefusedFile(failure);
-            return Ok(report_stop(rt, renaming, sources, &stop));
+            return Ok(report_stop(rt, pairs, sources, &stop));
         }
     };
-    let before = survey_files(rt, sources, renaming.old)?;
-    let counts = RenameCounts {
-        names: before.names,
-        files: changes.len(),
-        left: before.left,
-    };
+    let files = changes.len();
     if manner.is_check {
         print_paths(rt, changes.as_slice())?;
+    } else if manner.is_json {
+        print_ranges(rt, changes.as_slice())?;
     } else {
         print_diffs(rt, changes)?;
     }
-    Ok(report(rt, manner, renaming.old, counts, &before)?)
+    Ok(report(rt, manner, pairs, before, before, files)?)
 }
 
 /// Returns `true` if standard input is one of the files.
@@ -179,42 +259,65 @@ fn has_input(paths: &[&str]) -> bool {
     false
 }
 
-/// Renames in files, and writes them or prints a diff; of standard input the new text is printed.
-pub(crate) fn rename(rt: &HostRuntime, matches: &ArgMatches<'_>) -> Result<Outcome> {
-    let renaming = Renaming {
-        old: matches.get_str("old").unwrap_or(""),
-        new: matches.get_str("new").unwrap_or(""),
-        merge: matches.get_flag("merge"),
-    };
-    let mut manner = Manner {
+/// Returns what a command line says of the manner.
+fn manner_of(matches: &ArgMatches<'_>) -> Manner {
+    Manner {
         is_written: matches.get_flag("write"),
         is_check: matches.get_flag("check"),
+        is_json: matches.get_flag("json"),
         is_quiet: matches.get_flag("quiet"),
+        is_merge: matches.get_flag("merge"),
         files: 1,
-    };
-    if renaming.old == renaming.new || renaming.old.is_empty() {
-        return Ok(usage_error(rt, "the old name is empty, or is the new name"));
     }
-    let paths = matches.get_strs("files").unwrap_or([].as_slice());
-    if has_input(paths) {
-        let is_other = manner.is_written || manner.is_check || matches.get_flag("diff");
-        if is_other || paths.len() != 1 {
-            return Ok(usage_error(
-                rt,
-                "`-` is standard input, whose new text is printed: no other file, --write, --diff or --check goes with it",
-            ));
-        }
-        return rename_input(rt, &renaming, manner, matches);
-    }
-    let list = files_of(rt, matches)?;
+}
+
+/// Renames in files that are listed.
+fn rename_listed(
+    rt: &HostRuntime,
+    names: &Names<'_>,
+    manner: Manner,
+    matches: &ArgMatches<'_>,
+) -> Result<Outcome> {
+    let mut dialects = Dialects::new(rt, matches);
+    let list = source_list(rt, names.paths, excluded_of(matches), &mut dialects)?;
     if list.has_faults {
         return Ok(Outcome::Fault);
     }
     let sources = list.sources.as_slice();
-    manner.files = sources.len();
-    if manner.is_written {
-        rename_written(rt, &renaming, manner, sources)
-    } else {
-        rename_shown(rt, &renaming, manner, sources)
+    let manner = Manner {
+        files: sources.len(),
+        ..manner
+    };
+    let pairs = names.pairs.as_slice();
+    if is_taken(rt, manner, pairs, sources)? {
+        return Ok(Outcome::Fault);
     }
+    let old = old_names(rt.alloc(), pairs)?;
+    let before = survey_files(rt, sources, old.as_slice())?;
+    if manner.is_written {
+        rename_written(rt, pairs, manner, sources, before.as_slice())
+    } else {
+        rename_shown(rt, pairs, manner, sources, before.as_slice())
+    }
+}
+
+/// Renames in files, and writes them or prints a diff; of standard input the new text is printed.
+pub(crate) fn rename(rt: &HostRuntime, matches: &ArgMatches<'_>) -> Result<Outcome> {
+    let manner = manner_of(matches);
+    let text = pairs_text(rt, matches)?;
+    let names = match names_of(rt, matches, text.as_str())? {
+        Ok(names) => names,
+        Err(outcome) => return Ok(outcome),
+    };
+    if !has_input(names.paths) {
+        return rename_listed(rt, &names, manner, matches);
+    }
+    let is_shown = manner.is_check || manner.is_json || matches.get_flag("diff");
+    if manner.is_written || is_shown || names.paths.len() != 1 {
+        return Ok(usage_error(
+            rt,
+            "`-` is standard input, whose new text is printed: no other file, --write, --diff, --json or --check goes with it",
+        ));
+    }
+    rename_input(rt, names.pairs.as_slice(), manner, matches)
 }

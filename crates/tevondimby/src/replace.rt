@@ -1,6 +1,6 @@
 //! The matches of a pattern are replaced in files.
 
-use crate::diffs::{print_diffs, print_paths};
+use crate::diffs::{print_diffs, print_paths, print_ranges};
 use crate::inputs::{Inputs, STANDARD_INPUT};
 use crate::output::is_closed;
 use crate::report::{report_unwritten, report_written, usage_error};
@@ -319,11 +319,14 @@ pub(crate) fn replace_files(rt: &HostRuntime, matches: &ArgMatches<'_>) -> Resul
         .sources
         .iter()
         .any(|source| source.path.as_str() == STANDARD_INPUT);
-    let is_other = is_written || matches.get_flag("check") || matches.get_flag("diff");
+    let is_shown = matches.get_flag("check")
+        || matches.get_flag("diff")
+        || matches.get_flag("json");
+    let is_other = is_written || is_shown;
     if has_input && (is_other || list.sources.len() > 1) {
         return Ok(usage_error(
             rt,
-            "`-` is standard input, whose new text is printed: no other FILE and no --write, --check or --diff goes with it",
+            "`-` is standard input, whose new text is printed: no other FILE and no --write, --diff, --check or --json goes with it",
         ));
     }
     let mut inputs = Inputs::new(rt);
@@ -351,6 +354,10 @@ pub(crate) fn replace_files(rt: &HostRuntime, matches: &ArgMatches<'_>) -> Resul
     if is_written {
         let outcome = write(rt, &mut inputs, changes, matches.get_flag("quiet"));
         return Ok(outcome.and(left));
+    }
+    if matches.get_flag("json") {
+        print_ranges(rt, changes.as_slice())?;
+        return Ok(left);
     }
     if !matches.get_flag("check") {
         print_diffs(rt, changes)?;

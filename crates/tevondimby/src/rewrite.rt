@@ -1,7 +1,7 @@
 //! Files are rewritten by commands.
 
 use crate::dialects::Dialects;
-use crate::diffs::{print_diffs, print_paths};
+use crate::diffs::{print_diffs, print_paths, print_ranges};
 use crate::file_ids::file_id;
 use crate::inputs::{Inputs, STANDARD_INPUT};
 use crate::reasons::why_no_command;
@@ -107,6 +107,10 @@ fn run_rewrites(
         Ok(changes) => changes,
         Err(failure) => return Ok(report_stop(rt, rewrites, &RewriteStop::RefusedFile(failure))),
     };
+    if matches.get_flag("json") {
+        print_ranges(rt, changes.as_slice())?;
+        return Ok(Outcome::Done);
+    }
     if !matches.get_flag("check") {
         print_diffs(rt, changes)?;
         return Ok(Outcome::Done);

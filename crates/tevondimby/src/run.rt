@@ -9,6 +9,7 @@ use crate::rewrite::rewrite;
 use crate::search::search;
 use crate::serve::serve;
 use crate::source_list::{SourceList, source_list};
+use crate::version::version_of;
 use crate::view::view;
 use anyhow::{Context, Result};
 use clap::ArgMatches;
@@ -24,7 +25,12 @@ pub(crate) fn files_of(
 ) -> Result<SourceList, AllocError> {
     let mut dialects = Dialects::new(rt, matches);
     let paths = matches.get_strs("files").unwrap_or([].as_slice());
-    source_list(rt, paths, &mut dialects)
+    source_list(rt, paths, excluded_of(matches), &mut dialects)
+}
+
+/// Returns the patterns of what is left out.
+pub(crate) fn excluded_of<'a, 'b>(matches: &'b ArgMatches<'a>) -> &'b [&'a str] {
+    matches.get_strs("exclude").unwrap_or([].as_slice())
 }
 
 /// Returns the path of the source with this index.
@@ -49,7 +55,8 @@ pub(crate) fn run(rt: &HostRuntime) -> Result<Outcome> {
     let alloc = rt.alloc();
     let words = env::args(rt).context("the arguments cannot be read; each has to be UTF-8")?;
     let words: Vec<String> = words.collect(alloc)?;
-    let matches = match command(alloc)?.try_get_matches_from(words.as_slice()) {
+    let version = version_of(rt, words.as_slice())?;
+    let matches = match command(alloc, version.as_str())?.try_get_matches_from(words.as_slice()) {
         Ok(matches) => matches,
         Err(error) => {
             let outcome = if error.exit_code() == 0 {

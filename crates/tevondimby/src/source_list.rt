@@ -4,6 +4,7 @@ use crate::dialects::Dialects;
 use crate::file_ids::file_id;
 use crate::inputs::STANDARD_INPUT;
 use file_paths::{FileId, first_same};
+use path_globs::is_excluded;
 use source_tools::Source;
 use std::alloc::{AllocError, Global};
 use std::io::ErrorKind;
@@ -20,6 +21,8 @@ pub(crate) struct SourceList {
 #[derive(Drop)]
 struct PathList<'a> {
     rt: &'a HostRuntime,
+    /// The patterns of what is left out in directories.
+    excluded: &'a [&'a str],
     paths: Vec<String>,
     /// The identity of the file at each path, if it is known.
     ids: Vec<Option<FileId>>,
@@ -49,8 +52,13 @@ fn report_entry(rt: &HostRuntime, directory: &str, error: &io::Error) {
 }
 
 /// Returns the paths of the files and directories in a directory that are read, by name, the last
-/// one first. Hidden directories and those that `cargo` builds in are left out.
-fn entries(rt: &HostRuntime, directory: &str, faults: &mut bool) -> io::Result<Vec<String>> {
+/// one first. Hidden directories, those that `cargo` builds in and what a pattern matches are left out.
+fn entries(
+    rt: &HostRuntime,
+    directory: &str,
+    excluded: &[&str],
+    faults: &mut bool,
+) -> io::Result<Vec<String>> {
     let alloc: Global = rt.alloc();
     let mut paths = Vec::new(alloc);
     for entry in fs::read_dir(rt, directory)? {
@@ -66,8 +74,10 @@ fn entries(rt: &HostRuntime, directory: &str, faults: &mut bool) -> io::Result<V
         let name = entry.file_name();
         let is_source = kind.is_file() && name.ends_with(".rs");
         let is_walked = kind.is_dir() && !name.starts_with('.') && name != BUILD_FOLDER;
-        if is_walked || is_source {
-            paths.push(String::from_str(alloc, entry.path().as_str())?)?;
+        let path = entry.path();
+        let is_read = is_walked || is_source;
+        if is_read && !is_excluded(alloc, excluded, path.as_str(), name)? {
+            paths.push(String::from_str(alloc, path.as_str())?)?;
         }
     }
     paths.sort()?;
@@ -114,7 +124,13 @@ impl<'a> PathList<'a> {
             };
             match kind_of(self.rt, path.as_str(), is_given) {
                 Ok(PathKind::Directory) => {
-                    match entries(self.rt, path.as_str(), &mut self.has_faults) {
+                    let found = entries(
+                        self.rt,
+                        path.as_str(),
+                        self.excluded,
+                        &mut self.has_faults,
+                    );
+                    match found {
                         Ok(mut paths) => rest.append(&mut paths)?,
                         Err(error) => self.report(path.as_str(), &error),
                     }
@@ -138,6 +154,7 @@ impl<'a> PathList<'a> {
     fn into_sources(self, dialects: &mut Dialects<'_>) -> Result<SourceList, AllocError> {
         let PathList {
             rt,
+            excluded: _,
             paths,
             ids,
             has_faults,
@@ -157,14 +174,17 @@ impl<'a> PathList<'a> {
     }
 }
 
-/// Returns the files at the given paths, in order, each of them once.
+/// Returns the files at the given paths, in order, each of them once. In directories what a pattern of
+/// `excluded` matches is left out.
 pub(crate) fn source_list(
     rt: &HostRuntime,
     paths: &[&str],
+    excluded: &[&str],
     dialects: &mut Dialects<'_>,
 ) -> Result<SourceList, AllocError> {
     let mut list = PathList {
         rt,
+        excluded,
         paths: Vec::new(rt.alloc()),
         ids: Vec::new(rt.alloc()),
         has_faults: false,

@@ -16,6 +16,6 @@ pub returns : goal.returns
 returns c =
     let error = c.args.placed.now.error in
     c.in_ok-push_message_item.ensures
-    ∙ ap (λ (said : List ℕ). c.args.items.now.items ++ message_item c.args.placed.now.place error.offset said)
+    ∙ ap (λ (said : List ℕ). c.args.items.now.items ++ message_item c.args.placed.now.place error.offset c.args.end said)
     (c.as_str.ensures.value ∙ c.in_ok-words.ensures)
-    ∙ ap (λ (place : LineCol). c.args.items.now.items ++ message_item place error.offset (words (fault_of error.message))) c.requires.place
+    ∙ ap (λ (place : LineCol). c.args.items.now.items ++ message_item place error.offset c.args.end (words (fault_of error.message))) c.requires.place

@@ -11,32 +11,32 @@ use Rattle.source_tools.proofs.plan.plan_renames.Goals as goal
 
 pub loop-index-preserved : goal.loop-index-preserved
 loop-index-preserved g c =
-    let n = c.args.renaming.now in
+    let ns = c.args.renamings.now in
     let files = g.T.Target.files c.args.target.now in
     let done = take c.loop-index.index c.args.sources.now in
     let s : Source = c.index-sources-index.result in
     let more : take (c.loop-index.index + 1) c.args.sources.now ≡ done ++ s ∷ [] =
     take_more c.args.sources.now c.loop-index.index s c.loop-index-test.true ∙ ap (λ (x : Source). done ++ x ∷ []) (sym c.index-sources-index.is) in
     rw c.in-Ok-push_change.ensures.pushed
-    (subst (λ (ss : List Source). IfPlanned (IsRenamableFile n) (changes_of n) files ss (c.loop-index.changes.items ++ option_to_list c.in-Ok.change)) (sym more)
-    (planned-more (IsRenamableFile n) (changes_of n) (RefusesFile n) files done s c.loop-index.changes.items c.rename_file.result c.in-Ok.change c.in-Ok.is c.rename_file.ensures c.loop-index.invariant))
+    (subst (λ (ss : List Source). IfPlanned (IsRenamableFile ns) (changes_of ns) files ss (c.loop-index.changes.items ++ option_to_list c.in-Ok.change)) (sym more)
+    (planned-more (IsRenamableFile ns) (changes_of ns) (RefusesFile ns) files done s c.loop-index.changes.items c.rename_file.result c.in-Ok.change c.in-Ok.is c.rename_file.ensures c.loop-index.invariant))
 
 pub returns-in-Err : goal.returns-in-Err
 returns-in-Err g c =
-    let n = c.args.renaming.now in
-    plan-refused (IsRenamableFile n) (changes_of n) (RefusesFile n) c.args.sources.now c.loop-index.index c.index-sources-index.result c.loop-index-test.true c.index-sources-index.is c.in-Err.fault
+    let ns = c.args.renamings.now in
+    plan-refused (IsRenamableFile ns) (changes_of ns) (RefusesFile ns) c.args.sources.now c.loop-index.index c.index-sources-index.result c.loop-index-test.true c.index-sources-index.is c.in-Err.fault
     c.loop-index.changes.items (g.T.Target.files c.args.target.now) c.rename_file.result c.in-Err.is c.loop-index.invariant c.rename_file.ensures
 
 pub returns-in-Err-push_change : goal.returns-in-Err-push_change
 returns-in-Err-push_change g c =
-    let n = c.args.renaming.now in
+    let ns = c.args.renamings.now in
     let s = c.index-sources-index.result in
-    plan-memory (IsRenamableFile n) (changes_of n) (RefusesFile n) c.args.sources.now c.loop-index.index s c.loop-index-test.true c.index-sources-index.is c.in-Err-push_change.fault
+    plan-memory (IsRenamableFile ns) (changes_of ns) (RefusesFile ns) c.args.sources.now c.loop-index.index s c.loop-index-test.true c.index-sources-index.is c.in-Err-push_change.fault
     c.loop-index.changes.items (g.T.Target.files c.args.target.now) c.rename_file.result c.in-Ok.change c.in-Ok.is
-    (λ (files : Files) (can : IsRenamableFile n files s). subst (λ (e : RenameFault). RefusesFile n files s e) (sym c.in-Err-push_change.ensures.memory) (memory-can n s (read_of (files (string_bytes s.path))) can))
+    (λ (files : Files) (can : IsRenamableFile ns files s). subst (λ (e : RenameFault). RefusesFile ns files s e) (sym c.in-Err-push_change.ensures.memory) (memory-can ns s (read_of (files (string_bytes s.path))) can))
     c.loop-index.invariant c.rename_file.ensures
 
 pub returns : goal.returns
 returns g c =
-    let n = c.args.renaming.now in
-    subst (λ (ss : List Source). IfPlanned (IsRenamableFile n) (changes_of n) (g.T.Target.files c.args.target.now) ss c.loop-index.changes.items) (take_all c.loop-index.index c.args.sources.now c.loop-index-test.false) c.loop-index.invariant
+    let ns = c.args.renamings.now in
+    subst (λ (ss : List Source). IfPlanned (IsRenamableFile ns) (changes_of ns) (g.T.Target.files c.args.target.now) ss c.loop-index.changes.items) (take_all c.loop-index.index c.args.sources.now c.loop-index-test.false) c.loop-index.invariant

@@ -9,17 +9,17 @@ use Rattle.source_tools.proofs.plan.rename_file.Goals as goal
 
 pub returns-in-Ok : goal.returns-in-Ok
 returns-in-Ok g c =
-    let n = c.args.renaming.now in
+    let ns = c.args.renamings.now in
     let source = c.args.source.now in
     let gives = rw c.as_str.ensures.value at c.read.ensures in
-    when-read (λ (a : Answer). IsRenamedRead n source a c.change_of.result) (string_bytes source.path) c.in-Ok.contents c.change_of.ensures (g.T.Target.files c.args.target.now) c.read.result c.in-Ok.is gives
+    when-read (λ (a : Answer). IsRenamedRead ns source a c.change_of.result) (string_bytes source.path) c.in-Ok.contents c.change_of.ensures (g.T.Target.files c.args.target.now) c.read.result c.in-Ok.is gives
 
 pub returns-in-Err : goal.returns-in-Err
 returns-in-Err g c =
-    let n = c.args.renaming.now in
+    let ns = c.args.renamings.now in
     let source = c.args.source.now in
     let e = c.in-Err.error in
     let gives = rw c.as_str.ensures.value at c.read.ensures in
     rw c.from.ensures
-    (when-refused (λ (a : Answer). IsRenamedRead n source a (Err (File (file_error_of e)))) (string_bytes source.path) e (own-error n source e) (memory-read n source e) (memory-error n source e)
+    (when-refused (λ (a : Answer). IsRenamedRead ns source a (Err (File (file_error_of e)))) (string_bytes source.path) e (own-error ns source e) (memory-read ns source e) (memory-error ns source e)
     (g.T.Target.files c.args.target.now) c.read.result c.in-Err.is gives)
