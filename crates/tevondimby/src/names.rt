@@ -54,7 +54,10 @@ fn add_lines<'a>(
 
 /// Returns the words from an index on.
 fn words_from<'a>(words: &'a [&'a str], index: usize) -> &'a [&'a str] {
-    words.get(index..).unwrap_or([].as_slice())
+    match words.get(index..) {
+        Some(rest) => rest,
+        None => words,
+    }
 }
 
 /// Adds the pairs that words begin with, or if there is no pair and no file of pairs the first two words,
@@ -78,7 +81,7 @@ fn add_words<'a>(
             pairs.push(NamePair { old, new })?;
             Ok(rest)
         }
-        _ => Ok([].as_slice()),
+        _ => Ok(words_from(words, words.len())),
     }
 }
 
@@ -106,16 +109,15 @@ fn fault_of(alloc: Global, pairs: &[NamePair<'_>]) -> Result<Option<String>, All
 /// with them.
 pub(crate) fn names_of<'a>(
     rt: &HostRuntime,
-    matches: &'a ArgMatches<'a>,
+    words: &'a [&'a str],
+    file: Option<&str>,
     text: &'a str,
 ) -> Result<Result<Names<'a>, Outcome>> {
     let mut pairs = Vec::new(rt.alloc());
-    let file = matches.get_str("pairs");
     if let Some(line) = add_lines(text, &mut pairs)? {
         let path = file.unwrap_or("");
         return Err(anyhow!("{path}:{line}: is no pair OLD=NEW"));
     }
-    let words = matches.get_strs("words").unwrap_or([].as_slice());
     let paths = add_words(words, file.is_some(), &mut pairs)?;
     if let Some(words) = fault_of(rt.alloc(), pairs.as_slice())? {
         return Ok(Err(usage_error(rt, words.as_str())));

@@ -7,7 +7,7 @@ use crate::inputs::{Inputs, STANDARD_INPUT};
 use crate::names::{Names, names_of, pairs_text};
 use crate::output::is_closed;
 use crate::report::{report_unwritten, usage_error};
-use crate::run::{excluded_of, path_of};
+use crate::run::path_of;
 use crate::source_list::source_list;
 use crate::survey::{Survey, survey_bytes, survey_files};
 use anyhow::{Result, anyhow};
@@ -279,7 +279,8 @@ fn rename_listed(
     matches: &ArgMatches<'_>,
 ) -> Result<Outcome> {
     let mut dialects = Dialects::new(rt, matches);
-    let list = source_list(rt, names.paths, excluded_of(matches), &mut dialects)?;
+    let excluded = matches.get_strs("exclude").unwrap_or([].as_slice());
+    let list = source_list(rt, names.paths, excluded, &mut dialects)?;
     if list.has_faults {
         return Ok(Outcome::Fault);
     }
@@ -305,7 +306,8 @@ fn rename_listed(
 pub(crate) fn rename(rt: &HostRuntime, matches: &ArgMatches<'_>) -> Result<Outcome> {
     let manner = manner_of(matches);
     let text = pairs_text(rt, matches)?;
-    let names = match names_of(rt, matches, text.as_str())? {
+    let words = matches.get_strs("words").unwrap_or([].as_slice());
+    let names = match names_of(rt, words, matches.get_str("pairs"), text.as_str())? {
         Ok(names) => names,
         Err(outcome) => return Ok(outcome),
     };

@@ -25,12 +25,8 @@ pub(crate) fn files_of(
 ) -> Result<SourceList, AllocError> {
     let mut dialects = Dialects::new(rt, matches);
     let paths = matches.get_strs("files").unwrap_or([].as_slice());
-    source_list(rt, paths, excluded_of(matches), &mut dialects)
-}
-
-/// Returns the patterns of what is left out.
-pub(crate) fn excluded_of<'a, 'b>(matches: &'b ArgMatches<'a>) -> &'b [&'a str] {
-    matches.get_strs("exclude").unwrap_or([].as_slice())
+    let excluded = matches.get_strs("exclude").unwrap_or([].as_slice());
+    source_list(rt, paths, excluded, &mut dialects)
 }
 
 /// Returns the path of the source with this index.
