@@ -152,7 +152,7 @@ struct File<'a> {
 }
 
 /// Replaces in a file, and notes how many matches stay.
-fn replaced(
+fn replace_in(
     rt: &HostRuntime,
     rule: &Rule,
     options: Options,
@@ -229,7 +229,7 @@ struct Plan {
 }
 
 /// Plans the changes of files. `None` if one is refused, which standard error names.
-fn plan(
+fn plan_changes(
     rt: &HostRuntime,
     inputs: &Inputs<'_>,
     request: &mut Request<'_>,
@@ -260,7 +260,7 @@ fn plan(
             }
         };
         let file = File { source, contents };
-        match replaced(rt, rule, request.options, file, &mut skipped)? {
+        match replace_in(rt, rule, request.options, file, &mut skipped)? {
             Changed::Stays(bytes) if path == STANDARD_INPUT => input = Some(bytes),
             Changed::Stays(_) => {}
             Changed::To(change) if path == STANDARD_INPUT => input = Some(new_bytes(alloc, change)),
@@ -276,7 +276,7 @@ fn plan(
 }
 
 /// Writes the files.
-fn write(
+fn write_all_files(
     rt: &HostRuntime,
     inputs: &mut Inputs<'_>,
     changes: Vec<FileChange>,
@@ -331,7 +331,7 @@ pub(crate) fn replace_files(rt: &HostRuntime, matches: &ArgMatches<'_>) -> Resul
     }
     let mut inputs = Inputs::new(rt);
     let mut request = Request::new(alloc, matches);
-    let planned = plan(rt, &inputs, &mut request, list.sources.as_slice())?;
+    let planned = plan_changes(rt, &inputs, &mut request, list.sources.as_slice())?;
     let Some(
         Plan {
             changes,
@@ -352,7 +352,7 @@ pub(crate) fn replace_files(rt: &HostRuntime, matches: &ArgMatches<'_>) -> Resul
         return Ok(left);
     }
     if is_written {
-        let outcome = write(rt, &mut inputs, changes, matches.get_flag("quiet"));
+        let outcome = write_all_files(rt, &mut inputs, changes, matches.get_flag("quiet"));
         return Ok(outcome.and(left));
     }
     if matches.get_flag("json") {
