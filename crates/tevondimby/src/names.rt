@@ -52,12 +52,10 @@ fn add_lines<'a>(
     Ok(None)
 }
 
-/// Returns the words from an index on.
+/// Returns the words from an index on, as far as there are any.
 fn words_from<'a>(words: &'a [&'a str], index: usize) -> &'a [&'a str] {
-    match words.get(index..) {
-        Some(rest) => rest,
-        None => words,
-    }
+    let index = index.min(words.len());
+    &words[index..]
 }
 
 /// Adds the pairs that words begin with, or if there is no pair and no file of pairs the first two words,
