@@ -8,9 +8,11 @@ import threading
 import time
 from concurrent.futures import ThreadPoolExecutor, as_completed
 
+import lanes
 import ledger
 import repository
 import together
+import whole
 from progress import BEAT, minutes
 from selection import CYCLES
 
@@ -63,8 +65,20 @@ def try_together(at, name, tried, tries_alone, write):
     return refused
 
 
+def mark_built(at):
+    """Marks the libraries that were built in a copy of the tree as those of its sources, where the kit does not: 'rt must-fail' would prove
+    all of them again."""
+    if whole.is_wanted():
+        rt = lanes.kit()
+        for crate in rt.rtlib.crates_below(at):
+            if os.path.isdir(crate.rlib):
+                with open(f"{crate.folder}/out/rlib/stamp", "w", encoding="utf-8") as file:
+                    file.write(crate.stamp())
+
+
 def try_alone(at, name, tried, write):
     """Tries edits of a crate one by one by 'rt must-fail'. Returns those that are refused."""
+    mark_built(at)
     folder = f"{at}/crates/{name}/must-fail"
     for edit in os.listdir(folder):
         if f"crates/{name}/must-fail/{edit}" not in tried:
