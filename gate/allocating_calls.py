@@ -19,6 +19,8 @@ TABLES = ("*memory_suite", "command_suite")
 # Crates whose calls are not the product's own come after this line of crates.txt: tests and measurements, and the library whose exports
 # are not proved yet.
 END_OF_PRODUCT = "# Run and not proved"
+# The parts of the program `tevondimby`, which runs their calls.
+PARTS_OF_PROGRAM = {"command_inputs", "command_options", "command_patterns", "command_reasons", "command_renames"}
 # Crates whose calls are in no table yet.
 WITHOUT_ROWS = {"document_rows", "document_views", "language_session", "match_rows", "message_frames", "pattern_parser", "session_server", "session_words", "text_changes", "tree_patterns", "tree_replace", "tree_search"}
 # Calls that are steps of others, and those of the table that make them: the changes of a plan, for one, are known to `tree_rewrite`
@@ -180,10 +182,10 @@ class Calls:
 
 
 def product(root):
-    """Returns the names of the product's crates, but for those without rows."""
+    """Returns the names of the product's crates, but for those without rows and the parts of a program."""
     before = ledger.read(f"{root}/crates.txt").decode().partition(END_OF_PRODUCT)[0]
     names = [line.partition(":")[0] for line in before.splitlines() if line and not line.startswith("#")]
-    return [name for name in names if name not in WITHOUT_ROWS]
+    return [name for name in names if name not in WITHOUT_ROWS | PARTS_OF_PROGRAM]
 
 
 def calls(root):

@@ -4,7 +4,7 @@ import re
 import unittest
 
 TOP = os.path.dirname(os.path.dirname(os.path.realpath(__file__)))
-SOURCE = f"{TOP}/crates/tevondimby/src/command_line.rt"
+SOURCE = f"{TOP}/crates/command_options/src/lib.rt"
 DOCS = ("completions/tevondimby.bash", "completions/_tevondimby", "completions/tevondimby.fish", "tevondimby.1")
 LONG = re.compile(r'\.long\("([a-z-]+)"\)|flag\(\s*alloc,\s*"([a-z-]+)"')
 # The parser of command lines has these itself.

@@ -2,25 +2,9 @@
 //! renamings, replacements and rewrites of them, and answers to requests.
 #![tactic(auto)]
 
-mod advice;
-mod command_line;
-mod dialects;
-mod diffs;
-mod editions;
-mod file_ids;
-mod inputs;
-mod names;
-mod output;
-mod reasons;
-mod rename;
-mod replace;
-mod report;
 mod rewrite;
 mod run;
-mod search;
 mod serve;
-mod source_list;
-mod survey;
 mod version;
 mod view;
 

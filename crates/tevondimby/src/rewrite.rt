@@ -1,13 +1,12 @@
 //! Files are rewritten by commands.
 
-use crate::dialects::Dialects;
-use crate::diffs::{print_diffs, print_paths, print_ranges};
-use crate::file_ids::file_id;
-use crate::inputs::{Inputs, STANDARD_INPUT};
-use crate::reasons::why_no_command;
-use crate::report::{report_unwritten, report_written, usage_error};
 use anyhow::{Result, anyhow};
 use clap::ArgMatches;
+use command_inputs::{
+    Dialects, Inputs, STANDARD_INPUT, file_id, print_diffs, print_paths, print_ranges,
+    report_unwritten, report_written, usage_error,
+};
+use command_reasons::why_no_command;
 use command_report::Outcome;
 use document_requests::{CommitRule, commands_of};
 use file_paths::{FileId, first_same};

@@ -1,41 +1,18 @@
 //! A command is run.
 
-use crate::command_line::command;
-use crate::dialects::Dialects;
-use crate::output::is_closed;
-use crate::rename::rename;
-use crate::replace::replace_files;
 use crate::rewrite::rewrite;
-use crate::search::search;
 use crate::serve::serve;
-use crate::source_list::{SourceList, source_list};
 use crate::version::version_of;
 use crate::view::view;
 use anyhow::{Context, Result};
 use clap::ArgMatches;
+use command_inputs::is_closed;
+use command_options::command;
+use command_patterns::{replace_files, search};
+use command_renames::rename;
 use command_report::Outcome;
-use source_tools::{Format, Source, View};
-use std::alloc::AllocError;
+use source_tools::{Format, View};
 use std::env;
-
-/// Returns the files of a command.
-pub(crate) fn files_of(
-    rt: &HostRuntime,
-    matches: &ArgMatches<'_>,
-) -> Result<SourceList, AllocError> {
-    let mut dialects = Dialects::new(rt, matches);
-    let paths = matches.get_strs("files").unwrap_or([].as_slice());
-    let excluded = matches.get_strs("exclude").unwrap_or([].as_slice());
-    source_list(rt, paths, excluded, &mut dialects)
-}
-
-/// Returns the path of the source with this index.
-pub(crate) fn path_of(sources: &[Source], index: usize) -> &str {
-    match sources.get(index) {
-        Some(source) => source.path.as_str(),
-        None => "",
-    }
-}
 
 /// Returns the format that the flags ask for.
 fn format_of(matches: &ArgMatches<'_>) -> Format {

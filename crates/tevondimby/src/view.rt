@@ -1,10 +1,8 @@
 //! Files are shown.
 
-use crate::inputs::Inputs;
-use crate::output::unless_closed;
-use crate::run::{files_of, path_of};
 use anyhow::Result;
 use clap::ArgMatches;
+use command_inputs::{Inputs, files_of, path_of, unless_closed};
 use command_report::Outcome;
 use source_tools::{FileFault, Source, Summary, View, show};
 use std::io::IsTerminal;

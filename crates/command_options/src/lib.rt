@@ -1,4 +1,5 @@
-//! The command line.
+//! The command line of `tevondimby`: its commands, their options and their help.
+#![tactic(auto)]
 
 use clap::{Arg, ArgAction, Command};
 use std::alloc::{AllocError, Global};
@@ -336,7 +337,11 @@ fn bare_command<'a>(alloc: Global, version: &'a str) -> Command<'a> {
 }
 
 /// Returns the whole command, which says that it has this version.
-pub(crate) fn command<'a>(alloc: Global, version: &'a str) -> Result<Command<'a>, AllocError> {
+///
+/// # Errors
+///
+/// [`AllocError`] if an allocation fails.
+pub fn command<'a>(alloc: Global, version: &'a str) -> Result<Command<'a>, AllocError> {
     let check = reading(
         alloc,
         "check",

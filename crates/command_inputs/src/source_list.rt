@@ -3,6 +3,7 @@
 use crate::dialects::Dialects;
 use crate::file_ids::file_id;
 use crate::inputs::STANDARD_INPUT;
+use clap::ArgMatches;
 use file_paths::{FileId, first_same};
 use path_globs::is_excluded;
 use source_tools::Source;
@@ -12,9 +13,11 @@ use std::{fs, io};
 
 /// The files of a command, each of them once, and whether a path was left out.
 #[derive(Drop)]
-pub(crate) struct SourceList {
-    pub(crate) sources: Vec<Source>,
-    pub(crate) has_faults: bool,
+pub struct SourceList {
+    /// The files, each by the first path that leads to it.
+    pub sources: Vec<Source>,
+    /// A path was left out, which standard error names.
+    pub has_faults: bool,
 }
 
 /// The paths of a command.
@@ -176,7 +179,11 @@ impl<'a> PathList<'a> {
 
 /// Returns the files at the given paths, in order, each of them once. In directories what a pattern of
 /// `excluded` matches is left out.
-pub(crate) fn source_list(
+///
+/// # Errors
+///
+/// [`AllocError`] if an allocation fails.
+pub fn source_list(
     rt: &HostRuntime,
     paths: &[&str],
     excluded: &[&str],
@@ -193,4 +200,24 @@ pub(crate) fn source_list(
         list.add(path)?;
     }
     list.into_sources(dialects)
+}
+
+/// Returns the files that a command line names.
+///
+/// # Errors
+///
+/// [`AllocError`] if an allocation fails.
+pub fn files_of(rt: &HostRuntime, matches: &ArgMatches<'_>) -> Result<SourceList, AllocError> {
+    let mut dialects = Dialects::new(rt, matches);
+    let paths = matches.get_strs("files").unwrap_or([].as_slice());
+    let excluded = matches.get_strs("exclude").unwrap_or([].as_slice());
+    source_list(rt, paths, excluded, &mut dialects)
+}
+
+/// Returns the path of the source with this index; empty if there is none.
+pub fn path_of(sources: &[Source], index: usize) -> &str {
+    match sources.get(index) {
+        Some(source) => source.path.as_str(),
+        None => "",
+    }
 }

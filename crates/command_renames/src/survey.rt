@@ -1,6 +1,6 @@
 //! What files say of a name: which identifiers are it, and where they spell it otherwise.
 
-use crate::inputs::Inputs;
+use command_inputs::Inputs;
 use command_report::{MAX_ROWS, place_row, push_row, rest_row};
 use file_target::Target;
 use line_index::{Encoding, LineCol, LineIndex};

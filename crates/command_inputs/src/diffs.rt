@@ -64,23 +64,35 @@ fn name_changes(rt: &HostRuntime, changes: &mut [FileChange]) -> Result<(), Allo
     Ok(())
 }
 
-/// Prints the diffs of the changes.
-pub(crate) fn print_diffs(rt: &HostRuntime, changes: Vec<FileChange>) -> Result<()> {
+/// Prints the diffs of the changes. If no reader is left, nothing more is printed.
+///
+/// # Errors
+///
+/// That the output could not be written, or that an allocation failed.
+pub fn print_diffs(rt: &HostRuntime, changes: Vec<FileChange>) -> Result<()> {
     let mut changes = changes;
     name_changes(rt, changes.as_mut_slice())?;
     let _written = unless_closed(write_diffs(rt.alloc(), changes.as_slice(), &mut rt.stdout()))?;
     Ok(())
 }
 
-/// Prints the changes as ranges of bytes, in JSON.
-pub(crate) fn print_ranges(rt: &HostRuntime, changes: &[FileChange]) -> Result<()> {
+/// Prints the changes as ranges of bytes, in JSON. If no reader is left, nothing more is printed.
+///
+/// # Errors
+///
+/// That the output could not be written, or that an allocation failed.
+pub fn print_ranges(rt: &HostRuntime, changes: &[FileChange]) -> Result<()> {
     let written = write_change_lists(rt.alloc(), changes, &mut rt.stdout());
     let _written = unless_closed(written)?;
     Ok(())
 }
 
-/// Prints the paths of the files that would change.
-pub(crate) fn print_paths(rt: &HostRuntime, changes: &[FileChange]) -> Result<()> {
+/// Prints the paths of the files that would change. If no reader is left, nothing more is printed.
+///
+/// # Errors
+///
+/// That the output could not be written, or that an allocation failed.
+pub fn print_paths(rt: &HostRuntime, changes: &[FileChange]) -> Result<()> {
     let mut output = rt.stdout();
     for change in changes {
         let line = format!(in rt.alloc(); "{}\n", change.path)?;

@@ -1,9 +1,8 @@
 //! What a renaming renames: pairs of names, and the identifiers that are spelled as one.
 
-use crate::inputs::Inputs;
-use crate::report::usage_error;
 use anyhow::{Result, anyhow};
 use clap::ArgMatches;
+use command_inputs::{Inputs, usage_error};
 use command_report::Outcome;
 use file_target::Target;
 use rename_pairs::{NamePair, is_wrong, leading_pairs, pair_of};

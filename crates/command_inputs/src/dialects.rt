@@ -9,16 +9,17 @@ use std::alloc::AllocError;
 
 /// The Rust that the files of a command are read as.
 #[derive(Drop)]
-pub(crate) struct Dialects<'a> {
+pub struct Dialects<'a> {
     /// The edition of all files, if the command line names one.
     edition: Option<Edition>,
-    pub(crate) grammar: Grammar,
+    /// The grammar of all files.
+    pub grammar: Grammar,
     editions: Editions<'a>,
 }
 
 impl<'a> Dialects<'a> {
     /// Returns what a command line says.
-    pub(crate) fn new(rt: &'a HostRuntime, matches: &ArgMatches<'_>) -> Dialects<'a> {
+    pub fn new(rt: &'a HostRuntime, matches: &ArgMatches<'_>) -> Dialects<'a> {
         Dialects {
             edition: matches.get_str("edition").and_then(Edition::from_name),
             grammar: match matches.get_str("grammar") {
@@ -30,7 +31,11 @@ impl<'a> Dialects<'a> {
     }
 
     /// Returns the Rust that the file at `path` is read as.
-    pub(crate) fn dialect(&mut self, path: &str) -> Result<Dialect, AllocError> {
+    ///
+    /// # Errors
+    ///
+    /// [`AllocError`] if an allocation fails.
+    pub fn dialect(&mut self, path: &str) -> Result<Dialect, AllocError> {
         Ok(Dialect {
             edition: match self.edition {
                 Some(edition) => edition,

@@ -1,12 +1,11 @@
 //! The matches of a pattern are replaced in files.
 
-use crate::diffs::{print_diffs, print_paths, print_ranges};
-use crate::inputs::{Inputs, STANDARD_INPUT};
-use crate::output::is_closed;
-use crate::report::{report_unwritten, report_written, usage_error};
-use crate::run::files_of;
 use anyhow::{Result, anyhow};
 use clap::ArgMatches;
+use command_inputs::{
+    Inputs, STANDARD_INPUT, files_of, is_closed, print_diffs, print_paths, print_ranges,
+    report_unwritten, report_written, usage_error,
+};
 use command_report::Outcome;
 use file_target::{Contents, Target};
 use line_index::{Encoding, LineCol, LineIndex};
@@ -307,8 +306,12 @@ fn print_text(rt: &HostRuntime, text: &[u8]) -> Result<()> {
     }
 }
 
-/// Replaces the matches of a pattern in files, and writes them or prints a diff.
-pub(crate) fn replace_files(rt: &HostRuntime, matches: &ArgMatches<'_>) -> Result<Outcome> {
+/// Replaces the matches of a pattern in files, and writes them or prints a diff. Returns what it came to.
+///
+/// # Errors
+///
+/// That the output could not be written, or that an allocation failed.
+pub fn replace_files(rt: &HostRuntime, matches: &ArgMatches<'_>) -> Result<Outcome> {
     let alloc = rt.alloc();
     let list = files_of(rt, matches)?;
     if list.has_faults {

@@ -1,4 +1,5 @@
 //! Why a value in JSON is no command.
+#![tactic(auto)]
 
 use parser_input::SyntaxKind;
 use serde_json::Value;
@@ -169,8 +170,12 @@ fn why_no_commit(alloc: Global, value: &Value) -> Result<String, AllocError> {
     format!(in alloc; "a kind of it is one of the whole language")
 }
 
-/// Returns why a value is no command.
-pub(crate) fn why_no_command(alloc: Global, value: &Value) -> Result<String, AllocError> {
+/// Returns why a value is no command, in words that name the member.
+///
+/// # Errors
+///
+/// [`AllocError`] if an allocation fails.
+pub fn why_no_command(alloc: Global, value: &Value) -> Result<String, AllocError> {
     if value.as_object().is_none() {
         return format!(in alloc; "is no object");
     }

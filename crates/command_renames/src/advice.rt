@@ -1,6 +1,6 @@
 //! What leads on after a fault.
 
-use crate::inputs::Inputs;
+use command_inputs::Inputs;
 use file_target::Target;
 use line_index::{Encoding, LineCol, LineIndex};
 use parser_input::LexedStr;

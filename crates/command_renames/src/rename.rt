@@ -1,17 +1,14 @@
 //! Identifiers are renamed in files.
 
 use crate::advice::{advise, is_spelled_otherwise};
-use crate::dialects::Dialects;
-use crate::diffs::{print_diffs, print_paths, print_ranges};
-use crate::inputs::{Inputs, STANDARD_INPUT};
 use crate::names::{Names, names_of, pairs_text};
-use crate::output::is_closed;
-use crate::report::{report_unwritten, usage_error};
-use crate::run::path_of;
-use crate::source_list::source_list;
 use crate::survey::{Survey, survey_bytes, survey_files};
 use anyhow::{Result, anyhow};
 use clap::ArgMatches;
+use command_inputs::{
+    Dialects, Inputs, STANDARD_INPUT, is_closed, path_of, print_diffs, print_paths, print_ranges,
+    report_unwritten, source_list, usage_error,
+};
 use command_report::{Outcome, RenameCounts, tally_row, unchanged_row};
 use file_target::Target;
 use parser_input::SyntaxKind;
@@ -302,8 +299,13 @@ fn rename_listed(
     }
 }
 
-/// Renames in files, and writes them or prints a diff; of standard input the new text is printed.
-pub(crate) fn rename(rt: &HostRuntime, matches: &ArgMatches<'_>) -> Result<Outcome> {
+/// Renames in files, and writes them or prints a diff; of standard input the new text is printed. Returns
+/// what it came to.
+///
+/// # Errors
+///
+/// That something could not be read or written, or that an allocation failed.
+pub fn rename(rt: &HostRuntime, matches: &ArgMatches<'_>) -> Result<Outcome> {
     let manner = manner_of(matches);
     let text = pairs_text(rt, matches)?;
     let words = matches.get_strs("words").unwrap_or([].as_slice());

@@ -5,17 +5,18 @@ use std::alloc::Global;
 use std::io::{self, ErrorKind, Read};
 
 /// The path of standard input.
-pub(crate) const STANDARD_INPUT: &str = "-";
+pub const STANDARD_INPUT: &str = "-";
 
 /// The files of the disk, and standard input at the path `-`, which can be read once and is never
 /// written.
 #[derive(Drop)]
-pub(crate) struct Inputs<'a> {
+pub struct Inputs<'a> {
     rt: &'a HostRuntime,
 }
 
 impl<'a> Inputs<'a> {
-    pub(crate) fn new(rt: &'a HostRuntime) -> Inputs<'a> {
+    /// Returns the files of a system, and its standard input.
+    pub fn new(rt: &'a HostRuntime) -> Inputs<'a> {
         Inputs { rt }
     }
 }

@@ -6,7 +6,7 @@ use std::fs;
 use std::os::unix::fs::MetadataExt;
 
 /// Returns the identity of the file that a path leads to, if the system tells it.
-pub(crate) fn file_id(rt: &HostRuntime, path: &str) -> Option<FileId> {
+pub fn file_id(rt: &HostRuntime, path: &str) -> Option<FileId> {
     if path == STANDARD_INPUT {
         return Some(FileId::input());
     }

@@ -48,7 +48,7 @@ fn one_line(alloc: Global, text: &str) -> Result<String, AllocError> {
 
 /// The editions of files. A manifest that is wrong is named once on standard error.
 #[derive(Drop)]
-pub(crate) struct Editions<'a> {
+pub struct Editions<'a> {
     rt: &'a HostRuntime,
     /// The manifests that were named.
     named: Vec<String>,
@@ -56,7 +56,7 @@ pub(crate) struct Editions<'a> {
 
 impl<'a> Editions<'a> {
     /// Returns the editions of the files of a system.
-    pub(crate) fn new(rt: &'a HostRuntime) -> Editions<'a> {
+    pub fn new(rt: &'a HostRuntime) -> Editions<'a> {
         Editions {
             rt,
             named: Vec::new(rt.alloc()),
@@ -119,8 +119,12 @@ impl<'a> Editions<'a> {
         }
     }
 
-    /// Returns the edition of the file at `path`: of the nearest `Cargo.toml`, else 2021.
-    pub(crate) fn edition_of(&mut self, file: &str) -> Result<Edition, AllocError> {
+    /// Returns the edition of `file`, a path: of the nearest `Cargo.toml`, else 2021.
+    ///
+    /// # Errors
+    ///
+    /// [`AllocError`] if an allocation fails.
+    pub fn edition_of(&mut self, file: &str) -> Result<Edition, AllocError> {
         let Ok(file) = path::absolute(self.rt, file) else {
             return Ok(Edition::Edition2021);
         };

@@ -1,11 +1,8 @@
 //! Files are searched for a pattern.
 
-use crate::inputs::Inputs;
-use crate::output::unless_closed;
-use crate::report::usage_error;
-use crate::run::files_of;
 use anyhow::Result;
 use clap::ArgMatches;
+use command_inputs::{Inputs, files_of, unless_closed, usage_error};
 use command_report::{Outcome, search_outcome};
 use file_target::Target;
 use match_rows::push_matches;
@@ -155,8 +152,12 @@ fn write_rows(rt: &HostRuntime, rows: &[u8]) -> Result<bool> {
     Ok(unless_closed(written)?.is_some())
 }
 
-/// Prints the matches of a pattern in files.
-pub(crate) fn search(rt: &HostRuntime, matches: &ArgMatches<'_>) -> Result<Outcome> {
+/// Prints the matches of a pattern in files. Returns what they came to.
+///
+/// # Errors
+///
+/// That the output could not be written, or that an allocation failed.
+pub fn search(rt: &HostRuntime, matches: &ArgMatches<'_>) -> Result<Outcome> {
     let alloc = rt.alloc();
     let list = files_of(rt, matches)?;
     let inputs = Inputs::new(rt);
