@@ -7,7 +7,7 @@ _tevondimby() {
     fi
     case ${COMP_WORDS[COMP_CWORD-1]} in
         --edition) COMPREPLY=($(compgen -W "2015 2018 2021 2024 next" -- "$word")); return ;;
-        --comments) COMPREPLY=($(compgen -W "refuse drop" -- "$word")); return ;;
+        --comments) COMPREPLY=($(compgen -W "refuse before drop" -- "$word")); return ;;
         --as) COMPREPLY=($(compgen -W "expression type pattern statement item" -- "$word")); return ;;
         --grammar) COMPREPLY=($(compgen -W "whole profile" -- "$word")); return ;;
     esac

@@ -21,5 +21,5 @@ complete -c tevondimby -n "__fish_seen_subcommand_from rename" -l merge -d "NEW 
 complete -c tevondimby -n "__fish_seen_subcommand_from rename" -l pairs -r -d "Read pairs OLD=NEW from a file"
 complete -c tevondimby -n "__fish_seen_subcommand_from replace rewrite" -l allow-messages -d "The texts may have messages"
 complete -c tevondimby -n "__fish_seen_subcommand_from search replace" -l as -x -a "expression type pattern statement item" -d "What the pattern is read as"
-complete -c tevondimby -n "__fish_seen_subcommand_from replace" -l comments -x -a "refuse drop" -d "What becomes of comments that would be lost"
+complete -c tevondimby -n "__fish_seen_subcommand_from replace" -l comments -x -a "refuse before drop" -d "What becomes of comments that would be lost"
 complete -c tevondimby -n "__fish_seen_subcommand_from replace" -l skip -d "Leave matches that cannot be replaced"

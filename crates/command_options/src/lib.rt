@@ -120,9 +120,11 @@ Replaces the matches of PATTERN by TEMPLATE, in which `$a` and `$$$a` stand for 
 
 The new text reads as the tree with these replacements: what takes the place of a match, and what it binds, is in \
 parentheses where the text would read otherwise without them, or where rustc asks for them, and nowhere else. Matches in \
-what a match binds are replaced, too. A match with a comment that no part of TEMPLATE keeps is refused, unless `--comments \
-drop` is given, and so is one that reads otherwise with parentheses, too. A file with such a match, or with messages, is \
-refused, unless `--skip` leaves these matches, or `--allow-messages` is given; then no file is written.
+what a match binds are replaced, too. A match with a comment that no part of TEMPLATE keeps is refused; with \
+`--comments before` the comment comes before what replaces the match (a statement is refused, unless the comment is part \
+of it), with `--comments drop` it goes. A match that reads otherwise even with parentheses is refused, too. A file with \
+such a match, or with messages, is refused, unless `--skip` leaves these matches, or `--allow-messages` is given; then no \
+file is written.
 
 Without `--write` nothing is written, and a diff is printed, as by `rename`; of standard input, `-`, the new text is \
 printed. The exit status is 0, or 1 if matches are left, or if with `--check` a file would change, or 2 after a fault.";
@@ -267,7 +269,7 @@ fn replacing<'a>(alloc: Global) -> Result<Command<'a>, AllocError> {
     let comments = Arg::new(alloc, "comments")
         .long("comments")
         .value_name("HOW")
-        .value_parser(["refuse", "drop"].as_slice())
+        .value_parser(["refuse", "before", "drop"].as_slice())
         .help(COMMENTS)
         .action(ArgAction::Set);
     let skip = flag(alloc, "skip", "Leaves matches that cannot be replaced");

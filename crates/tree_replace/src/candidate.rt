@@ -15,10 +15,13 @@ pub struct Candidate {
     pub span: Span,
     /// The spaces and tabs that begin its line.
     pub indent: String,
-    pub loses_comments: bool,
+    /// The comments in it that are in no part that the template keeps.
+    pub lost: Vec<Span>,
+    /// What comes before the text that replaces it: these comments, if the options say so.
+    pub comments: String,
     /// The number of the match of which it is a whole binding.
     pub owner: Option<usize>,
-    /// The text in its place, once that is decided.
+    /// The text in its place, behind its comments, once that is decided.
     pub new: String,
     pub refused: Option<Reason>,
 }
@@ -70,7 +73,7 @@ pub fn candidates_of(
     for found in search(alloc, &rule.pattern, source.root())? {
         let span = Span::of(found.element());
         let indent = source.line_indent(found.element())?;
-        let loses_comments = !lost_comments(alloc, rule, &found)?.is_empty();
+        let lost = lost_comments(alloc, rule, &found)?;
         let around = innermost(candidates.as_slice(), &mut open, span)?;
         let owner = owner_of(candidates.as_slice(), around, span);
         open.push(candidates.len())?;
@@ -78,7 +81,8 @@ pub fn candidates_of(
             found,
             span,
             indent,
-            loses_comments,
+            lost,
+            comments: String::new(alloc),
             owner,
             new: String::new(alloc),
             refused: None,

@@ -2,7 +2,7 @@
 
 use crate::asked::{is_asked, is_glued};
 use crate::candidate::Candidate;
-use crate::comments::extent;
+use crate::comments::{extent, without_front};
 use crate::error::ReplaceError;
 use crate::indents::reindented;
 use crate::rule::Rule;
@@ -223,7 +223,8 @@ fn wants_parentheses(
     if hole >= bindings.len() {
         return Ok(true);
     }
-    let Some(place) = node_with_text(&bindings[hole], filling)? else {
+    let bare = without_front(alloc, making.dialect.edition, filling)?;
+    let Some(place) = node_with_text(&bindings[hole], bare)? else {
         return Ok(true);
     };
     let new = place.cursor().green().as_ref();

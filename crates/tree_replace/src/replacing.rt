@@ -5,6 +5,7 @@ ghost use Rattle.tree_replace.specs.Replacements.{AreReplaced, OnlyReplaces};
 
 use crate::asked::{is_asked, is_glued};
 use crate::candidate::{Candidate, candidates_of};
+use crate::comments::comments_before;
 use crate::error::{Reason, Refusal, ReplaceError};
 use crate::fillings::{Making, parentheses};
 use crate::frames::{frame_of, reads_as_changed};
@@ -23,7 +24,9 @@ use tree_patterns::Fragment;
 pub enum Comments {
     /// The match is refused.
     Refuse,
-    /// They go.
+    /// It comes before the text that replaces the match.
+    Before,
+    /// It goes.
     Drop,
 }
 
@@ -46,10 +49,11 @@ pub struct Replaced {
     pub skipped: Vec<Refusal>,
 }
 
-/// Returns `true` if the match alone, replaced by a text, reads as it should.
+/// Returns `true` if the match alone, replaced by a text behind comments, reads as it should.
 fn reads(
     making: &Making<'_>,
     place: &SyntaxNode,
+    comments: &str,
     text: &str,
     node: &SyntaxNode,
 ) -> Result<bool, ReplaceError> {
@@ -60,7 +64,9 @@ fn reads(
     let whole = making.source.text();
     let front = part(whole, around.start, span.start);
     let back = part(whole, span.end, around.end);
-    let changed = format!(in alloc; "{front}{text}{back}")?;
+    // (comments at the front are beside the frame's node)
+    let comments = if front.is_empty() { "" } else { comments };
+    let changed = format!(in alloc; "{front}{comments}{text}{back}")?;
     let change = Change {
         span,
         kind: place.cursor().green().kind().0,
@@ -86,31 +92,63 @@ fn is_asked_around(
     is_asked(making.alloc, place, &node.cursor().green().as_ref())
 }
 
-/// Returns the text that takes the place of a match, in parentheses if it has to be; `None` if it reads
-/// otherwise in both forms.
+/// Returns a text behind the comments of a match.
+fn behind_comments(candidate: &Candidate, text: String) -> Result<String, AllocError> {
+    if candidate.comments.is_empty() {
+        return Ok(text);
+    }
+    let mut whole = candidate.comments.clone()?;
+    whole.push_str(text.as_str())?;
+    Ok(whole)
+}
+
+/// Returns `true` if the comments before a text are in the node that it is. Those before an expression, a
+/// type or a pattern are; those before a statement only if the grammar gives them to it.
+fn has_comments(
+    making: &Making<'_>,
+    candidate: &Candidate,
+    text: &str,
+) -> Result<bool, ReplaceError> {
+    match making.rule.pattern.fragment() {
+        Fragment::Expression | Fragment::Type | Fragment::Pattern => Ok(true),
+        fragment => Ok(
+            candidate.comments.is_empty()
+                || read_node(making.alloc, making.dialect, fragment, text)?.is_some(),
+        ),
+    }
+}
+
+/// Returns the text that takes the place of a match, behind its comments, in parentheses if it has to be; or
+/// why there is none.
 fn placed(
     making: &Making<'_>,
     place: &SyntaxNode,
+    candidate: &Candidate,
     text: String,
     node: SyntaxNode,
-) -> Result<Option<String>, ReplaceError> {
-    let asked = is_asked_around(making, place, text.as_str(), &node)?;
-    if !asked && reads(making, place, text.as_str(), &node)? {
-        return Ok(Some(text));
+) -> Result<Result<String, Reason>, ReplaceError> {
+    let comments = candidate.comments.as_str();
+    let whole = behind_comments(candidate, text.clone()?)?;
+    if !has_comments(making, candidate, whole.as_str())? {
+        return Ok(Err(Reason::CommentLost));
+    }
+    let asked = is_asked_around(making, place, whole.as_str(), &node)?;
+    if !asked && reads(making, place, comments, text.as_str(), &node)? {
+        return Ok(Ok(whole));
     }
     let fragment = making.rule.pattern.fragment();
     let Some(kind) = parentheses(fragment) else {
-        return Ok(None);
+        return Ok(Err(Reason::Unfaithful));
     };
     let inner = text.as_str();
     let closed = format!(in making.alloc; "({inner})")?;
     let Some(node) = read_node(making.alloc, making.dialect, fragment, closed.as_str())? else {
-        return Ok(None);
+        return Ok(Err(Reason::Unfaithful));
     };
-    if node.kind() == kind && reads(making, place, closed.as_str(), &node)? {
-        Ok(Some(closed))
+    if node.kind() == kind && reads(making, place, comments, closed.as_str(), &node)? {
+        Ok(Ok(behind_comments(candidate, closed)?))
     } else {
-        Ok(None)
+        Ok(Err(Reason::Unfaithful))
     }
 }
 
@@ -125,21 +163,25 @@ fn is_bound(candidates: &[Candidate], number: usize) -> bool {
     }
 }
 
-/// Returns the text that takes the place of a match; `None` if there is none that reads as it should.
+/// Returns the text that takes the place of a match, or why there is none.
 fn decided(
     making: &Making<'_>,
     candidates: &[Candidate],
     number: usize,
-) -> Result<Option<String>, ReplaceError> {
+) -> Result<Result<String, Reason>, ReplaceError> {
     let Some((text, node)) = instance(making, candidates, number)? else {
-        return Ok(None);
+        return Ok(Err(Reason::Unfaithful));
     };
-    if is_bound(candidates, number) || number >= candidates.len() {
-        return Ok(Some(text));
+    if number >= candidates.len() {
+        return Ok(Err(Reason::Unfaithful));
     }
-    match candidates[number].found.element() {
-        SyntaxElement::Node(place) => placed(making, place, text, node),
-        SyntaxElement::Token(_) => Ok(None),
+    let candidate = &candidates[number];
+    if is_bound(candidates, number) {
+        return Ok(Ok(behind_comments(candidate, text)?));
+    }
+    match candidate.found.element() {
+        SyntaxElement::Node(place) => placed(making, place, candidate, text, node),
+        SyntaxElement::Token(_) => Ok(Err(Reason::Unfaithful)),
     }
 }
 
@@ -155,9 +197,9 @@ fn decide_all(making: &Making<'_>, candidates: &mut Vec<Candidate>) -> Result<bo
         let new = decided(making, candidates.as_slice(), number)?;
         if number < candidates.len() {
             match new {
-                Some(new) => candidates[number].new = new,
-                None => {
-                    candidates[number].refused = Some(Reason::Unfaithful);
+                Ok(new) => candidates[number].new = new,
+                Err(reason) => {
+                    candidates[number].refused = Some(reason);
                     has_refused = true;
                 }
             }
@@ -194,11 +236,18 @@ fn planned(source: &Source, rule: &Rule, options: Options) -> Result<Vec<Candida
         rule,
     };
     let mut candidates = candidates_of(alloc, source, rule)?;
-    if options.comments == Comments::Refuse {
-        for candidate in candidates.iter_mut() {
-            if candidate.loses_comments {
-                candidate.refused = Some(Reason::CommentLost);
+    for candidate in candidates.iter_mut() {
+        if candidate.lost.is_empty() {
+            continue;
+        }
+        match options.comments {
+            Comments::Refuse => candidate.refused = Some(Reason::CommentLost),
+            Comments::Before => {
+                let (text, lost) = (source.text(), candidate.lost.as_slice());
+                let before = comments_before(alloc, text, lost, candidate.indent.as_str())?;
+                candidate.comments = before;
             }
+            Comments::Drop => {}
         }
     }
     for _ in 0..candidates.len() {
@@ -209,11 +258,12 @@ fn planned(source: &Source, rule: &Rule, options: Options) -> Result<Vec<Candida
     Ok(candidates)
 }
 
-/// Returns the element that a text is.
+/// Returns the element that a text is, of which so many bytes are comments before it.
 fn payload(
     source: &mut Source,
     fragment: Fragment,
     text: &str,
+    comments: usize,
 ) -> Result<Option<SyntaxNode>, ReplaceError>
     ensures { source.new.document ≡ source.old.document }
 {
@@ -235,7 +285,8 @@ fn payload(
             return Ok(Some(made.map_err(SourceError::Node)?));
         }
     };
-    let Some(node) = read_node(alloc, dialect, fragment, text)? else {
+    let bare = part(text, comments, text.len());
+    let Some(node) = read_node(alloc, dialect, fragment, bare)? else {
         return Ok(None);
     };
     let made = source.payload_node(entry, node.kind(), text);
@@ -276,7 +327,8 @@ fn record(
         if candidate.refused.is_some() || candidate.span.start < at {
             continue;
         }
-        let Some(new) = payload(source, fragment, candidate.new.as_str())? else {
+        let text = candidate.new.as_str();
+        let Some(new) = payload(source, fragment, text, candidate.comments.len())? else {
             return Ok(false);
         };
         put(
