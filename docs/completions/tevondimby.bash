@@ -14,7 +14,7 @@ _tevondimby() {
     local options="--help"
     case $command in
         check|tokens|tree) options="--json --exclude --edition --grammar --help" ;;
-        search) options="--as --exclude --edition --grammar --help" ;;
+        search) options="--as --json --exclude --edition --grammar --help" ;;
         rename) options="--write --diff --check --json --quiet --merge --pairs --exclude --edition --grammar --help" ;;
         replace) options="--write --diff --check --json --quiet --as --comments --skip --allow-messages --exclude --edition --grammar --help" ;;
         rewrite) options="--write --diff --check --json --quiet --allow-messages --edition --grammar --help" ;;

@@ -11,7 +11,7 @@ complete -c tevondimby -f -n "not __fish_seen_subcommand_from $commands" -a serv
 complete -c tevondimby -n "__fish_seen_subcommand_from check tokens tree search rename replace rewrite" -l edition -x -a "2015 2018 2021 2024 next" -d "The edition of all files"
 complete -c tevondimby -n "__fish_seen_subcommand_from check tokens tree search rename replace rewrite" -l grammar -x -a "whole profile" -d "The grammar of all files"
 complete -c tevondimby -n "__fish_seen_subcommand_from check tokens tree search rename replace" -l exclude -x -d "Leave out what matches in directories"
-complete -c tevondimby -n "__fish_seen_subcommand_from check tokens tree" -l json -d "An object in JSON for each file"
+complete -c tevondimby -n "__fish_seen_subcommand_from check tokens tree search" -l json -d "An object in JSON for each file"
 complete -c tevondimby -n "__fish_seen_subcommand_from rename replace rewrite" -s w -l write -d "Write the files"
 complete -c tevondimby -n "__fish_seen_subcommand_from rename replace rewrite" -l diff -d "Print a diff"
 complete -c tevondimby -n "__fish_seen_subcommand_from rename replace rewrite" -l check -d "Print the paths of the files that would change"

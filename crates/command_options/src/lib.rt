@@ -129,6 +129,10 @@ file is written.
 Without `--write` nothing is written, and a diff is printed, as by `rename`; of standard input, `-`, the new text is \
 printed. The exit status is 0, or 1 if matches are left, or if with `--check` a file would change, or 2 after a fault.";
 
+const MATCHES: &str = "\
+Prints an object in JSON for each file with matches, on a line of its own: the bytes of each match and of what \
+its metavariables stand for, a list of elements for a sequence";
+
 const COMMENTS: &str = "How a comment is treated that no part of TEMPLATE keeps";
 
 const AS: &str = "What the pattern is read as; else the first of these that it reads as";
@@ -259,7 +263,8 @@ fn with_pattern<'a>(alloc: Global, command: Command<'a>) -> Result<Command<'a>, 
 fn searching<'a>(alloc: Global) -> Result<Command<'a>, AllocError> {
     let command = Command::new(alloc, "search")
         .about("Prints the matches of a pattern")
-        .long_about(SEARCH);
+        .long_about(SEARCH)
+        .arg(flag(alloc, "json", MATCHES))?;
     let command = with_pattern(alloc, command)?;
     with_files(alloc, with_dialect(alloc, command)?)
 }

@@ -6,12 +6,12 @@ use crate::rule::Rule;
 use crate::texts::Span;
 use rust_source::Source;
 use std::alloc::{AllocError, Global};
-use tree_search::{Match, search};
+use tree_search::Match;
 
 /// A match, and the text that replaces it.
 #[derive(Drop)]
-pub struct Candidate {
-    pub found: Match,
+pub struct Candidate<'a> {
+    pub found: &'a Match,
     pub span: Span,
     /// The spaces and tabs that begin its line.
     pub indent: String,
@@ -39,7 +39,7 @@ fn is_bound(found: &Match, span: Span) -> bool {
 
 /// Leaves the matches around a range in `open`, the innermost last, and returns that one.
 fn innermost(
-    candidates: &[Candidate],
+    candidates: &[Candidate<'_>],
     open: &mut Vec<usize>,
     span: Span,
 ) -> Result<Option<usize>, AllocError> {
@@ -53,27 +53,28 @@ fn innermost(
 }
 
 /// Returns the match of which a range is a whole binding, if it is one of the match around it.
-fn owner_of(candidates: &[Candidate], around: Option<usize>, span: Span) -> Option<usize> {
+fn owner_of(candidates: &[Candidate<'_>], around: Option<usize>, span: Span) -> Option<usize> {
     let number = around?;
-    if number < candidates.len() && is_bound(&candidates[number].found, span) {
+    if number < candidates.len() && is_bound(candidates[number].found, span) {
         Some(number)
     } else {
         None
     }
 }
 
-/// Returns the matches of a rule in a source, in order: each before those in it.
-pub fn candidates_of(
+/// Returns a candidate for each match of a rule in a source, in order: each before those in it.
+pub fn candidates_of<'a>(
     alloc: Global,
     source: &Source,
     rule: &Rule,
-) -> Result<Vec<Candidate>, AllocError> {
-    let mut candidates: Vec<Candidate> = Vec::new(alloc);
+    matches: &'a [Match],
+) -> Result<Vec<Candidate<'a>>, AllocError> {
+    let mut candidates: Vec<Candidate<'a>> = Vec::new(alloc);
     let mut open = Vec::new(alloc);
-    for found in search(alloc, &rule.pattern, source.root())? {
+    for found in matches {
         let span = Span::of(found.element());
         let indent = source.line_indent(found.element())?;
-        let lost = lost_comments(alloc, rule, &found)?;
+        let lost = lost_comments(alloc, rule, found)?;
         let around = innermost(candidates.as_slice(), &mut open, span)?;
         let owner = owner_of(candidates.as_slice(), around, span);
         open.push(candidates.len())?;

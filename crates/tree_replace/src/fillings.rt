@@ -53,7 +53,7 @@ pub fn rewritten(
     alloc: Global,
     text: &str,
     span: Span,
-    candidates: &[Candidate],
+    candidates: &[Candidate<'_>],
     from: usize,
 ) -> Result<String, AllocError> {
     let mut out = String::new(alloc);
@@ -118,7 +118,7 @@ fn line_of(
 /// Returns what a binding puts into a hole, without parentheses. `indent` is that of the hole's line.
 fn bound_text(
     making: &Making<'_>,
-    candidates: &[Candidate],
+    candidates: &[Candidate<'_>],
     number: usize,
     hole: usize,
     indent: &str,
@@ -345,7 +345,7 @@ fn hole_indent(
 /// Returns what fills the holes for a match.
 pub fn fillings(
     making: &Making<'_>,
-    candidates: &[Candidate],
+    candidates: &[Candidate<'_>],
     number: usize,
 ) -> Result<Vec<Filling>, ReplaceError> {
     let alloc = making.alloc;

@@ -66,7 +66,7 @@ fn is_instance(
 /// Returns the text of the instance of a match, and the node that it is; `None` if it reads otherwise.
 pub fn instance(
     making: &Making<'_>,
-    candidates: &[Candidate],
+    candidates: &[Candidate<'_>],
     number: usize,
 ) -> Result<Option<(String, SyntaxNode)>, ReplaceError> {
     let alloc = making.alloc;

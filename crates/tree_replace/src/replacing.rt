@@ -1,6 +1,6 @@
 //! Replaces the matches of a source.
 
-ghost use Rattle.std.specs.Prelude.{◌≡◌, IfErr, IfOk, OnOk};
+ghost use Rattle.std.specs.Prelude.{◌≡◌, ◌<◌, length, IfErr, IfOk, OnOk};
 ghost use Rattle.tree_replace.specs.Replacements.{AreReplaced, OnlyReplaces};
 
 use crate::asked::{is_asked, is_glued};
@@ -18,6 +18,7 @@ use rust_source::{Source, SourceError, SyntaxEditor, TopEntryPoint};
 use std::alloc::{AllocError, Global};
 use syntax_tree::{SyntaxElement, SyntaxNode};
 use tree_patterns::Fragment;
+use tree_search::{Match, search};
 
 /// How a comment is treated that no part of the template keeps.
 #[derive(Clone, Copy, Debug, PartialEq, Eq)]
@@ -93,7 +94,7 @@ fn is_asked_around(
 }
 
 /// Returns a text behind the comments of a match.
-fn behind_comments(candidate: &Candidate, text: String) -> Result<String, AllocError> {
+fn behind_comments(candidate: &Candidate<'_>, text: String) -> Result<String, AllocError> {
     if candidate.comments.is_empty() {
         return Ok(text);
     }
@@ -106,7 +107,7 @@ fn behind_comments(candidate: &Candidate, text: String) -> Result<String, AllocE
 /// type or a pattern are; those before a statement only if the grammar gives them to it.
 fn has_comments(
     making: &Making<'_>,
-    candidate: &Candidate,
+    candidate: &Candidate<'_>,
     text: &str,
 ) -> Result<bool, ReplaceError> {
     match making.rule.pattern.fragment() {
@@ -123,7 +124,7 @@ fn has_comments(
 fn placed(
     making: &Making<'_>,
     place: &SyntaxNode,
-    candidate: &Candidate,
+    candidate: &Candidate<'_>,
     text: String,
     node: SyntaxNode,
 ) -> Result<Result<String, Reason>, ReplaceError> {
@@ -153,7 +154,7 @@ fn placed(
 }
 
 /// Returns `true` if a match is a whole binding of one that is replaced.
-fn is_bound(candidates: &[Candidate], number: usize) -> bool {
+fn is_bound(candidates: &[Candidate<'_>], number: usize) -> bool {
     if number >= candidates.len() {
         return false;
     }
@@ -166,7 +167,7 @@ fn is_bound(candidates: &[Candidate], number: usize) -> bool {
 /// Returns the text that takes the place of a match, or why there is none.
 fn decided(
     making: &Making<'_>,
-    candidates: &[Candidate],
+    candidates: &[Candidate<'_>],
     number: usize,
 ) -> Result<Result<String, Reason>, ReplaceError> {
     let Some((text, node)) = instance(making, candidates, number)? else {
@@ -186,7 +187,10 @@ fn decided(
 }
 
 /// Decides what takes the place of each match, inner ones first. Returns `true` if one more was refused.
-fn decide_all(making: &Making<'_>, candidates: &mut Vec<Candidate>) -> Result<bool, ReplaceError> {
+fn decide_all(
+    making: &Making<'_>,
+    candidates: &mut Vec<Candidate<'_>>,
+) -> Result<bool, ReplaceError> {
     let mut has_refused = false;
     let count = candidates.len();
     for behind in 0..count {
@@ -209,7 +213,7 @@ fn decide_all(making: &Making<'_>, candidates: &mut Vec<Candidate>) -> Result<bo
 }
 
 /// Returns the matches that are refused, in order.
-fn refusals(alloc: Global, candidates: &[Candidate]) -> Result<Vec<Refusal>, AllocError> {
+fn refusals(alloc: Global, candidates: &[Candidate<'_>]) -> Result<Vec<Refusal>, AllocError> {
     let mut refusals = Vec::new(alloc);
     for candidate in candidates {
         if let Some(reason) = candidate.refused {
@@ -224,7 +228,12 @@ fn refusals(alloc: Global, candidates: &[Candidate]) -> Result<Vec<Refusal>, All
 }
 
 /// Returns the matches of a source with what takes their place.
-fn planned(source: &Source, rule: &Rule, options: Options) -> Result<Vec<Candidate>, ReplaceError> {
+fn planned<'a>(
+    source: &Source,
+    rule: &Rule,
+    options: Options,
+    matches: &'a [Match],
+) -> Result<Vec<Candidate<'a>>, ReplaceError> {
     let alloc = source.alloc();
     let making = Making {
         alloc,
@@ -235,7 +244,7 @@ fn planned(source: &Source, rule: &Rule, options: Options) -> Result<Vec<Candida
         source,
         rule,
     };
-    let mut candidates = candidates_of(alloc, source, rule)?;
+    let mut candidates = candidates_of(alloc, source, rule, matches)?;
     for candidate in candidates.iter_mut() {
         if candidate.lost.is_empty() {
             continue;
@@ -293,19 +302,21 @@ fn payload(
     Ok(Some(made.map_err(SourceError::Node)?))
 }
 
-/// Records that an element is replaced by another.
+/// Records that the element of a match is replaced by another.
 #[tactic(auto, using(crate::proofs::Singles::one_more))]
 fn put(
     alloc: Global,
     editor: &mut SyntaxEditor,
-    old: &SyntaxElement,
+    matches: &[Match],
+    index: usize,
     new: &SyntaxElement,
 ) -> Result<(), ReplaceError>
-    requires { OnlyReplaces editor.old }
-    ensures { OnOk result (OnlyReplaces editor.new) }
+    requires index { index < length matches.now }
+    requires only { OnlyReplaces matches.now editor.old }
+    ensures { OnOk result (OnlyReplaces matches.now editor.new) }
 {
     editor
-        .replace(alloc, old, new)
+        .replace(alloc, matches[index].element(), new)
         .map_err(SourceError::Record)?;
     Ok(())
 }
@@ -315,15 +326,20 @@ fn put(
 fn record(
     source: &mut Source,
     fragment: Fragment,
-    candidates: &[Candidate],
+    matches: &[Match],
+    candidates: &[Candidate<'_>],
     editor: &mut SyntaxEditor,
 ) -> Result<bool, ReplaceError>
-    requires { OnlyReplaces editor.old }
-    ensures only { OnOk result (OnlyReplaces editor.new) }
+    requires { OnlyReplaces matches.now editor.old }
+    ensures only { OnOk result (OnlyReplaces matches.now editor.new) }
     ensures document { source.new.document ≡ source.old.document }
 {
     let mut at = 0usize;
-    for candidate in candidates {
+    for index in 0..matches.len() {
+        if index >= candidates.len() {
+            break;
+        }
+        let candidate = &candidates[index];
         if candidate.refused.is_some() || candidate.span.start < at {
             continue;
         }
@@ -331,19 +347,15 @@ fn record(
         let Some(new) = payload(source, fragment, text, candidate.comments.len())? else {
             return Ok(false);
         };
-        put(
-            source.alloc(),
-            editor,
-            candidate.found.element(),
-            &SyntaxElement::Node(new),
-        )?;
+        let new = SyntaxElement::Node(new);
+        put(source.alloc(), editor, matches, index, &new)?;
         at = candidate.span.end;
     }
     Ok(true)
 }
 
 /// Returns the number of matches that are not refused.
-fn count_replaced(candidates: &[Candidate]) -> usize {
+fn count_replaced(candidates: &[Candidate<'_>]) -> usize {
     let mut count = 0usize;
     for candidate in candidates {
         if candidate.refused.is_none() {
@@ -353,7 +365,7 @@ fn count_replaced(candidates: &[Candidate]) -> usize {
     count
 }
 
-/// Replaces the matches of a rule in a source, those in what others bind too. What takes the place of a
+/// Replaces the matches of a rule in a source, those in what others bind too, and nothing else. What takes the place of a
 /// match is in parentheses exactly where the text would read otherwise, or where rustc asks for them. The
 /// new text is accepted only if it reads as the tree with these replacements.
 ///
@@ -368,7 +380,7 @@ fn count_replaced(candidates: &[Candidate]) -> usize {
 /// On error, the document is unchanged.
 pub fn replace(source: &mut Source, rule: &Rule, options: Options) -> Result<Replaced, ReplaceError>
     ensures replaced { IfOk result (λ r. (r.count ≡ 0 → ⊥)
-        → AreReplaced source.old.document source.new.document) }
+        → AreReplaced rule.pattern source.old.document source.new.document) }
     ensures unchanged { IfOk result (λ r. r.count ≡ 0
         → source.new.document ≡ source.old.document) }
     ensures kept { IfErr result (λ _. source.new.document ≡ source.old.document) }
@@ -377,7 +389,8 @@ pub fn replace(source: &mut Source, rule: &Rule, options: Options) -> Result<Rep
     if !options.allows_messages && !source.errors().is_empty() {
         return Err(ReplaceError::Messages);
     }
-    let candidates = planned(source, rule, options)?;
+    let matches = search(alloc, &rule.pattern, source.root())?;
+    let candidates = planned(source, rule, options, matches.as_slice())?;
     let skipped = refusals(alloc, candidates.as_slice())?;
     if !skipped.is_empty() && !options.skips {
         return Err(ReplaceError::Matches(skipped));
@@ -388,7 +401,14 @@ pub fn replace(source: &mut Source, rule: &Rule, options: Options) -> Result<Rep
     }
     let mut editor = source.editor()?;
     let fragment = rule.pattern.fragment();
-    if !record(source, fragment, candidates.as_slice(), &mut editor)? {
+    let matches = matches.as_slice();
+    if !record(
+        source,
+        fragment,
+        matches,
+        candidates.as_slice(),
+        &mut editor,
+    )? {
         return Err(ReplaceError::TooLong);
     }
     source.commit(editor).map_err(SourceError::Commit)?;
