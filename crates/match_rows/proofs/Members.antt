@@ -1,5 +1,5 @@
 -- The members of places, place by place.
-use Rattle.std.proofs.Common.{◌≡◌, ℕ, ◌+◌, ◌<◌, ◌≤◌, Bool, List, [], ◌∷◌, ◌++◌, length, get_or, take, drop, map, refl, ap, sym, ◌∙◌, arith, append_assoc, append-nil, length-drop, if◌then◌else◌}
+use Rattle.std.proofs.Common.{◌≡◌, ℕ, ◌+◌, ◌<◌, ◌≤◌, List, [], ◌∷◌, ◌++◌, length, get_or, take, drop, map, refl, ap, sym, ◌∙◌, arith, append_assoc, append-nil, length-drop, if◌then◌else◌}
 use Rattle.std.proofs.lemmas.List.{drop_more, take_more}
 use Rattle.rowan_green.specs.Leaf.{Leaf}
 use Rattle.syntax_tree.specs.declared.element.SyntaxElement.{SyntaxElement}

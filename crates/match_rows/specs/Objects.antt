@@ -1,6 +1,6 @@
 -- What is printed of the matches of a pattern as JSON: an object for each file, on a line of its own.
-use Rattle.std.specs.Prelude.{◌≡◌, ℕ, ◌+◌, ◌&&◌, not, Bool, true, false, List, [], ◌∷◌, ◌++◌, codes, drop, length, Option, Some, None, if◌then◌else◌}
-use Rattle.std.specs.List.{flat_map, is_empty, list_any}
+use Rattle.std.specs.Prelude.{◌≡◌, ℕ, ◌+◌, ◌==◌, ◌&&◌, not, Bool, true, false, List, [], ◌∷◌, ◌++◌, codes, drop, length, Option, Some, None, if◌then◌else◌}
+use Rattle.std.specs.List.{flat_map, list_any}
 use Rattle.std.specs.Str.{bytes_eq}
 use Rattle.std.specs.Fmt.{decimal}
 use Rattle.serde_json.specs.Data.{string}
@@ -77,14 +77,23 @@ fragment_word fragments.Pattern = codes "pattern"
 fragment_word fragments.Statement = codes "statement"
 fragment_word fragments.Item = codes "item"
 
+-- what the object of a file begins with
+abbrev pub object_head : List ℕ → Fragment → List ℕ
+object_head path fragment =
+    codes "{\"path\":" ++ (json_string path ++ (codes ",\"fragment\":\"" ++ (fragment_word fragment ++ codes "\",\"matches\":[")))
+
 -- the object of a file
 abbrev pub file_object : List ℕ → Fragment → List ℕ → List ℕ
-file_object path fragment items =
-    codes "{\"path\":" ++ (json_string path ++ (codes ",\"fragment\":\"" ++ (fragment_word fragment ++ (codes "\",\"matches\":[" ++ (drop 1 items ++ codes "]}\n")))))
+file_object path fragment items = object_head path fragment ++ (drop 1 items ++ codes "]}\n")
 
--- Behind the old rows stands the object of the matches of a pattern in a document, if there are some; they are as many as is said.
+-- the object of a file with matches; of none there is nothing
+abbrev pub object_of : List ℕ → Shape → List ℕ → List Found → List ℕ
+object_of path p text ms =
+    if length ms == 0 then [] else file_object path p.fragment (flat_map (match_item (places p.tree) text) ms)
+
+-- Behind the old rows is the object of the matches of a pattern in a document, if there are some; they are as many as is said.
 pub record IsObject (path : List ℕ) (d : State) (p : Shape) (old new : List ℕ) (count : ℕ) : Type 0 where
   pub matches : List Found
   pub found : AreMatches p (Node (root_element d) ∷ []) matches
-  pub rows : new ≡ old ++ (if is_empty matches then [] else file_object path p.fragment (flat_map (match_item (places p.tree) d.text) matches))
+  pub rows : new ≡ old ++ object_of path p d.text matches
   pub counted : count ≡ length matches

@@ -5,7 +5,7 @@ ghost use Rattle.std.specs.List.{flat_map, list_any};
 ghost use Rattle.std.specs.Str.{bytes_eq};
 ghost use Rattle.tree_patterns.specs.Patterns.{places};
 ghost use Rattle.tree_patterns.specs.Places.{place_of};
-ghost use Rattle.match_rows.specs.Objects.{IsObject, file_object, fragment_word, is_shown, json_string, match_item, member_item, members, place_members, runs, span_item, spans, value};
+ghost use Rattle.match_rows.specs.Objects.{IsObject, file_object, fragment_word, is_shown, json_string, match_item, member_item, members, object_head, place_members, runs, span_item, spans, value};
 
 use line_index::{Encoding, LineCol, LineIndex};
 use rowan_green::GreenTokenRef;
@@ -28,10 +28,10 @@ fn json_string(alloc: Global, text: &str) -> Result<String, AllocError>
 fn without_comma(items: &[u8]) -> &[u8]
     ensures { result.now ≡ drop 1 items.now }
 {
-    if items.is_empty() {
-        return items;
+    match items {
+        [] => items,
+        [_, rest @ ..] => rest,
     }
-    &items[1..]
 }
 
 /// Appends the bytes of an element, behind a comma.
@@ -196,11 +196,10 @@ fn push_match(
     let place = index.line_col(Encoding::Utf32, start);
     let place = place_members(alloc, start, end, place)?;
     let members = members(alloc, places, found.bindings())?;
-    items.extend_from_slice(",".as_bytes())?;
-    items.extend_from_slice(place.as_str().as_bytes())?;
-    items.extend_from_slice(",\"bindings\":{".as_bytes())?;
+    let head = format!(in alloc; ",{place},\"bindings\":{{")?;
+    items.extend_from_slice(head.as_str().as_bytes())?;
     items.extend_from_slice(without_comma(members.as_slice()))?;
-    items.extend_from_slice("}}".as_bytes())
+    items.extend_from_slice(b"}}")
 }
 
 /// Returns the word for a fragment.
@@ -216,6 +215,15 @@ fn fragment_word(fragment: Fragment) -> &'static str
     }
 }
 
+/// Returns what the object of a file begins with.
+fn object_head(alloc: Global, path: &str, fragment: Fragment) -> Result<String, AllocError>
+    ensures { IfOk result (λ head. string_bytes head ≡ object_head path.now fragment) }
+{
+    let path = json_string(alloc, path)?;
+    let word = fragment_word(fragment);
+    format!(in alloc; "{{\"path\":{path},\"fragment\":\"{word}\",\"matches\":[")
+}
+
 /// Appends the object of a file.
 fn push_object(
     alloc: Global,
@@ -227,14 +235,10 @@ fn push_object(
     ensures { OnOk result (rows.new.items
         ≡ rows.old.items ++ file_object path.now fragment items.now) }
 {
-    let path = json_string(alloc, path)?;
-    rows.extend_from_slice("{\"path\":".as_bytes())?;
-    rows.extend_from_slice(path.as_str().as_bytes())?;
-    rows.extend_from_slice(",\"fragment\":\"".as_bytes())?;
-    rows.extend_from_slice(fragment_word(fragment).as_bytes())?;
-    rows.extend_from_slice("\",\"matches\":[".as_bytes())?;
+    let head = object_head(alloc, path, fragment)?;
+    rows.extend_from_slice(head.as_str().as_bytes())?;
     rows.extend_from_slice(without_comma(items))?;
-    rows.extend_from_slice("]}\n".as_bytes())
+    rows.extend_from_slice(b"]}\n")
 }
 
 /// Appends the object of matches in the text of `index`.

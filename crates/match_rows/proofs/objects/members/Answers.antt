@@ -1,6 +1,6 @@
 -- Place by place.
-use Rattle.std.proofs.Common.{◌≡◌, ◌++◌, [], ◌∙◌, ap, arith, rules}
-use Rattle.match_rows.proofs.Members.{place_adds, places_end, runs_end, shown}
+use Rattle.std.proofs.Common.{arith}
+use Rattle.match_rows.proofs.Members.{runs_end}
 use Rattle.match_rows.proofs.objects.members.Goals as goal
 
 pub returns-then-at-bindings : goal.returns-then-at-bindings
