@@ -1,5 +1,5 @@
 //! The recorded changes of an editor, for whoever decides on them before they are applied.
-ghost use Rattle.std.specs.Prelude.{◌≡◌, map, IfOk};
+ghost use Rattle.std.specs.Prelude.{◌≡◌, [], map, IfOk};
 ghost use Rattle.std.specs.List.{All};
 ghost use Rattle.tree_rewrite.specs.Change.{has_collision};
 ghost use Rattle.tree_rewrite.specs.Recorded.{recorded};
@@ -16,6 +16,7 @@ impl SyntaxEditor {
     /// Returns the recorded changes, the first recorded first. It allocates nothing.
     pub fn changes(&self) -> &[Change]
         ensures recorded { map recorded result.now ≡ self.now.changes }
+        ensures top { self.now.top.place.up ≡ [] }
         ensures sound { All (IsSound self.now.top) result.now }
     {
         &self.changes
