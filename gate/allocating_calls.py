@@ -42,6 +42,7 @@ MADE_BY = {
     "rust_source::Source::open": "rust_document::Document::open",
     "rust_source::Source::open_by": "rust_document::Document::open_by",
     "rust_source::Source::payload": "rust_document::payload",
+    "rust_source::Source::is_plain_rename": "rust_document::Document::is_plain_rename",
     "rust_source::Source::try_commit": "rust_document::Document::try_commit",
     "source_rewrites::commands_of_files": "source_rewrites::rewrite_files",
     "source_rewrites::rewrite_bytes": "source_rewrites::plan_rewrites",
