@@ -40,6 +40,7 @@ MADE_BY = {
     "rust_source::Source::edit": "rust_document::Document::edit",
     "rust_source::Source::editor": "rust_document::Document::editor",
     "rust_source::Source::find": "rust_document::Document::find",
+    "rust_source::Source::is_plain_rename": "rust_document::Document::is_plain_rename",
     "rust_source::Source::make_token": "syntax_editor::SyntaxFactory::token",
     "rust_source::Source::open": "rust_document::Document::open",
     "rust_source::Source::open_by": "rust_document::Document::open_by",
