@@ -58,7 +58,9 @@ AreMessages bytes (body ∷ bodies) rest = (behind : List ℕ) × IsMessage byte
 
 -- how a stream ends: behind a message, within one, or with bytes that are none
 pub data End : Type 0 where
-  Clean Cut Malformed : End
+  Clean : End
+  Cut : End
+  Malformed : End
 
 abbrev pub IsEnd : End → List ℕ → Type 0
 IsEnd Clean rest = rest ≡ []

@@ -1,4 +1,4 @@
--- Lemmas on what is told behind a read.
+-- Lemmas on what is sent behind a read.
 use Rattle.std.proofs.Common.{◌≡◌, ℕ, List, [], ◌∷◌, ◌++◌, Option, Some, None, refl, ap, sym, subst, ◌∙◌, append_assoc}
 use Rattle.std.proofs.lemmas.List.{append-nil}
 use Rattle.message_frames.specs.Frames.{IsBroken, IsMessage}

@@ -7,7 +7,7 @@ use Rattle.language_session.specs.Sessions.{Session, begun}
 use Rattle.language_session.specs.Steps.{Language, Step, exit_status, written}
 use Rattle.language_session.specs.Runs.{run}
 
--- the client is told that there is no next message
+-- the error that there is no next message
 abbrev pub refusal : List Reply
 refusal = Refused None refusals.Header ∷ []
 
@@ -35,7 +35,7 @@ pub record IsAnswered (language : Language) (input out : List ℕ) (status : ℕ
   pub messages : AreMessages input bodies rest
   pub ends : Ends (run language begun bodies).status (run language begun bodies) rest out status
 
--- what is told behind the replies to messages: nothing, or that there is no next one
+-- what is sent behind the replies to messages: nothing, or that there is no next one
 abbrev pub IsLast : Option ℕ → List ℕ → List Reply → Type 0
 IsLast status rest last = (last ≡ []) ⊎ ((status ≡ None) × IsBroken rest × (last ≡ refusal))
 

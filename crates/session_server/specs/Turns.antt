@@ -1,4 +1,4 @@
--- What is told behind a read.
+-- What is sent behind a read.
 use Rattle.std.specs.Prelude.{◌≡◌, ◌≤◌, ℕ, List, ◌++◌, drop, length, Option, Some, None}
 use Rattle.message_frames.specs.Frames.{AreMessages, IsBroken, IsUnfinished}
 use Rattle.language_session.specs.Sessions.{Session}

@@ -26,7 +26,7 @@ enum Next {
     Ends(u8),
 }
 
-/// What a client is told behind a read.
+/// What is sent to a client behind a read.
 #[derive(Drop)]
 struct Turn {
     told: Vec<u8>,
