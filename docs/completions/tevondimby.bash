@@ -2,7 +2,7 @@
 _tevondimby() {
     local word=${COMP_WORDS[COMP_CWORD]} command=${COMP_WORDS[1]}
     if [ "$COMP_CWORD" -eq 1 ]; then
-        COMPREPLY=($(compgen -W "check tokens tree search rename replace rewrite serve help --help --version" -- "$word"))
+        COMPREPLY=($(compgen -W "check tokens tree search rename replace rewrite serve lsp help --help --version" -- "$word"))
         return
     fi
     case ${COMP_WORDS[COMP_CWORD-1]} in
@@ -17,6 +17,7 @@ _tevondimby() {
         search) options="--as --json --exclude --edition --grammar --help" ;;
         rename) options="--write --diff --check --json --quiet --merge --pairs --exclude --edition --grammar --help" ;;
         replace) options="--write --diff --check --json --quiet --as --comments --skip --allow-messages --exclude --edition --grammar --help" ;;
+        lsp) options="--edition --help" ;;
         rewrite) options="--write --diff --check --json --quiet --allow-messages --edition --grammar --help" ;;
     esac
     case $word in

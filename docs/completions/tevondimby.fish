@@ -1,5 +1,5 @@
 # Completions of tevondimby for fish: copy this file to ~/.config/fish/completions
-set -l commands check tokens tree search rename replace rewrite serve
+set -l commands check tokens tree search rename replace rewrite serve lsp
 complete -c tevondimby -f -n "not __fish_seen_subcommand_from $commands" -a check -d "Messages, with their lines"
 complete -c tevondimby -f -n "not __fish_seen_subcommand_from $commands" -a tokens -d "Tokens, a row each"
 complete -c tevondimby -f -n "not __fish_seen_subcommand_from $commands" -a tree -d "Trees, a row for each element"
@@ -8,7 +8,8 @@ complete -c tevondimby -f -n "not __fish_seen_subcommand_from $commands" -a sear
 complete -c tevondimby -f -n "not __fish_seen_subcommand_from $commands" -a replace -d "Replace matches of a pattern"
 complete -c tevondimby -f -n "not __fish_seen_subcommand_from $commands" -a rewrite -d "Rewrite by commands"
 complete -c tevondimby -f -n "not __fish_seen_subcommand_from $commands" -a serve -d "Answer requests, one a line"
-complete -c tevondimby -n "__fish_seen_subcommand_from check tokens tree search rename replace rewrite" -l edition -x -a "2015 2018 2021 2024 next" -d "The edition of all files"
+complete -c tevondimby -f -n "not __fish_seen_subcommand_from $commands" -a lsp -d "Be a language server"
+complete -c tevondimby -n "__fish_seen_subcommand_from check tokens tree search rename replace rewrite lsp" -l edition -x -a "2015 2018 2021 2024 next" -d "The edition of all files"
 complete -c tevondimby -n "__fish_seen_subcommand_from check tokens tree search rename replace rewrite" -l grammar -x -a "whole profile" -d "The grammar of all files"
 complete -c tevondimby -n "__fish_seen_subcommand_from check tokens tree search rename replace" -l exclude -x -d "Leave out what matches in directories"
 complete -c tevondimby -n "__fish_seen_subcommand_from check tokens tree search" -l json -d "An object in JSON for each file"

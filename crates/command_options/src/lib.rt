@@ -69,6 +69,14 @@ the request program, which ignores the member.
 
 The exit status is 0 at the end of the input, or 2 if reading, writing or memory fails.";
 
+const LSP: &str = "\
+Speaks the Language Server Protocol (3.17) on standard input and output: an editor starts it. It keeps the texts that the \
+editor has open, and shows the messages of each, as `check` prints them, while they are typed. It knows syntax alone, and \
+reads no file: texts are of the edition of `--edition`, else 2021, unless the editor asks for another one by the member \
+`edition` of `initializationOptions`. `docs/EDITORS.md` has configurations of editors.
+
+The exit status is 0 if the editor has sent `shutdown` before the end, else 1, or 2 if reading, writing or memory fails.";
+
 const RENAME_USAGE: &str = "tevondimby rename [OPTIONS] <OLD> <NEW> <FILE>...
        tevondimby rename [OPTIONS] <OLD=NEW>... <FILE>...
        tevondimby rename [OPTIONS] --pairs <PAIRS> <FILE>...";
@@ -333,6 +341,14 @@ fn serving<'a>(alloc: Global) -> Command<'a> {
         .long_about(SERVE)
 }
 
+/// Returns the command that is a language server.
+fn serving_editors<'a>(alloc: Global) -> Result<Command<'a>, AllocError> {
+    Command::new(alloc, "lsp")
+        .about("Is a language server, on standard input and output")
+        .long_about(LSP)
+        .arg(edition(alloc))
+}
+
 /// Returns the command without its subcommands.
 fn bare_command<'a>(alloc: Global, version: &'a str) -> Command<'a> {
     Command::new(alloc, "tevondimby")
@@ -368,5 +384,6 @@ pub fn command<'a>(alloc: Global, version: &'a str) -> Result<Command<'a>, Alloc
         .subcommand(renaming(alloc)?)?
         .subcommand(replacing(alloc)?)?
         .subcommand(rewriting(alloc)?)?
-        .subcommand(serving(alloc))
+        .subcommand(serving(alloc))?
+        .subcommand(serving_editors(alloc)?)
 }

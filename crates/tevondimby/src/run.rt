@@ -11,6 +11,7 @@ use command_options::command;
 use command_patterns::{replace_files, search};
 use command_renames::rename;
 use command_report::Outcome;
+use lsp_command::serve_editor;
 use source_tools::{Format, View};
 use std::env;
 use std::io::ErrorKind;
@@ -66,6 +67,7 @@ pub(crate) fn run(rt: &HostRuntime) -> Result<Outcome> {
         Some(("replace", matches)) => replace_files(rt, matches),
         Some(("rewrite", matches)) => rewrite(rt, matches),
         Some(("serve", _)) => serve(rt),
+        Some(("lsp", matches)) => Ok(serve_editor(rt, matches)),
         _ => Ok(Outcome::Fault),
     }
 }
