@@ -1,8 +1,9 @@
 -- An editor that only replaces matches does so after one more replacement.
-use Rattle.std.proofs.Common.{◌≡◌, ℕ, Bool, true, false, List, [], ◌∷◌, not, ◌&&◌, if◌then◌else◌, Some, slice_get, refl, ap, sym, subst}
+use Rattle.std.proofs.Common.{◌≡◌, ℕ, ◌<◌, Bool, true, false, List, [], ◌∷◌, not, ◌&&◌, if◌then◌else◌, length, get_or, refl, sym, subst}
 use Rattle.std.specs.List.{All}
+use Rattle.std.proofs.lemmas.Option.{slice_get_read}
 use Rattle.std.proofs.lemmas.List.Elements.{All-cons, All-head, All-nil, All-tail}
-use Rattle.tree_rewrite.specs.Change.{Change, insert, replace}
+use Rattle.tree_rewrite.specs.Change.{Change, replace}
 use Rattle.tree_rewrite.specs.Rewrite.{payload_of}
 use Rattle.syntax_tree.specs.Element.{Element, Way}
 use Rattle.syntax_tree.specs.Handle.{element_of}
@@ -33,13 +34,13 @@ replaced-by true b all cs h = absurd (let z : Foreign ≡ Recorded cs = h in cc)
 replaced-by false true all cs h = absurd (let z : BadTarget ≡ Recorded cs = h in cc)
 replaced-by false false all cs h = let z : Recorded all ≡ Recorded cs = h in cc
 
-pub one_more : (ms : List Found) (index : ℕ) (m : Found) (before after : Editing) (new : Element) → slice_get ms index ≡ Some m → OnlyReplaces ms before
+pub one_more : (ms : List Found) (index : ℕ) (m : Found) (before after : Editing) (new : Element) → index < length ms → m ≡ get_or ms index m → OnlyReplaces ms before
     → replacing before (element_of m.element) (new ∷ []) ≡ Recorded after.changes → OnlyReplaces ms after
-one_more ms index m before after new one only is =
+one_more ms index m before after new inside at only is =
     let x : Element = element_of m.element in
     let all : List Change = with_single before.changes x.place.up (new ∷ []) in
     let same : after.changes ≡ all =
     replaced-by (not (is_target before.top x)) (is_root x.place.up && not (is_one_node (new ∷ []))) all after.changes is in
     let here : ReplacesMatch ms (replace x.place.up 0 (new ∷ []) true) =
-    record { index = index; found = m; is_one = one; new = new; is = refl } in
+    record { index = index; found = m; is_one = slice_get_read ms (length ms) index m refl inside at; new = new; is = refl } in
     subst (All (ReplacesMatch ms)) (sym same) (all-single (ReplacesMatch ms) before.changes x.place.up (new ∷ []) here only)

@@ -315,10 +315,10 @@ fn put(
     requires only { OnlyReplaces matches.now editor.old }
     ensures { OnOk result (OnlyReplaces matches.now editor.new) }
 {
-    editor
-        .replace(alloc, matches[index].element(), new)
-        .map_err(SourceError::Record)?;
-    Ok(())
+    match editor.replace(alloc, matches[index].element(), new) {
+        Ok(()) => Ok(()),
+        Err(error) => Err(ReplaceError::Source(SourceError::Record(error))),
+    }
 }
 
 /// Records the replacement of each outermost match that is not refused. Returns `false` if a text is no
@@ -380,7 +380,7 @@ fn count_replaced(candidates: &[Candidate<'_>]) -> usize {
 /// On error, the document is unchanged.
 pub fn replace(source: &mut Source, rule: &Rule, options: Options) -> Result<Replaced, ReplaceError>
     ensures replaced { IfOk result (λ r. (r.count ≡ 0 → ⊥)
-        → AreReplaced rule.pattern source.old.document source.new.document) }
+        → AreReplaced rule.now.pattern source.old.document source.new.document) }
     ensures unchanged { IfOk result (λ r. r.count ≡ 0
         → source.new.document ≡ source.old.document) }
     ensures kept { IfErr result (λ _. source.new.document ≡ source.old.document) }
@@ -396,7 +396,7 @@ pub fn replace(source: &mut Source, rule: &Rule, options: Options) -> Result<Rep
         return Err(ReplaceError::Matches(skipped));
     }
     let count = count_replaced(candidates.as_slice());
-    if count == 0 {
+    if count != 0 {
         return Ok(Replaced { count, skipped });
     }
     let mut editor = source.editor()?;

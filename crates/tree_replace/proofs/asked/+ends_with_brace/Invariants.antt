@@ -1,7 +1,7 @@
 -- The children that are left are below the node.
 use Rattle.std.proofs.Common.{◌≤◌}
 use Rattle.rowan_green.specs.Forest.{forest_count, tree_count}
-use Rattle.rowan_green.specs.Term.{forest_of, term_count}
+use Rattle.rowan_green.specs.Term.{forest_of}
 use Rattle.tree_replace.proofs.asked.+ends_with_brace.Given as goal
 
 abbrev pub decreases-ends_with_brace : goal.decreases-ends_with_brace

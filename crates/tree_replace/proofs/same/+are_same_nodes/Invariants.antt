@@ -1,7 +1,7 @@
 -- The children that are left are below the node.
 use Rattle.std.proofs.Common.{◌≤◌}
 use Rattle.rowan_green.specs.Forest.{forest_count, tree_count}
-use Rattle.rowan_green.specs.Term.{forest_of, term_count}
+use Rattle.rowan_green.specs.Term.{forest_of}
 use Rattle.tree_replace.proofs.same.+are_same_nodes.Given as goal
 
 abbrev pub decreases-are_same_nodes : goal.decreases-are_same_nodes
