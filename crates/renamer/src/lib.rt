@@ -1,18 +1,20 @@
-//! Renames the identifiers of a document. The contract rests on the document's.
+//! Renames the identifiers, lifetimes and labels of a document. The contract rests on the document's.
 #![tactic(auto)]
 
 ghost use Rattle.std.specs.Prelude.{◌≡◌, ◌≤◌, ◌+◌, length, IfErr, OnOk};
 ghost use Rattle.rust_document.specs.Step.{MAX_TEXT, present};
 ghost use Rattle.renamer.specs.Plain.{IsPlain, LacksRoom};
-ghost use Rattle.renamer.specs.Renamed.{is_named, renamed_text};
-ghost use Rattle.renamer.specs.Verdict.{IsRenamed, RefusesRename, number_after};
+ghost use Rattle.renamer.specs.Renamed.{renamed_text};
+ghost use Rattle.renamer.specs.Taken.{but_macro_names, naming_of, taken_text, taken_tree};
+ghost use Rattle.renamer.specs.Verdict.{IsAccepted, IsRenamed, IsRenamedBut, RefusesRename, RefusesRenameBut, RefusesTree, number_after};
 
+mod element;
 pub mod laws;
 
-use parser_input::syntax_kind::SyntaxKind;
+use crate::element::{Names, takes};
 use rust_document::{CommitError, Document, PayloadEntry, PayloadError, RecordError, payload};
 use std::alloc::{AllocError, Global};
-use syntax_tree::{SyntaxElement, TreeIds};
+use syntax_tree::TreeIds;
 use thiserror::Error;
 
 /// The error of a renaming.
@@ -76,18 +78,46 @@ impl From<CommitError> for RenameError {
     }
 }
 
-/// Returns `true` if `element` is the identifier `name`.
-fn is_named(element: &SyntaxElement, name: &str) -> bool
-    ensures { result ≡ is_named name.now element.now }
+/// Renames by `names`, all at once.
+fn rename_by(
+    alloc: Global,
+    document: &mut Document,
+    names: Names<'_>,
+    ids: &mut TreeIds,
+) -> Result<(), RenameError>
+    ensures text { OnOk result (document.new.text
+        ≡ taken_text (naming_of names) (present document.old)) }
+    ensures renamed { OnOk result (IsAccepted document.old names.new.now
+        (λ token. taken_tree (naming_of names) token (present document.old))) }
+    ensures edition { OnOk result (document.new.edition ≡ document.old.edition) }
+    ensures grammar { OnOk result (document.new.grammar ≡ document.old.grammar) }
+    ensures tree { OnOk result (document.new.number ≡ ids.old + 1) }
+    ensures number { OnOk result (ids.new ≡ ids.old + 2) }
+    ensures refused { IfErr result (RefusesTree document.old names.new.now
+        (λ token. taken_tree (naming_of names) token (present document.old)) ids.old) }
+    ensures numbers { IfErr result (λ _. (ids.old ≤ ids.new) × (ids.new ≤ ids.old + 1)) }
+    ensures spent { IfErr result (λ error. ids.new ≡ number_after error ids.old) }
+    ensures plain { IfErr result (λ error. IsPlain document.old names.old.now names.new.now
+        → length (taken_text (naming_of names) (present document.old)) ≤ MAX_TEXT
+        → LacksRoom ids.old names.new.now error) }
+    ensures kept { IfErr result (λ _. document.new ≡ document.old) }
 {
-    match element {
-        SyntaxElement::Token(token) => token.kind() == SyntaxKind::IDENT && token.text() == name,
-        SyntaxElement::Node(_) => false,
+    let _ = document.text();
+    let token = payload(alloc, PayloadEntry::Token, document.edition(), names.new, ids)?;
+    let mut editor = document.editor(alloc)?;
+    for element in document.root().descendants_with_tokens(alloc)? {
+        let element = element?;
+        if takes(alloc, &element, &names)? {
+            editor.replace(alloc, &element, &token)?;
+        }
     }
+    document.commit(alloc, editor, ids)?;
+    Ok(())
 }
 
-/// Renames the identifiers `old` to `new`, all at once, in macro calls too. Nothing else in the text
-/// changes, and the new text reads as the renamed tree.
+/// Renames the tokens `old` to `new`, all at once, in macro calls and macro definitions, too: lifetimes
+/// and labels if `old` begins with a quote, else identifiers. Nothing else in the text changes, and the
+/// new text reads as the renamed tree.
 ///
 /// If both names are plain and no identifier `old` is the prefix of a literal, only memory, tree
 /// numbers and the length of the new text can refuse it.
@@ -122,15 +152,46 @@ pub fn rename(
         → LacksRoom ids.old new.now error) }
     ensures kept { IfErr result (λ _. document.new ≡ document.old) }
 {
-    let _ = document.text();
-    let token = payload(alloc, PayloadEntry::Token, document.edition(), new, ids)?;
-    let mut editor = document.editor(alloc)?;
-    for element in document.root().descendants_with_tokens(alloc)? {
-        let element = element?;
-        if is_named(&element, old) {
-            editor.replace(alloc, &element, &token)?;
-        }
-    }
-    document.commit(alloc, editor, ids)?;
-    Ok(())
+    let names = Names {
+        old,
+        new,
+        leaves_macro_names: false,
+    };
+    rename_by(alloc, document, names, ids)
+}
+
+/// Renames as [`rename`] does, but leaves macro names: metavariables, as `x` in `$x`, and what is a
+/// fragment specifier, as `expr` in `$x:expr`, or would become one.
+///
+/// # Errors
+///
+/// As of [`rename`].
+pub fn rename_but_macro_names(
+    alloc: Global,
+    document: &mut Document,
+    old: &str,
+    new: &str,
+    ids: &mut TreeIds,
+) -> Result<(), RenameError>
+    ensures text { OnOk result (document.new.text
+        ≡ taken_text (but_macro_names old.now new.now) (present document.old)) }
+    ensures renamed { OnOk result (IsRenamedBut document.old old.now new.now) }
+    ensures edition { OnOk result (document.new.edition ≡ document.old.edition) }
+    ensures grammar { OnOk result (document.new.grammar ≡ document.old.grammar) }
+    ensures tree { OnOk result (document.new.number ≡ ids.old + 1) }
+    ensures number { OnOk result (ids.new ≡ ids.old + 2) }
+    ensures refused { IfErr result (RefusesRenameBut document.old old.now new.now ids.old) }
+    ensures numbers { IfErr result (λ _. (ids.old ≤ ids.new) × (ids.new ≤ ids.old + 1)) }
+    ensures spent { IfErr result (λ error. ids.new ≡ number_after error ids.old) }
+    ensures plain { IfErr result (λ error. IsPlain document.old old.now new.now
+        → length (taken_text (but_macro_names old.now new.now) (present document.old)) ≤ MAX_TEXT
+        → LacksRoom ids.old new.now error) }
+    ensures kept { IfErr result (λ _. document.new ≡ document.old) }
+{
+    let names = Names {
+        old,
+        new,
+        leaves_macro_names: true,
+    };
+    rename_by(alloc, document, names, ids)
 }
