@@ -3,15 +3,16 @@
 use command_inputs::Inputs;
 use file_target::Target;
 use line_index::{Encoding, LineCol, LineIndex};
-use parser_input::LexedStr;
+use parser_input::keywords::keyword;
+use parser_input::{Edition, LexedStr};
 use rename_pairs::NamePair;
 use renamer::RenameError;
 use rust_document::{CommitError, is_plain_name};
 use source_tools::{RenameFault, Source, text_of};
 use std::alloc::{AllocError, Global};
-use token_names::has_name;
+use token_names::{has_name, is_lifetime, word_of};
 
-/// Returns the line and column of the first identifier of a text that is `name`, however it is spelled;
+/// Returns the line and column of the first identifier or lifetime of a text that is `name`, however it is spelled;
 /// with `is_other` the first that is spelled otherwise.
 fn place_in(
     alloc: Global,
@@ -65,13 +66,32 @@ pub(crate) fn is_spelled_otherwise(
         if let Some(place) = place_of(rt, source, new, true)? {
             let path = source.path.as_str();
             let _ = eprintln!(rt;
-                "tevondimby: {path}: the new name is an identifier here already, in another spelling; no file is written"
+                "tevondimby: {path}: the new name is here already, in another spelling; no file is written"
             );
             report_place(rt, source, place, new);
             return Ok(true);
         }
     }
     Ok(false)
+}
+
+/// Returns `true` if `name` is a lifetime whose word is a keyword of the edition and that is not raw.
+fn is_keyword_lifetime(edition: Edition, name: &str) -> bool {
+    is_lifetime(name) && !name.starts_with("'r#") && keyword(edition, word_of(name)).is_some()
+}
+
+/// Returns `true` if a new name is a lifetime that the edition of a file does not allow, and says so.
+pub(crate) fn is_keyword_name(rt: &HostRuntime, pairs: &[NamePair<'_>], source: &Source) -> bool {
+    for pair in pairs {
+        let (path, new) = (source.path.as_str(), pair.new);
+        if is_keyword_lifetime(source.dialect.edition, new) {
+            let _ = eprintln!(rt;
+                "tevondimby: {path}: `{new}`: no lifetime and no label has the name of a keyword; no file is written"
+            );
+            return true;
+        }
+    }
+    false
 }
 
 /// Says what leads on after a file was refused by a renaming.

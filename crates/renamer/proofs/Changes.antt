@@ -16,8 +16,7 @@ use Rattle.syntax_editor.specs.Recording.{with_single, is_target, is_root, is_on
 use Rattle.plain_names.specs.Replacements.{leaf_after}
 use Rattle.plain_changes.specs.LeafChanges.{LeafChange, change_of, replacement_of, AreLeafChanges}
 use Rattle.plain_changes.proofs.Rewritten.{bool-same, covers-is}
-use Rattle.renamer.specs.Renamed.{named_leaf}
-use Rattle.renamer.specs.Taken.{Naming, is_left, kinds_before, takes}
+use Rattle.renamer.specs.Taken.{named_leaf, Naming, is_left, kinds_before, takes}
 
 -- ---- the changes, by their up-paths
 
@@ -211,7 +210,7 @@ at t w = record { root = t; up = w }
 
 -- The leaf at an up-path is renamed.
 pub record IsNamed (by : Naming) (t : Tree) (w : Way) : Type 0 where
-  pub is : term_by t w ≡ Some (terms.Token (named_leaf by.old))
+  pub is : term_by t w ≡ Some (terms.Token (named_leaf by))
   pub taken : is_left by (kinds_before (at t w)) ≡ false
 
 abbrev pub AreNamed : Naming → Tree → List Way → Type 0
@@ -237,7 +236,7 @@ named-at by t (v ∷ ws) u a h = by_test (same_way v u) refl (named-at by t ws u
 -- ---- as changes of leaves
 
 abbrev pub leaf_change : Naming → Leaf → Element → Way → LeafChange
-leaf_change by new e w = record { up = w; old = named_leaf by.old; element = e; new = new; single = true }
+leaf_change by new e w = record { up = w; old = named_leaf by; element = e; new = new; single = true }
 
 pub changes-of : (by : Naming) (new : Leaf) (e : Element) (ws : List Way) → map change_of (map (leaf_change by new e) ws) ≡ map (change e) ws
 changes-of by new e [] = refl

@@ -2,7 +2,7 @@
 use Rattle.std.proofs.Common.{◌≡◌, List, [], ℕ, ◌++◌, Bool, true, false, ◌&&◌, refl, ap, if◌then◌else◌}
 use Rattle.rowan_green.specs.Forest.{Forest, empty, node, leaf, Tree}
 use Rattle.rowan_green.specs.Leaf.{Leaf, same_leaf}
-use Rattle.renamer.specs.Renamed.{named_leaf, renamed_forest, renamed_leaves, renamed_text, renamed_tree}
+use Rattle.renamer.specs.Renamed.{identifier, renamed_forest, renamed_leaves, renamed_text, renamed_tree}
 use Rattle.renamer.specs.Taken.{behind, of_all, taken_forest, taken_leaves, taken_text, taken_tree}
 
 and-true : (b : Bool) → (b && true) ≡ b
@@ -17,7 +17,7 @@ module _ (old new : List ℕ) where
       let rest = each-leaves (behind k before) r in
       λ i. low i ++ rest i
   each-leaves before (leaf l r) =
-      let own = and-true (same_leaf l (named_leaf old)) in
+      let own = and-true (same_leaf l (identifier old)) in
       let rest = each-leaves (behind l.kind before) r in
       λ i. (if own i then new else l.text) ++ rest i
 
@@ -31,7 +31,7 @@ module _ (old new : List ℕ) where
       let rest = each-forest token (behind k before) r in
       λ i. node k (low i) (rest i)
   each-forest token before (leaf l r) =
-      let own = and-true (same_leaf l (named_leaf old)) in
+      let own = and-true (same_leaf l (identifier old)) in
       let rest = each-forest token (behind l.kind before) r in
       λ i. leaf (if own i then token else l) (rest i)
 

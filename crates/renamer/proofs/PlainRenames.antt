@@ -30,8 +30,8 @@ use Rattle.rust_document.specs.Step.{State, MAX_TEXT, present, root_element}
 use Rattle.rust_document.specs.declared.error.PayloadError.{PayloadError}
 use Rattle.rust_document.specs.declared.error.PayloadError.TheVariants as payloads
 use Rattle.renamer.specs.Plain.{IsPlain, LacksRoom}
-use Rattle.renamer.specs.Renamed.{identifier, named_leaf}
-use Rattle.renamer.specs.Taken.{Naming, taken_text}
+use Rattle.renamer.specs.Renamed.{identifier}
+use Rattle.renamer.specs.Taken.{Naming, named_leaf, taken_text}
 use Rattle.renamer.specs.Verdict.{RefusesTree}
 use Rattle.token_names.specs.Names.{is_lifetime}
 use Rattle.rust_document.specs.Commit.{RefusesCommit}
@@ -78,10 +78,15 @@ no-lifetime (b ∷ bs) h = elim (cases_Bool (nat_eq b 39)) [
   | inr n ↦ ap (λ (x : Bool). x && true) n
 ]
 
-pub plain-leaf : (edition : Edition) (name : List ℕ) → is_plain_name edition (chars name) ≡ true → named_leaf name ≡ identifier name
-plain-leaf edition name h =
-    let parts = name-parts edition (chars name) h in
-    ap (λ (b : Bool). let l : Leaf = record { kind = if b then LIFETIME_IDENT else IDENT; text = name } in l) (no-lifetime name parts.ident)
+pub plain-leaf : (edition : Edition) (by : Naming) → is_plain_name edition (chars by.old) ≡ true → named_leaf by ≡ identifier by.old
+plain-leaf edition by h =
+    let parts = name-parts edition (chars by.old) h in
+    ap (λ (b : Bool). let l : Leaf = record { kind = if b then LIFETIME_IDENT else IDENT; text = by.old } in if by.leaves_macro_names then l else identifier by.old) (no-lifetime by.old parts.ident)
+    ∙ either by.leaves_macro_names
+  where
+    either : (b : Bool) → (if b then identifier by.old else identifier by.old) ≡ identifier by.old
+    either true = refl
+    either false = refl
 
 abbrev name_payload : List ℕ → Payload
 name_payload text = first_fit (row (nat_lt MAX_TEXT (length text)) TooLong ∷ row false Message ∷ []) (One (in_bytes (quiet IDENT (chars text)).leaf))
@@ -128,11 +133,11 @@ token-refused edition text number e h is =
 -- ---- the changes
 
 rename-at : (d : State) (by : Naming) (e : Element) (w : Way) → IsUtf8 by.old → IsUtf8 by.new → IsPlain d by.old by.new
-    → term_of e ≡ Some (terms.Token (leaf_of IDENT (encodes (chars by.new)))) → term_by (present d) w ≡ Some (terms.Token (named_leaf by.old)) → IsRename d (change e w)
+    → term_of e ≡ Some (terms.Token (leaf_of IDENT (encodes (chars by.new)))) → term_by (present d) w ≡ Some (terms.Token (named_leaf by)) → IsRename d (change e w)
 rename-at d by e w u v plain is named =
     let old = by.old in
     let new = by.new in
-    let here = named ∙ ap (λ (l : Leaf). Some (terms.Token l)) (plain-leaf d.edition old plain.old_plain) in
+    let here = named ∙ ap (λ (l : Leaf). Some (terms.Token l)) (plain-leaf d.edition by plain.old_plain) in
     let token = plain.tokens w here in
     let o = name-parts d.edition (chars old) plain.old_plain in
     let n = name-parts d.edition (chars new) plain.new_plain in

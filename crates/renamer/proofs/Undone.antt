@@ -32,7 +32,7 @@ use Rattle.renamer.proofs.Walked.{named-tree, renamed-tree, there}
 
 -- the leaf with the new name, as the only child of the root of a new tree
 abbrev token : List ℕ → Element
-token new = element_at 0 (tree_of TOMBSTONE (Token (named_leaf new) ∷ [])) (0 ∷ [])
+token new = element_at 0 (tree_of TOMBSTONE (Token (identifier new) ∷ [])) (0 ∷ [])
 
 module _ (old new : List ℕ) (ws : List Way) (t : Tree) (named : AreNamed old t ws) where
   -- the text of a leaf, renamed and renamed back

@@ -28,8 +28,7 @@ use Rattle.syntax_editor.specs.Editing.{Editing, untouched, with_changes}
 use Rattle.syntax_editor.specs.Recording.{BadTarget, Foreign, Recorded, is_one_node, is_root, is_target, replacing, with_single}
 use Rattle.rust_document.specs.Reading.{root_of}
 use Rattle.rust_document.specs.Rewrite.{rewritten}
-use Rattle.renamer.specs.Renamed.{named_leaf}
-use Rattle.renamer.specs.Taken.{Naming, behind, is_left, is_taken, kinds_before, kinds_of, taken_forest, taken_leaves, taken_text, taken_tree, takes}
+use Rattle.renamer.specs.Taken.{named_leaf, Naming, behind, is_left, is_taken, kinds_before, kinds_of, taken_forest, taken_leaves, taken_text, taken_tree, takes}
 use Rattle.renamer.proofs.Changes.{changes_after, ways_after, changes-are, no-collision, with_way, has_way, Covered, covered, at, IsNamed, AreNamed, named-with, named-at, leaf_change, changes-of, all-replace, leaf-after}
 use Rattle.rowan_green.specs.Same.{same_leaf-Decides}
 
@@ -70,8 +69,8 @@ enters-leaves t w i (leaf l r) h =
 
 -- ---- so each recorded change is at a token that is renamed
 
-leaf-is : (by : Naming) (p : Place) (l : Leaf) → term_at p ≡ Some (Token l) → same_leaf (record { kind = kind_at p; text = text_at p }) (named_leaf by.old) ≡ same_leaf l (named_leaf by.old)
-leaf-is by p l h = ap (λ (o : Option Term). same_leaf (record { kind = kind_in o; text = text_in o }) (named_leaf by.old)) h
+leaf-is : (by : Naming) (p : Place) (l : Leaf) → term_at p ≡ Some (Token l) → same_leaf (record { kind = kind_at p; text = text_at p }) (named_leaf by) ≡ same_leaf l (named_leaf by)
+leaf-is by p l h = ap (λ (o : Option Term). same_leaf (record { kind = kind_in o; text = text_in o }) (named_leaf by)) h
 
 not-true : (b : Bool) → not b ≡ true → b ≡ false
 not-true true h = sym h
@@ -79,10 +78,10 @@ not-true false h = refl
 
 named-leaf : (by : Naming) (t : Tree) (p : Place) → IsLeafOf t p → is_taken by (kinds_before p) (record { kind = kind_at p; text = text_at p }) ≡ true → IsNamed by t p.up
 named-leaf by t p is h =
-    let both = and_parts (same_leaf (record { kind = kind_at p; text = text_at p }) (named_leaf by.old)) (not (is_left by (kinds_before p))) h in
+    let both = and_parts (same_leaf (record { kind = kind_at p; text = text_at p }) (named_leaf by)) (not (is_left by (kinds_before p))) h in
     let here : term_at p ≡ Some (Token is.0) = ap (λ (r : Tree). term_by r p.up) is.2 ∙ is.1 in
     record {
-      is = is.1 ∙ ap (λ (l : Leaf). Some (Token l)) ((same_leaf-Decides is.0 (named_leaf by.old)).0 (sym (leaf-is by p is.0 here) ∙ both.0));
+      is = is.1 ∙ ap (λ (l : Leaf). Some (Token l)) ((same_leaf-Decides is.0 (named_leaf by)).0 (sym (leaf-is by p is.0 here) ∙ both.0));
       taken = ap (λ (r : Tree). is_left by (kinds_before (at r p.up))) (sym is.2) ∙ not-true (is_left by (kinds_before p)) both.1;
     }
 
@@ -206,9 +205,9 @@ module _ (by : Naming) (n : ℕ) (ws : List Way) where
   new-leaf t new l u before a here is each = elim (cases_Bool (has_way ws u)) [
     | inl y ↦
         let named = named-at by t ws u a y in
-        let one : Some (Token l) ≡ Some (Token (named_leaf by.old)) = sym here ∙ named.is in
-        let own : l ≡ named_leaf by.old = cc in
-        let same : same_leaf l (named_leaf by.old) ≡ true = (same_leaf-Decides l (named_leaf by.old)).1 own in
+        let one : Some (Token l) ≡ Some (Token (named_leaf by)) = sym here ∙ named.is in
+        let own : l ≡ named_leaf by = cc in
+        let same : same_leaf l (named_leaf by) ≡ true = (same_leaf-Decides l (named_leaf by)).1 own in
         let stays : is_left by before ≡ false = ap (is_left by) is ∙ named.taken in
         let taken : is_taken by before l ≡ true = λ j. same j && not (stays j) in
         ap (λ (b : Bool). if b then new else l) y ∙ sym (ap (λ (b : Bool). if b then new else l) taken)

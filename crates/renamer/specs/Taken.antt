@@ -1,4 +1,5 @@
--- Renamings that may leave macro names: metavariables, as `x` in `$x`, and fragment specifiers, as `expr` in `$x:expr`.
+-- Renamings: of all identifiers with a name; or of identifiers or lifetimes, which leave macro names: metavariables, as `x` in `$x`, and
+-- fragment specifiers, as `expr` in `$x:expr`.
 use Rattle.std.specs.Prelude.{ℕ, Bool, true, false, ◌&&◌, ◌||◌, not, List, [], ◌∷◌, ◌++◌, if◌then◌else◌}
 use Rattle.rowan_green.specs.Forest.{Forest, empty, node, leaf, Tree}
 use Rattle.rowan_green.specs.Leaf.{Leaf, same_leaf}
@@ -8,26 +9,32 @@ use Rattle.parser_input.specs.Kind.{is_trivia}
 use Rattle.syntax_tree.specs.declared.element.SyntaxElement.{SyntaxElement}
 use Rattle.syntax_tree.specs.declared.element.SyntaxElement.TheVariants.{Node, Token}
 use Rattle.token_names.specs.MacroNames.{is_macro_name}
-use Rattle.renamer.specs.Renamed.{named_leaf}
+use Rattle.token_names.specs.Names.{kind_of_name}
+use Rattle.renamer.specs.Renamed.{identifier}
 use Rattle.renamer.specs.declared.element.Names.{Names}
 
--- The names of a renaming, and whether it leaves macro names.
+-- The names of a renaming, and whether it is one that leaves macro names.
 pub record Naming : Type 0 where
   pub old : List ℕ
   pub new : List ℕ
   pub leaves_macro_names : Bool
 
--- the renaming that leaves them
+-- that of identifiers or lifetimes, which leaves macro names
 abbrev pub but_macro_names : (old new : List ℕ) → Naming
 but_macro_names old new = record { old = old; new = new; leaves_macro_names = true }
 
--- the renaming of each token
+-- that of all identifiers
 abbrev pub of_all : (old new : List ℕ) → Naming
 of_all old new = record { old = old; new = new; leaves_macro_names = false }
 
 -- the names in code
 abbrev pub naming_of : Names → Naming
 naming_of names = record { old = names.old.now; new = names.new.now; leaves_macro_names = names.leaves_macro_names }
+
+-- the leaf that is renamed: where macro names are left, a lifetime if the name begins with a quote; else an identifier
+abbrev pub named_leaf : Naming → Leaf
+named_leaf by =
+    if by.leaves_macro_names then (record { kind = kind_of_name by.old; text = by.old }) else identifier by.old
 
 -- kinds, the nearest first, with that of the next sibling: trivia is passed over
 abbrev pub behind : (kind : ℕ) (before : List ℕ) → List ℕ
@@ -39,7 +46,7 @@ is_left by before = by.leaves_macro_names && (is_macro_name by.old before || is_
 
 -- Behind siblings of these kinds a leaf is renamed.
 abbrev pub is_taken : Naming → (before : List ℕ) → Leaf → Bool
-is_taken by before l = same_leaf l (named_leaf by.old) && not (is_left by before)
+is_taken by before l = same_leaf l (named_leaf by) && not (is_left by before)
 
 -- the texts of all leaves behind siblings of these kinds, joined: of those that are renamed the text is the new name
 abbrev pub taken_leaves : Naming → (before : List ℕ) → Forest → List ℕ

@@ -6,13 +6,13 @@ use Rattle.rowan_green.specs.Leaf.{same_leaf}
 use Rattle.rust_document.specs.Open.{IsOpened}
 use Rattle.rust_document.specs.Step.{MAX_TEXT, State, present}
 use Rattle.renamer.specs.Plain.{IsPlain}
-use Rattle.renamer.specs.Renamed.{named_leaf, renamed_text}
+use Rattle.renamer.specs.Renamed.{identifier, renamed_text}
 
--- whether a leaf of a tree is the token `name`
+-- whether a leaf of a tree is the identifier `name`
 abbrev pub has_name : List ℕ → Forest → Bool
 has_name name empty = false
 has_name name (node k f r) = has_name name f || has_name name r
-has_name name (leaf l r) = same_leaf l (named_leaf name) || has_name name r
+has_name name (leaf l r) = same_leaf l (identifier name) || has_name name r
 
 -- The names are plain, `new` is no identifier of the text, and the renamed text is within the limit.
 pub record CanReturn (d : State) (old new : List ℕ) : Type 0 where

@@ -1,9 +1,8 @@
 //! Which elements a renaming takes.
 
-ghost use Rattle.std.specs.Prelude.{◌≡◌, IfOk, List, ℕ, map};
+ghost use Rattle.std.specs.Prelude.{◌≡◌, ◌==◌, IfOk, List, ℕ, map};
 ghost use Rattle.parser_input.specs.Kind.{raw_of};
-ghost use Rattle.renamer.specs.Renamed.{named_leaf};
-ghost use Rattle.renamer.specs.Taken.{kinds_before, naming_of, takes};
+ghost use Rattle.renamer.specs.Taken.{kinds_before, named_leaf, naming_of, takes};
 ghost use Rattle.rowan.specs.Place.{kind_at, text_at};
 ghost use Rattle.rowan_green.specs.Leaf.{same_leaf};
 ghost use Rattle.syntax_tree.specs.Handle.{element_of};
@@ -22,16 +21,28 @@ const SIBLINGS: usize = 3;
 pub(crate) struct Names<'a> {
     pub(crate) old: &'a str,
     pub(crate) new: &'a str,
-    /// Macro names are left.
+    /// Identifiers are renamed, or lifetimes if `old` begins with a quote, and macro names are left; else
+    /// all identifiers are renamed.
     pub(crate) leaves_macro_names: bool,
 }
 
-/// Returns `true` if `token` is the one with the name.
-fn is_named(token: &SyntaxToken, name: &str) -> bool
-    ensures { result ≡ same_leaf (record { kind = kind_at token.now.place; text = text_at token.now.place })
-        (named_leaf name.now) }
+/// Returns `true` if tokens of this kind may be renamed.
+fn is_of_kind_in(names: &Names<'_>, kind: SyntaxKind) -> bool
+    ensures { result ≡ (raw_of kind == (named_leaf (naming_of names.now)).kind) }
 {
-    is_of_kind(name, token.kind()) && token.text() == name
+    if names.leaves_macro_names {
+        is_of_kind(names.old, kind)
+    } else {
+        matches!(kind, SyntaxKind::IDENT)
+    }
+}
+
+/// Returns `true` if `token` has the old name.
+fn is_named(token: &SyntaxToken, names: &Names<'_>) -> bool
+    ensures { result ≡ same_leaf (record { kind = kind_at token.now.place; text = text_at token.now.place })
+        (named_leaf (naming_of names.now)) }
+{
+    is_of_kind_in(names, token.kind()) && token.text() == names.old
 }
 
 /// Returns the kinds of up to three siblings before `element` that are no trivia, the nearest first.
@@ -54,8 +65,7 @@ fn kinds_before(alloc: Global, element: &SyntaxElement) -> Result<Vec<SyntaxKind
     Ok(kinds)
 }
 
-/// Returns `true` if the renaming changes `element`: it is the token `old`, and no macro name if those
-/// are left.
+/// Returns `true` if `element` is renamed.
 pub(crate) fn takes(
     alloc: Global,
     element: &SyntaxElement,
@@ -66,7 +76,7 @@ pub(crate) fn takes(
     let SyntaxElement::Token(token) = element else {
         return Ok(false);
     };
-    if !is_named(token, names.old) {
+    if !is_named(token, names) {
         return Ok(false);
     }
     if !names.leaves_macro_names {

@@ -103,7 +103,13 @@ fn rename_by(
     ensures kept { IfErr result (λ _. document.new ≡ document.old) }
 {
     let _ = document.text();
-    let token = payload(alloc, PayloadEntry::Token, document.edition(), names.new, ids)?;
+    let token = payload(
+        alloc,
+        PayloadEntry::Token,
+        document.edition(),
+        names.new,
+        ids,
+    )?;
     let mut editor = document.editor(alloc)?;
     for element in document.root().descendants_with_tokens(alloc)? {
         let element = element?;
@@ -115,9 +121,8 @@ fn rename_by(
     Ok(())
 }
 
-/// Renames the tokens `old` to `new`, all at once, in macro calls and macro definitions, too: lifetimes
-/// and labels if `old` begins with a quote, else identifiers. Nothing else in the text changes, and the
-/// new text reads as the renamed tree.
+/// Renames the identifiers `old` to `new`, all at once, in macro calls too. Nothing else in the text
+/// changes, and the new text reads as the renamed tree.
 ///
 /// If both names are plain and no identifier `old` is the prefix of a literal, only memory, tree
 /// numbers and the length of the new text can refuse it.
@@ -160,8 +165,9 @@ pub fn rename(
     rename_by(alloc, document, names, ids)
 }
 
-/// Renames as [`rename`] does, but leaves macro names: metavariables, as `x` in `$x`, and what is a
-/// fragment specifier, as `expr` in `$x:expr`, or would become one.
+/// Renames as [`rename`] does, but lifetimes and labels if `old` begins with a quote, and no macro
+/// names: metavariables, as `x` in `$x`, and what is a fragment specifier, as `expr` in `$x:expr`, or
+/// would become one.
 ///
 /// # Errors
 ///
