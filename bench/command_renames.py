@@ -20,7 +20,8 @@ import subprocess
 import sys
 import tempfile
 
-WORD = re.compile(r"(?<![\w'])[A-Za-z_]\w*")
+WORD = re.compile(r"(?<![\w'$])[A-Za-z_]\w*")
+NO_CODE = re.compile(r'//[^\n]*|/\*.*?\*/|"(?:[^"\\]|\\.)*"', re.S)
 LIFETIME = re.compile(r"'[a-z]\w*(?!['\w])")
 # Places where a renaming leaves a name.
 LEFT = (re.compile(r"\$([A-Za-z_]\w*)"), re.compile(r"\$\w+\s*:\s*(\w+)"), re.compile(r"\{([a-z_]\w*)[:}]"), re.compile(r"//.*?\b([a-z_]\w*)"))
@@ -48,8 +49,9 @@ def read(path):
 def names_of(path, source):
     """Returns names of a file: those that a renaming may leave somewhere come first."""
     text = read(path).decode(errors="replace")
-    left = sorted({name for form in LEFT for name in form.findall(text)})
-    words, lifetimes = sorted(set(WORD.findall(text))), sorted(set(LIFETIME.findall(text)))
+    code = NO_CODE.sub(" ", text)
+    words, lifetimes = sorted(set(WORD.findall(code))), sorted(set(LIFETIME.findall(code)))
+    left = sorted({name for form in LEFT for name in form.findall(text)}.intersection(words))
     for part in (left, words, lifetimes):
         source.shuffle(part)
     chosen = [*left[:2], *lifetimes[:1], *words]

@@ -32,7 +32,9 @@ fn report_stop(
             let path = path_of(sources, *index);
             let _ = eprintln!(rt; "tevondimby: {path}: {fault}; no file is written");
             if let Some(source) = sources.get(*index) {
-                let _ = advise(rt, pairs, source, fault);
+                if let Ok(contents) = Inputs::new(rt).read(rt.alloc(), source.path.as_str()) {
+                    let _ = advise(rt, pairs, source, contents.bytes.as_slice(), fault);
+                }
             }
         }
         RenameStop::Unwritten(path, error) => report_unwritten(rt, path.as_str(), error),
@@ -89,18 +91,42 @@ fn is_one_name(alloc: Global, pair: &NamePair<'_>) -> Result<bool, AllocError> {
     has_name(alloc, pair.old, kind, pair.new)
 }
 
-/// Returns `true` if a new name is in the files in another spelling, and may not be, and says where.
-fn is_taken(
+/// Returns `true` if a new name may not be in a file with these bytes, or is there in another spelling
+/// and may not be, and says so.
+fn is_ruled_out(
+    rt: &HostRuntime,
+    manner: Manner,
+    pairs: &[NamePair<'_>],
+    source: &Source,
+    bytes: &[u8],
+) -> Result<bool, AllocError> {
+    if is_keyword_name(rt, pairs, source) {
+        return Ok(true);
+    }
+    if manner.is_merge {
+        return Ok(false);
+    }
+    for pair in pairs {
+        let is_one = is_one_name(rt.alloc(), pair)?;
+        if !is_one && is_spelled_otherwise(rt, source, bytes, pair.new)? {
+            return Ok(true);
+        }
+    }
+    Ok(false)
+}
+
+/// Returns `true` if a new name is ruled out in one of the files that can be read, and says so.
+fn is_ruled_out_in_any(
     rt: &HostRuntime,
     manner: Manner,
     pairs: &[NamePair<'_>],
     sources: &[Source],
 ) -> Result<bool, AllocError> {
-    if manner.is_merge {
-        return Ok(false);
-    }
-    for pair in pairs {
-        if !is_one_name(rt.alloc(), pair)? && is_spelled_otherwise(rt, sources, pair.new)? {
+    for source in sources {
+        let Ok(contents) = Inputs::new(rt).read(rt.alloc(), source.path.as_str()) else {
+            continue;
+        };
+        if is_ruled_out(rt, manner, pairs, source, contents.bytes.as_slice())? {
             return Ok(true);
         }
     }
@@ -189,15 +215,19 @@ fn rename_input(
         path: String::from_str(alloc, STANDARD_INPUT)?,
         dialect,
     };
-    if is_keyword_name(rt, pairs, &source) {
+    let old = contents.bytes.as_slice();
+    if is_ruled_out(rt, manner, pairs, &source, old)? {
         return Ok(Outcome::Fault);
     }
-    let old = contents.bytes.as_slice();
     let before = survey_bytes(rt, &source, old, pairs)?;
     let renamings = renamings_of(alloc, pairs, before.as_slice(), manner.is_merge)?;
     let new = match rename_bytes(alloc, renamings.as_slice(), dialect, old) {
         Ok(new) => new,
-        Err(fault) => return Err(anyhow!("-: {fault}")),
+        Err(fault) => {
+            let _ = eprintln!(rt; "tevondimby: -: {fault}");
+            advise(rt, pairs, &source, old, &fault)?;
+            return Ok(Outcome::Fault);
+        }
     };
     let new = new.as_slice();
     let mut output = rt.stdout();
@@ -307,12 +337,7 @@ fn rename_listed(
         ..manner
     };
     let pairs = names.pairs.as_slice();
-    for source in sources {
-        if is_keyword_name(rt, pairs, source) {
-            return Ok(Outcome::Fault);
-        }
-    }
-    if is_taken(rt, manner, pairs, sources)? {
+    if is_ruled_out_in_any(rt, manner, pairs, sources)? {
         return Ok(Outcome::Fault);
     }
     let before = survey_files(rt, sources, pairs)?;

@@ -82,38 +82,33 @@ impl From<CommitError> for RenameError {
 fn rename_by(
     alloc: Global,
     document: &mut Document,
-    names: Names<'_>,
+    names: &Names<'_>,
     ids: &mut TreeIds,
 ) -> Result<(), RenameError>
     ensures text { OnOk result (document.new.text
-        ≡ taken_text (naming_of names) (present document.old)) }
-    ensures renamed { OnOk result (IsAccepted document.old names.new.now
-        (λ token. taken_tree (naming_of names) token (present document.old))) }
+        ≡ taken_text (naming_of names.now) (present document.old)) }
+    ensures renamed { OnOk result (IsAccepted document.old names.now.new.now
+        (λ token. taken_tree (naming_of names.now) token (present document.old))) }
     ensures edition { OnOk result (document.new.edition ≡ document.old.edition) }
     ensures grammar { OnOk result (document.new.grammar ≡ document.old.grammar) }
     ensures tree { OnOk result (document.new.number ≡ ids.old + 1) }
     ensures number { OnOk result (ids.new ≡ ids.old + 2) }
-    ensures refused { IfErr result (RefusesTree document.old names.new.now
-        (λ token. taken_tree (naming_of names) token (present document.old)) ids.old) }
+    ensures refused { IfErr result (RefusesTree document.old names.now.new.now
+        (λ token. taken_tree (naming_of names.now) token (present document.old)) ids.old) }
     ensures numbers { IfErr result (λ _. (ids.old ≤ ids.new) × (ids.new ≤ ids.old + 1)) }
     ensures spent { IfErr result (λ error. ids.new ≡ number_after error ids.old) }
-    ensures plain { IfErr result (λ error. IsPlain document.old names.old.now names.new.now
-        → length (taken_text (naming_of names) (present document.old)) ≤ MAX_TEXT
-        → LacksRoom ids.old names.new.now error) }
+    ensures plain { IfErr result (λ error. IsPlain document.old names.now.old.now names.now.new.now
+        → length (taken_text (naming_of names.now) (present document.old)) ≤ MAX_TEXT
+        → LacksRoom ids.old names.now.new.now error) }
     ensures kept { IfErr result (λ _. document.new ≡ document.old) }
 {
     let _ = document.text();
-    let token = payload(
-        alloc,
-        PayloadEntry::Token,
-        document.edition(),
-        names.new,
-        ids,
-    )?;
+    let new = names.new;
+    let token = payload(alloc, PayloadEntry::Token, document.edition(), new, ids)?;
     let mut editor = document.editor(alloc)?;
     for element in document.root().descendants_with_tokens(alloc)? {
         let element = element?;
-        if takes(alloc, &element, &names)? {
+        if takes(alloc, &element, names)? {
             editor.replace(alloc, &element, &token)?;
         }
     }
@@ -162,7 +157,7 @@ pub fn rename(
         new,
         leaves_macro_names: false,
     };
-    rename_by(alloc, document, names, ids)
+    rename_by(alloc, document, &names, ids)
 }
 
 /// Renames as [`rename`] does, but lifetimes and labels if `old` begins with a quote, and no macro
@@ -199,5 +194,5 @@ pub fn rename_but_macro_names(
         new,
         leaves_macro_names: true,
     };
-    rename_by(alloc, document, names, ids)
+    rename_by(alloc, document, &names, ids)
 }
