@@ -10,13 +10,14 @@ PROGRAMS = {"document_tool": [], "tevondimby": ["serve"]}
 
 def failures(root, write):
     """Runs the programs on a text of each kind. Writes how many are answered, and returns the others."""
+    present = {program: words for program, words in PROGRAMS.items() if os.path.isdir(f"{root}/crates/{program}")}
+    if not present:
+        return []
     sys.path.insert(0, f"{TOP}/bench")
     import deep
 
     found = []
-    for program, words in PROGRAMS.items():
-        if not os.path.isdir(f"{root}/crates/{program}"):
-            continue
+    for program, words in present.items():
         failed = deep.unanswered([f"{root}/crates/{program}/out/{program}", *words])
         write(f"test: {program}, deep texts on a stack of 8 MiB: {len(deep.KINDS) - len(failed)} of {len(deep.KINDS)} kinds answered")
         found += [f"{program}, {kind}" for kind in failed]

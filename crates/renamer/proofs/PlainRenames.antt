@@ -31,7 +31,7 @@ use Rattle.rust_document.specs.declared.error.PayloadError.{PayloadError}
 use Rattle.rust_document.specs.declared.error.PayloadError.TheVariants as payloads
 use Rattle.renamer.specs.Plain.{IsPlain, LacksRoom}
 use Rattle.renamer.specs.Renamed.{identifier}
-use Rattle.renamer.specs.Taken.{Naming, named_leaf, taken_text}
+use Rattle.renamer.specs.Taken.{Naming, named_kind, named_leaf, taken_text}
 use Rattle.renamer.specs.Verdict.{RefusesTree}
 use Rattle.token_names.specs.Names.{is_lifetime}
 use Rattle.rust_document.specs.Commit.{RefusesCommit}
@@ -81,10 +81,11 @@ no-lifetime (b ∷ bs) h = elim (cases_Bool (nat_eq b 39)) [
 pub plain-leaf : (edition : Edition) (by : Naming) → is_plain_name edition (chars by.old) ≡ true → named_leaf by ≡ identifier by.old
 plain-leaf edition by h =
     let parts = name-parts edition (chars by.old) h in
-    ap (λ (b : Bool). let l : Leaf = record { kind = if b then LIFETIME_IDENT else IDENT; text = by.old } in if by.leaves_macro_names then l else identifier by.old) (no-lifetime by.old parts.ident)
-    ∙ either by.leaves_macro_names
+    let kind : named_kind by ≡ IDENT =
+    ap (λ (b : Bool). if by.leaves_macro_names then (if b then LIFETIME_IDENT else IDENT) else IDENT) (no-lifetime by.old parts.ident) ∙ either by.leaves_macro_names in
+    ap (λ (k : ℕ). let l : Leaf = record { kind = k; text = by.old } in l) kind
   where
-    either : (b : Bool) → (if b then identifier by.old else identifier by.old) ≡ identifier by.old
+    either : (b : Bool) → (if b then IDENT else IDENT) ≡ IDENT
     either true = refl
     either false = refl
 

@@ -9,6 +9,7 @@ use Rattle.parser_input.specs.declared.syntax_kind.SyntaxKind.TheVariants.{COLON
 use Rattle.syntax_tree.specs.Language.{kind_of_raw, kind_of_raw-raw_of}
 use Rattle.token_names.specs.MacroNames.{follows_dollar, follows_variable, is_fragment, is_macro_name}
 use Rattle.token_names.specs.Names.{is_lifetime, kind_of_name}
+use Rattle.renamer.specs.Taken.{Naming, named_kind}
 
 -- the kinds are those of the raw numbers from one on
 abbrev are_from : ℕ → List SyntaxKind → Bool
@@ -54,11 +55,18 @@ module _ (k : SyntaxKind) (other : nat_eq (raw_of ERROR) (raw_of k) ≡ false) w
   read-as n = by-found n (slice_get all_kinds n) refl
 
 -- tokens that may have a name
-pub name-kind : (name : List ℕ) (n : ℕ) → nat_eq (read n) (kind_of_name name) ≡ nat_eq n (kind_of_name name)
+name-kind : (name : List ℕ) (n : ℕ) → nat_eq (read n) (kind_of_name name) ≡ nat_eq n (kind_of_name name)
 name-kind name n = by_test (is_lifetime name)
   where
     by_test : (b : Bool) → nat_eq (read n) (if b then kinds.LIFETIME_IDENT else kinds.IDENT) ≡ nat_eq n (if b then kinds.LIFETIME_IDENT else kinds.IDENT)
     by_test true = read-as LIFETIME_IDENT refl n
+    by_test false = read-as IDENT refl n
+
+pub named-kind : (by : Naming) (n : ℕ) → nat_eq (read n) (named_kind by) ≡ nat_eq n (named_kind by)
+named-kind by n = by_test by.leaves_macro_names
+  where
+    by_test : (b : Bool) → nat_eq (read n) (if b then kind_of_name by.old else kinds.IDENT) ≡ nat_eq n (if b then kind_of_name by.old else kinds.IDENT)
+    by_test true = name-kind by.old n
     by_test false = read-as IDENT refl n
 
 pub read-trivia : (n : ℕ) → is_trivia (read n) ≡ is_trivia n

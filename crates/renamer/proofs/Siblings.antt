@@ -1,6 +1,7 @@
 -- The kinds of the siblings before an element, by a walk from the nearest one.
 use Rattle.std.proofs.Common.{◌≡◌, ℕ, ◌<◌, List, [], ◌∷◌, ◌++◌, length, map, Option, Some, None, Result, Ok, true, false, Bool, refl, ap, sym, ◌∙◌, append_assoc, append-nil, arith, if◌then◌else◌}
 use Rattle.std.specs.Prelude.{option_map}
+use Rattle.std.proofs.lemmas.List.{length-map, map-append}
 use Rattle.parser_input.specs.Kind.{is_trivia, raw_of}
 use Rattle.parser_input.specs.declared.syntax_kind.SyntaxKind.{SyntaxKind}
 use Rattle.rowan.specs.Around.{Cursor, first, place_in, siblings, siblings_before}

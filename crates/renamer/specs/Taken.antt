@@ -6,11 +6,11 @@ use Rattle.rowan_green.specs.Leaf.{Leaf, same_leaf}
 use Rattle.rowan.specs.Around.{Cursor, place_in, siblings_before}
 use Rattle.rowan.specs.Place.{Place, kind_at, text_at}
 use Rattle.parser_input.specs.Kind.{is_trivia}
+use Rattle.parser_input.specs.Kinds.{IDENT}
 use Rattle.syntax_tree.specs.declared.element.SyntaxElement.{SyntaxElement}
 use Rattle.syntax_tree.specs.declared.element.SyntaxElement.TheVariants.{Node, Token}
 use Rattle.token_names.specs.MacroNames.{is_macro_name}
 use Rattle.token_names.specs.Names.{kind_of_name}
-use Rattle.renamer.specs.Renamed.{identifier}
 use Rattle.renamer.specs.declared.element.Names.{Names}
 
 -- The names of a renaming, and whether it is one that leaves macro names.
@@ -31,10 +31,13 @@ of_all old new = record { old = old; new = new; leaves_macro_names = false }
 abbrev pub naming_of : Names → Naming
 naming_of names = record { old = names.old.now; new = names.new.now; leaves_macro_names = names.leaves_macro_names }
 
--- the leaf that is renamed: where macro names are left, a lifetime if the name begins with a quote; else an identifier
+-- the kind of the tokens that are renamed: where macro names are left, lifetimes if the name begins with a quote; else identifiers
+abbrev pub named_kind : Naming → ℕ
+named_kind by = if by.leaves_macro_names then kind_of_name by.old else IDENT
+
+-- the leaf that is renamed
 abbrev pub named_leaf : Naming → Leaf
-named_leaf by =
-    if by.leaves_macro_names then (record { kind = kind_of_name by.old; text = by.old }) else identifier by.old
+named_leaf by = record { kind = named_kind by; text = by.old }
 
 -- kinds, the nearest first, with that of the next sibling: trivia is passed over
 abbrev pub behind : (kind : ℕ) (before : List ℕ) → List ℕ

@@ -2,7 +2,7 @@
 
 ghost use Rattle.std.specs.Prelude.{◌≡◌, ◌==◌, IfOk, List, ℕ, map};
 ghost use Rattle.parser_input.specs.Kind.{raw_of};
-ghost use Rattle.renamer.specs.Taken.{kinds_before, named_leaf, naming_of, takes};
+ghost use Rattle.renamer.specs.Taken.{kinds_before, named_kind, named_leaf, naming_of, takes};
 ghost use Rattle.rowan.specs.Place.{kind_at, text_at};
 ghost use Rattle.rowan_green.specs.Leaf.{same_leaf};
 ghost use Rattle.syntax_tree.specs.Handle.{element_of};
@@ -28,7 +28,7 @@ pub(crate) struct Names<'a> {
 
 /// Returns `true` if tokens of this kind may be renamed.
 fn is_of_kind_in(names: &Names<'_>, kind: SyntaxKind) -> bool
-    ensures { result ≡ (raw_of kind == (named_leaf (naming_of names.now)).kind) }
+    ensures { result ≡ (raw_of kind == named_kind (naming_of names.now)) }
 {
     if names.leaves_macro_names {
         is_of_kind(names.old, kind)
@@ -52,15 +52,15 @@ fn kinds_before(alloc: Global, element: &SyntaxElement) -> Result<Vec<SyntaxKind
 {
     let mut kinds = Vec::new(alloc);
     let mut sibling = element.prev_sibling_or_token(alloc)?;
-    while let Some(element) = sibling {
+    while let Some(nearest) = sibling {
         if kinds.len() == SIBLINGS {
             break;
         }
-        let kind = element.kind();
+        let kind = nearest.kind();
         if !kind.is_trivia() {
             kinds.push(kind)?;
         }
-        sibling = element.prev_sibling_or_token(alloc)?;
+        sibling = nearest.prev_sibling_or_token(alloc)?;
     }
     Ok(kinds)
 }
