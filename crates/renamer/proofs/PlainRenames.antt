@@ -1,10 +1,10 @@
 -- A renaming of plain names is a plain renaming, and its token is made and recorded.
-use Rattle.std.proofs.Common.{◌≡◌, ℕ, ◌+◌, ◌≤◌, List, [], ◌∷◌, map, length, chars, Bool, true, false, ◌&&◌, nat_eq, nat_lt, inl, inr, if◌then◌else◌, Option, Some, None, is_none, Result, Ok, Err, IsErrAnd, IfErr, refl, ap, sym, ◌∙◌, subst}
+use Rattle.std.proofs.Common.{◌≡◌, ℕ, ◌+◌, ◌≤◌, List, [], ◌∷◌, ◌++◌, map, length, chars, Bool, true, false, ◌&&◌, nat_eq, nat_lt, inl, inr, if◌then◌else◌, Option, Some, None, is_none, Result, Ok, Err, IsErrAnd, IfErr, refl, ap, sym, ◌∙◌, subst}
 use Rattle.std.specs.Str.{IsUtf8}
 use Rattle.std.proofs.Math.Utf8.{encodes}
 use Rattle.std.proofs.lemmas.Bool.{and_parts, cases_Bool, eqb-true, false≢true, ltb-true}
 use Rattle.std.specs.List.{list_all}
-use Rattle.std.proofs.lemmas.Str.{encodes-chars, scalars-chars}
+use Rattle.std.proofs.lemmas.Str.{chars-append, chars-encodes, encodes-chars, scalars-chars}
 use Rattle.rustc_lexer.specs.Characters.{is_id_continue, is_ident}
 use Rattle.plain_names.proofs.Names.{start-tick}
 use Rattle.rowan_green.specs.Forest.{Tree}
@@ -66,15 +66,20 @@ name-parts edition name h =
 
 -- ---- the leaf of a plain name
 
+quote-text : IsUtf8 (39 ∷ [])
+unfolding lib.Utf8.encode
+quote-text = (39 ∷ [], (refl, refl))
+
 no-quote : (bs : List ℕ) → is_ident (chars (39 ∷ bs)) ≡ false
-unfolding chars is_ident
-no-quote [] = ap (λ (b : Bool). b && true) start-tick
-no-quote (b ∷ bs) = ap (λ (x : Bool). x && list_all is_id_continue (chars (b ∷ bs))) start-tick
+unfolding is_ident lib.Utf8.encode
+no-quote bs =
+    ap is_ident (chars-append (39 ∷ []) bs quote-text ∙ ap (λ (cs : List ℕ). cs ++ chars bs) (chars-encodes (39 ∷ []) refl))
+    ∙ ap (λ (x : Bool). x && list_all is_id_continue (chars bs)) start-tick
 
 no-lifetime : (name : List ℕ) → is_ident (chars name) ≡ true → is_lifetime name ≡ false
 no-lifetime [] h = refl
-no-lifetime (b ∷ bs) h = elim (cases_Bool (nat_eq b 39)) [
-  | inl y ↦ absurd (false≢true (sym (ap (λ (c : ℕ). is_ident (chars (c ∷ bs))) (eqb-true b 39 y) ∙ no-quote bs) ∙ h))
+no-lifetime (b ∷ bs) h = elim (cases_Bool (nat_eq 39 b)) [
+  | inl y ↦ absurd (false≢true (sym (no-quote bs) ∙ ap (λ (c : ℕ). is_ident (chars (c ∷ bs))) (eqb-true 39 b y) ∙ h))
   | inr n ↦ ap (λ (x : Bool). x && true) n
 ]
 

@@ -38,7 +38,7 @@ read n = raw_of (kind_of_raw n)
 module _ (k : SyntaxKind) (other : nat_eq (raw_of ERROR) (raw_of k) ≡ false) where
   by-found : (n : ℕ) (o : Option SyntaxKind) → slice_get all_kinds n ≡ o → nat_eq (read n) (raw_of k) ≡ nat_eq n (raw_of k)
   by-found n (Some x) e =
-      let own : raw_of x ≡ 0 + n = number-of all_kinds 0 n x all-from e in
+      let own : raw_of x ≡ n = number-of all_kinds 0 n x all-from e ∙ (let z : 0 + n ≡ n = omega arith in z) in
       ap (λ (p : Option SyntaxKind). nat_eq (raw_of (unwrap_or p ERROR)) (raw_of k)) e ∙ ap (λ (m : ℕ). nat_eq m (raw_of k)) own
   by-found n None e =
       let is : kind_of_raw n ≡ ERROR = ap (λ (p : Option SyntaxKind). unwrap_or p ERROR) e in
@@ -47,7 +47,7 @@ module _ (k : SyntaxKind) (other : nat_eq (raw_of ERROR) (raw_of k) ≡ false) w
         | inl y ↦
             let same : read n ≡ raw_of k = ap (λ (m : ℕ). raw_of (kind_of_raw m)) (eqb-true n (raw_of k) y) ∙ ap raw_of (kind_of_raw-raw_of k) in
             absurd (false≢true (sym error ∙ eq-eqb (read n) (raw_of k) same))
-        | inr no ↦ error ∙ sym no
+        | inr off ↦ error ∙ sym off
       ]
 
   -- a raw number is read as a kind only if it is that of the kind

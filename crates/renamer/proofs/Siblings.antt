@@ -1,5 +1,5 @@
 -- The kinds of the siblings before an element, by a walk from the nearest one.
-use Rattle.std.proofs.Common.{◌≡◌, ℕ, ◌<◌, List, [], ◌∷◌, ◌++◌, length, map, Option, Some, None, Result, Ok, true, false, Bool, refl, ap, sym, ◌∙◌, append_assoc, append-nil, arith, if◌then◌else◌}
+use Rattle.std.proofs.Common.{◌≡◌, ℕ, ◌<◌, List, [], ◌∷◌, ◌++◌, length, map, Option, Some, None, Result, Ok, true, false, Bool, refl, ap, sym, subst, ◌∙◌, append_assoc, append-nil, arith, if◌then◌else◌}
 use Rattle.std.specs.Prelude.{option_map}
 use Rattle.std.proofs.lemmas.List.{length-map, map-append}
 use Rattle.parser_input.specs.Kind.{is_trivia, raw_of}
@@ -48,6 +48,14 @@ kinds-next n p o h = ap kinds_of (left-is p) ∙ same-kinds n (first (siblings_b
 
 pub count-next : (n : ℕ) (p : Place) (o : Option SyntaxElement) → o ≡ option_map (with_cursor n) (first (siblings_before p)) → length (siblings_before p) ≡ length (from_sibling o)
 count-next n p o h = ap (λ (cs : List Cursor). length cs) (left-is p) ∙ same-count n (first (siblings_before p)) ∙ ap (λ (x : Option SyntaxElement). length (from_sibling x)) (sym h)
+
+-- the siblings from the next one on are fewer
+pub fewer : (n : ℕ) (e : SyntaxElement) (before o : Option SyntaxElement) → before ≡ Some e → o ≡ option_map (with_cursor n) (first (siblings_before (element_of e).place))
+    → length (from_sibling o) < length (from_sibling before)
+fewer n e before o is next =
+    let count = count-next n (element_of e).place o next in
+    let less : length (from_sibling o) < length (from_sibling (Some e)) = omega (arith, count) in
+    subst (λ (s : Option SyntaxElement). length (from_sibling o) < length (from_sibling s)) (sym is) less
 
 -- kinds that were seen, with those that are left
 abbrev pub AreSeen : List SyntaxKind → Option SyntaxElement → Place → Type 0

@@ -162,7 +162,7 @@ own-kinds q o (Node t) cs h = ap (λ (p : Option Term). kinds_of (cons_option (c
 own-kinds q o (Token l) cs h = ap (λ (p : Option Term). kinds_of (cons_option (cursor_in q p) cs)) h
 
 next-kinds : (t : Tree) (w : Way) (i : ℕ) (x : Term) (before : List ℕ) → term_by t (i ∷ w) ≡ Some x → before ≡ kinds_before (at t (i ∷ w))
-    → behind (kind_of x) before ≡ kinds_before (at t (i + 1 ∷ w))
+    → behind (kind_of x) before ≡ kinds_before (at t ((i + 1) ∷ w))
 next-kinds t w i x before here is =
     let q = at t (i ∷ w) in
     let cs = children_before (at t w) i in

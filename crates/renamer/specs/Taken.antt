@@ -19,17 +19,20 @@ pub record Naming : Type 0 where
   pub new : List ℕ
   pub leaves_macro_names : Bool
 
+abbrev pub naming : (old new : List ℕ) (leaves_macro_names : Bool) → Naming
+naming old new leaves = record { old = old; new = new; leaves_macro_names = leaves }
+
 -- that of identifiers or lifetimes, which leaves macro names
 abbrev pub but_macro_names : (old new : List ℕ) → Naming
-but_macro_names old new = record { old = old; new = new; leaves_macro_names = true }
+but_macro_names old new = naming old new true
 
 -- that of all identifiers
 abbrev pub of_all : (old new : List ℕ) → Naming
-of_all old new = record { old = old; new = new; leaves_macro_names = false }
+of_all old new = naming old new false
 
 -- the names in code
 abbrev pub naming_of : Names → Naming
-naming_of names = record { old = names.old.now; new = names.new.now; leaves_macro_names = names.leaves_macro_names }
+naming_of names = naming names.old.now names.new.now names.leaves_macro_names
 
 -- the kind of the tokens that are renamed: where macro names are left, lifetimes if the name begins with a quote; else identifiers
 abbrev pub named_kind : Naming → ℕ

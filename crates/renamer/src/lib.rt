@@ -5,7 +5,7 @@ ghost use Rattle.std.specs.Prelude.{◌≡◌, ◌≤◌, ◌+◌, length, IfErr
 ghost use Rattle.rust_document.specs.Step.{MAX_TEXT, present};
 ghost use Rattle.renamer.specs.Plain.{IsPlain, LacksRoom};
 ghost use Rattle.renamer.specs.Renamed.{renamed_text};
-ghost use Rattle.renamer.specs.Taken.{but_macro_names, naming_of, taken_text, taken_tree};
+ghost use Rattle.renamer.specs.Taken.{but_macro_names, naming, taken_text, taken_tree};
 ghost use Rattle.renamer.specs.Verdict.{IsAccepted, IsRenamed, IsRenamedBut, RefusesRename, RefusesRenameBut, RefusesTree, number_after};
 
 mod element;
@@ -78,37 +78,45 @@ impl From<CommitError> for RenameError {
     }
 }
 
-/// Renames by `names`, all at once.
+/// Renames `old` to `new`, all at once: identifiers, or what [`Names`] says where macro names are left.
 fn rename_by(
     alloc: Global,
     document: &mut Document,
-    names: &Names<'_>,
+    old: &str,
+    new: &str,
+    leaves_macro_names: bool,
     ids: &mut TreeIds,
 ) -> Result<(), RenameError>
     ensures text { OnOk result (document.new.text
-        ≡ taken_text (naming_of names.now) (present document.old)) }
-    ensures renamed { OnOk result (IsAccepted document.old names.now.new.now
-        (λ token. taken_tree (naming_of names.now) token (present document.old))) }
+        ≡ taken_text (naming old.now new.now leaves_macro_names) (present document.old)) }
+    ensures renamed { OnOk result (IsAccepted document.old new.now
+        (λ token. taken_tree (naming old.now new.now leaves_macro_names) token
+        (present document.old))) }
     ensures edition { OnOk result (document.new.edition ≡ document.old.edition) }
     ensures grammar { OnOk result (document.new.grammar ≡ document.old.grammar) }
     ensures tree { OnOk result (document.new.number ≡ ids.old + 1) }
     ensures number { OnOk result (ids.new ≡ ids.old + 2) }
-    ensures refused { IfErr result (RefusesTree document.old names.now.new.now
-        (λ token. taken_tree (naming_of names.now) token (present document.old)) ids.old) }
+    ensures refused { IfErr result (RefusesTree document.old new.now
+        (λ token. taken_tree (naming old.now new.now leaves_macro_names) token
+        (present document.old)) ids.old) }
     ensures numbers { IfErr result (λ _. (ids.old ≤ ids.new) × (ids.new ≤ ids.old + 1)) }
     ensures spent { IfErr result (λ error. ids.new ≡ number_after error ids.old) }
-    ensures plain { IfErr result (λ error. IsPlain document.old names.now.old.now names.now.new.now
-        → length (taken_text (naming_of names.now) (present document.old)) ≤ MAX_TEXT
-        → LacksRoom ids.old names.now.new.now error) }
+    ensures plain { IfErr result (λ error. IsPlain document.old old.now new.now
+        → length (taken_text (naming old.now new.now leaves_macro_names) (present document.old))
+        ≤ MAX_TEXT → LacksRoom ids.old new.now error) }
     ensures kept { IfErr result (λ _. document.new ≡ document.old) }
 {
     let _ = document.text();
-    let new = names.new;
     let token = payload(alloc, PayloadEntry::Token, document.edition(), new, ids)?;
+    let names = Names {
+        old,
+        new,
+        leaves_macro_names,
+    };
     let mut editor = document.editor(alloc)?;
     for element in document.root().descendants_with_tokens(alloc)? {
         let element = element?;
-        if takes(alloc, &element, names)? {
+        if takes(alloc, &element, &names)? {
             editor.replace(alloc, &element, &token)?;
         }
     }
@@ -152,12 +160,7 @@ pub fn rename(
         → LacksRoom ids.old new.now error) }
     ensures kept { IfErr result (λ _. document.new ≡ document.old) }
 {
-    let names = Names {
-        old,
-        new,
-        leaves_macro_names: false,
-    };
-    rename_by(alloc, document, &names, ids)
+    rename_by(alloc, document, old, new, false, ids)
 }
 
 /// Renames as [`rename`] does, but lifetimes and labels if `old` begins with a quote, and no macro
@@ -189,10 +192,5 @@ pub fn rename_but_macro_names(
         → LacksRoom ids.old new.now error) }
     ensures kept { IfErr result (λ _. document.new ≡ document.old) }
 {
-    let names = Names {
-        old,
-        new,
-        leaves_macro_names: true,
-    };
-    rename_by(alloc, document, &names, ids)
+    rename_by(alloc, document, old, new, true, ids)
 }
