@@ -2,12 +2,13 @@
 """Runs a built program again and again, and refuses one request for memory in each run: the first, the second, and so on, until a
 run meets no refusal. Says how many runs there were, and which ended otherwise than they may.
 
-    bench/refused.py [--fault | --calls] [--stdin FILE] PROGRAM [ARGUMENT..]
+    bench/refused.py [--fault | --calls | --command] [--stdin FILE] PROGRAM [ARGUMENT..]
 
 A run that met a refusal ends as the run that met none, with the same output: so do tests that make a refused call again. With --fault
 it ends with status 2, 'fault: memory' on standard error, and a front of the output: so does document_tool. With --calls its output has
 one line more, which comes first and names the call that answered out of memory: so do memory_suite, document_memory_suite and command_suite. With
-either of the two, a run that met a refusal and answers as if there was none is wrong.
+either of the two, a run that met a refusal and answers as if there was none is wrong. With --command it ends so, or with status 2, words for
+memory at the end of standard error, and a front of the output: so does tevondimby.
 Standard input is empty, or FILE. Wants glibc, and the Rattle kit's C compiler or another one.
 """
 import argparse
@@ -24,6 +25,8 @@ HERE = os.path.dirname(os.path.realpath(__file__))
 FAULT = 2, b"fault: memory\n"
 # What a program with a table of calls prints of one that answered out of memory.
 OUT_OF_MEMORY = re.compile(rb"\A1 out of memory: (.*)\n")
+# How the last line of standard error ends, of a command that ran out of memory.
+WORDS_FOR_MEMORY = re.compile(rb"(out of memory|memory allocation failed|fault: memory)(; no file is written)?\n\Z")
 # The runs that are started before it is seen whether one of them met no refusal.
 BATCH = 64
 # The wrong runs that are shown.
@@ -78,6 +81,8 @@ def is_as_it_may_be(ended, whole, mode):
     if mode == "calls":
         output, named = OUT_OF_MEMORY.subn(b"", output, count=1)
         return named == 1 and (status, output) == whole[:2]
+    if mode == "command" and WORDS_FOR_MEMORY.search(errors):
+        return status == 2 and whole[1].startswith(output)
     return (status, output) == whole[:2]
 
 
@@ -113,6 +118,7 @@ def main():
     parser = argparse.ArgumentParser(usage=__doc__, add_help=False, allow_abbrev=False)
     parser.add_argument("--fault", action="store_const", const="fault", dest="mode", default="")
     parser.add_argument("--calls", action="store_const", const="calls", dest="mode")
+    parser.add_argument("--command", action="store_const", const="command", dest="mode")
     parser.add_argument("--stdin", default=os.devnull)
     parser.add_argument("words", nargs=argparse.REMAINDER)
     asked = parser.parse_args()

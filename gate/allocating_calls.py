@@ -20,7 +20,7 @@ TABLES = ("*memory_suite", "command_suite")
 # are not proved yet.
 END_OF_PRODUCT = "# Run and not proved"
 # The parts of the program `tevondimby`, which runs their calls.
-PARTS_OF_PROGRAM = {"command_inputs", "command_options", "command_patterns", "command_reasons", "command_renames"}
+PARTS_OF_PROGRAM = {"command_inputs", "command_options", "command_patterns", "command_reasons", "command_renames", "lsp_command"}
 # Crates whose calls are in no table yet.
 WITHOUT_ROWS = {"document_rows", "document_views", "language_session", "match_rows", "message_frames", "pattern_parser", "session_server", "session_words", "text_changes", "tree_patterns", "tree_replace", "tree_search"}
 # Calls that are steps of others, and those of the table that make them: the changes of a plan, for one, are known to `tree_rewrite`
@@ -40,6 +40,7 @@ MADE_BY = {
     "rust_source::Source::edit": "rust_document::Document::edit",
     "rust_source::Source::editor": "rust_document::Document::editor",
     "rust_source::Source::find": "rust_document::Document::find",
+    "rust_source::Source::is_plain_rename": "rust_document::Document::is_plain_rename",
     "rust_source::Source::make_token": "syntax_editor::SyntaxFactory::token",
     "rust_source::Source::open": "rust_document::Document::open",
     "rust_source::Source::open_by": "rust_document::Document::open_by",

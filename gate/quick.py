@@ -173,4 +173,7 @@ def main():
 
 
 if __name__ == "__main__":
+    if sys.argv[1:]:
+        print(__doc__, end="")
+        sys.exit(0 if sys.argv[1:] == ["--help"] else "gate/quick.py takes no words")
     sys.exit(main())

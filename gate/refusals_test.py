@@ -59,6 +59,13 @@ class Runs(unittest.TestCase):
         self.assertEqual(self.wrong("fault", FAULT, other, silent), [2, 3])
         self.assertEqual(self.wrong("calls", FAULT), [1])
 
+    def test_command_tells_of_memory_or_ends_as_without_refusal(self):
+        words = [b"tevondimby: memory allocation failed\n", b"error: out of memory\n", b"tevondimby: -: out of memory; no file is written\n"]
+        told = [(2, b"2 r", line) for line in words]
+        self.assertEqual(self.wrong("command", WHOLE, *told), [])
+        silent, other, unnamed, more = (2, b"", b""), (2, b"3", words[0]), (2, b"", b"tevondimby: -: not found\n"), (1, b"", words[0])
+        self.assertEqual(self.wrong("command", silent, other, unnamed, more), [1, 2, 3, 4])
+
     def test_built_program_meets_each_refusal(self):
         outcome = refused.tried(["/usr/bin/env"], "")
         self.assertEqual(outcome.whole[0], 0)
@@ -70,8 +77,15 @@ class Runs(unittest.TestCase):
             write(f"{top}/crates/document_tool/stdin", "1")
             write(f"{top}/examples/b.json", "3")
             write(f"{top}/examples/a.json", "2")
-            given = [("document_tool", "stored input", b"1"), ("document_tool", "a.json", b"2"), ("document_tool", "b.json", b"3")]
+            given = [("document_tool", "stored input", (), b"1"), ("document_tool", "a.json", (), b"2"), ("document_tool", "b.json", (), b"3")]
             self.assertEqual([*refusals.runs(top)], given)
+
+    def test_commands_have_words(self):
+        with tempfile.TemporaryDirectory(prefix="gate-test-") as top:
+            write(f"{top}/crates/tevondimby/README.md", "")
+            words = [run.words for run in refusals.runs(top)]
+            self.assertIn(("check", "-"), words)
+            self.assertEqual(len({*words}), len(words))
 
     def test_wrong_runs_fail(self):
         with tempfile.TemporaryDirectory(prefix="gate-test-") as top:

@@ -1,5 +1,5 @@
 # Completions of tevondimby for fish: copy this file to ~/.config/fish/completions
-set -l commands check tokens tree search rename replace rewrite serve
+set -l commands check tokens tree search rename replace rewrite serve lsp
 complete -c tevondimby -f -n "not __fish_seen_subcommand_from $commands" -a check -d "Messages, with their lines"
 complete -c tevondimby -f -n "not __fish_seen_subcommand_from $commands" -a tokens -d "Tokens, a row each"
 complete -c tevondimby -f -n "not __fish_seen_subcommand_from $commands" -a tree -d "Trees, a row for each element"
@@ -8,10 +8,11 @@ complete -c tevondimby -f -n "not __fish_seen_subcommand_from $commands" -a sear
 complete -c tevondimby -f -n "not __fish_seen_subcommand_from $commands" -a replace -d "Replace matches of a pattern"
 complete -c tevondimby -f -n "not __fish_seen_subcommand_from $commands" -a rewrite -d "Rewrite by commands"
 complete -c tevondimby -f -n "not __fish_seen_subcommand_from $commands" -a serve -d "Answer requests, one a line"
-complete -c tevondimby -n "__fish_seen_subcommand_from check tokens tree search rename replace rewrite" -l edition -x -a "2015 2018 2021 2024 next" -d "The edition of all files"
+complete -c tevondimby -f -n "not __fish_seen_subcommand_from $commands" -a lsp -d "Be a language server"
+complete -c tevondimby -n "__fish_seen_subcommand_from check tokens tree search rename replace rewrite lsp" -l edition -x -a "2015 2018 2021 2024 next" -d "The edition of all files"
 complete -c tevondimby -n "__fish_seen_subcommand_from check tokens tree search rename replace rewrite" -l grammar -x -a "whole profile" -d "The grammar of all files"
 complete -c tevondimby -n "__fish_seen_subcommand_from check tokens tree search rename replace" -l exclude -x -d "Leave out what matches in directories"
-complete -c tevondimby -n "__fish_seen_subcommand_from check tokens tree" -l json -d "An object in JSON for each file"
+complete -c tevondimby -n "__fish_seen_subcommand_from check tokens tree search" -l json -d "An object in JSON for each file"
 complete -c tevondimby -n "__fish_seen_subcommand_from rename replace rewrite" -s w -l write -d "Write the files"
 complete -c tevondimby -n "__fish_seen_subcommand_from rename replace rewrite" -l diff -d "Print a diff"
 complete -c tevondimby -n "__fish_seen_subcommand_from rename replace rewrite" -l check -d "Print the paths of the files that would change"
@@ -21,5 +22,5 @@ complete -c tevondimby -n "__fish_seen_subcommand_from rename" -l merge -d "NEW 
 complete -c tevondimby -n "__fish_seen_subcommand_from rename" -l pairs -r -d "Read pairs OLD=NEW from a file"
 complete -c tevondimby -n "__fish_seen_subcommand_from replace rewrite" -l allow-messages -d "The texts may have messages"
 complete -c tevondimby -n "__fish_seen_subcommand_from search replace" -l as -x -a "expression type pattern statement item" -d "What the pattern is read as"
-complete -c tevondimby -n "__fish_seen_subcommand_from replace" -l comments -x -a "refuse drop" -d "What becomes of comments that would be lost"
+complete -c tevondimby -n "__fish_seen_subcommand_from replace" -l comments -x -a "refuse before drop" -d "What becomes of comments that would be lost"
 complete -c tevondimby -n "__fish_seen_subcommand_from replace" -l skip -d "Leave matches that cannot be replaced"

@@ -69,6 +69,14 @@ the request program, which ignores the member.
 
 The exit status is 0 at the end of the input, or 2 if reading, writing or memory fails.";
 
+const LSP: &str = "\
+Speaks the Language Server Protocol (3.17) on standard input and output: an editor starts it. It keeps the texts that the \
+editor has open, and shows the messages of each, as `check` prints them, while they are typed. It knows syntax alone, and \
+reads no file: texts are of the edition of `--edition`, else 2021, unless the editor asks for another one by the member \
+`edition` of `initializationOptions`. `docs/EDITORS.md` has configurations of editors.
+
+The exit status is 0 if the editor has sent `shutdown` before the end, else 1, or 2 if reading, writing or memory fails.";
+
 const RENAME_USAGE: &str = "tevondimby rename [OPTIONS] <OLD> <NEW> <FILE>...
        tevondimby rename [OPTIONS] <OLD=NEW>... <FILE>...
        tevondimby rename [OPTIONS] --pairs <PAIRS> <FILE>...";
@@ -125,12 +133,18 @@ Replaces the matches of PATTERN by TEMPLATE, in which `$a` and `$$$a` stand for 
 
 The new text reads as the tree with these replacements: what takes the place of a match, and what it binds, is in \
 parentheses where the text would read otherwise without them, or where rustc asks for them, and nowhere else. Matches in \
-what a match binds are replaced, too. A match with a comment that no part of TEMPLATE keeps is refused, unless `--comments \
-drop` is given, and so is one that reads otherwise with parentheses, too. A file with such a match, or with messages, is \
-refused, unless `--skip` leaves these matches, or `--allow-messages` is given; then no file is written.
+what a match binds are replaced, too. A match with a comment that no part of TEMPLATE keeps is refused; with \
+`--comments before` the comment comes before what replaces the match (a statement is refused, unless the comment is part \
+of it), with `--comments drop` it goes. A match that reads otherwise even with parentheses is refused, too. A file with \
+such a match, or with messages, is refused, unless `--skip` leaves these matches, or `--allow-messages` is given; then no \
+file is written.
 
 Without `--write` nothing is written, and a diff is printed, as by `rename`; of standard input, `-`, the new text is \
 printed. The exit status is 0, or 1 if matches are left, or if with `--check` a file would change, or 2 after a fault.";
+
+const MATCHES: &str = "\
+Prints an object in JSON for each file with matches, on a line of its own: the bytes of each match and of what \
+its metavariables stand for, a list of elements for a sequence";
 
 const COMMENTS: &str = "How a comment is treated that no part of TEMPLATE keeps";
 
@@ -262,7 +276,8 @@ fn with_pattern<'a>(alloc: Global, command: Command<'a>) -> Result<Command<'a>, 
 fn searching<'a>(alloc: Global) -> Result<Command<'a>, AllocError> {
     let command = Command::new(alloc, "search")
         .about("Prints the matches of a pattern")
-        .long_about(SEARCH);
+        .long_about(SEARCH)
+        .arg(flag(alloc, "json", MATCHES))?;
     let command = with_pattern(alloc, command)?;
     with_files(alloc, with_dialect(alloc, command)?)
 }
@@ -272,7 +287,7 @@ fn replacing<'a>(alloc: Global) -> Result<Command<'a>, AllocError> {
     let comments = Arg::new(alloc, "comments")
         .long("comments")
         .value_name("HOW")
-        .value_parser(["refuse", "drop"].as_slice())
+        .value_parser(["refuse", "before", "drop"].as_slice())
         .help(COMMENTS)
         .action(ArgAction::Set);
     let skip = flag(alloc, "skip", "Leaves matches that cannot be replaced");
@@ -331,6 +346,14 @@ fn serving<'a>(alloc: Global) -> Command<'a> {
         .long_about(SERVE)
 }
 
+/// Returns the command that is a language server.
+fn serving_editors<'a>(alloc: Global) -> Result<Command<'a>, AllocError> {
+    Command::new(alloc, "lsp")
+        .about("Is a language server, on standard input and output")
+        .long_about(LSP)
+        .arg(edition(alloc))
+}
+
 /// Returns the command without its subcommands.
 fn bare_command<'a>(alloc: Global, version: &'a str) -> Command<'a> {
     Command::new(alloc, "tevondimby")
@@ -366,5 +389,6 @@ pub fn command<'a>(alloc: Global, version: &'a str) -> Result<Command<'a>, Alloc
         .subcommand(renaming(alloc)?)?
         .subcommand(replacing(alloc)?)?
         .subcommand(rewriting(alloc)?)?
-        .subcommand(serving(alloc))
+        .subcommand(serving(alloc))?
+        .subcommand(serving_editors(alloc)?)
 }

@@ -43,17 +43,17 @@ struct Request<'a> {
 impl<'a> Request<'a> {
     /// Returns what a command line says.
     fn new(alloc: Global, matches: &ArgMatches<'a>) -> Request<'a> {
-        let drops = matches.get_str("comments") == Some("drop");
+        let comments = match matches.get_str("comments") {
+            Some("before") => Comments::Before,
+            Some("drop") => Comments::Drop,
+            _ => Comments::Refuse,
+        };
         Request {
             pattern: matches.get_str("pattern").unwrap_or(""),
             template: matches.get_str("template").unwrap_or(""),
             fragment: matches.get_str("as").and_then(Fragment::from_name),
             options: Options {
-                comments: if drops {
-                    Comments::Drop
-                } else {
-                    Comments::Refuse
-                },
+                comments,
                 skips: matches.get_flag("skip"),
                 allows_messages: matches.get_flag("allow-messages"),
             },
@@ -97,7 +97,9 @@ fn report_refusals(
         let line = line.saturating_add(1);
         let column = col.saturating_add(1);
         let why = match refusal.reason {
-            Reason::CommentLost => "a comment would be lost; --comments drop drops it",
+            Reason::CommentLost => {
+                "a comment would be lost; --comments before keeps it where it can, --comments drop drops it"
+            },
             Reason::Unfaithful => "the new text would read as another tree",
         };
         let _ = eprintln!(rt; "tevondimby: {path}:{line}:{column}: {why}");

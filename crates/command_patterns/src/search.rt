@@ -5,7 +5,7 @@ use clap::ArgMatches;
 use command_inputs::{Inputs, files_of, unless_closed, usage_error};
 use command_report::{Outcome, search_outcome};
 use file_target::Target;
-use match_rows::push_matches;
+use match_rows::{push_match_object, push_matches};
 use parser_input::Edition;
 use pattern_parser::{PatternError, may_match, other_fragments, parse_pattern};
 use rust_document::{Document, OpenError};
@@ -26,6 +26,8 @@ struct Reading {
 #[derive(Drop)]
 struct Query<'a> {
     text: &'a str,
+    /// Matches are printed as JSON.
+    is_json: bool,
     fragment: Option<Fragment>,
     readings: Vec<Reading>,
 }
@@ -43,6 +45,7 @@ impl<'a> Query<'a> {
     fn new(alloc: Global, matches: &ArgMatches<'a>) -> Query<'a> {
         Query {
             text: matches.get_str("pattern").unwrap_or(""),
+            is_json: matches.get_flag("json"),
             fragment: matches.get_str("as").and_then(Fragment::from_name),
             readings: Vec::new(alloc),
         }
@@ -122,21 +125,33 @@ fn opened(
     }
 }
 
-/// Appends the rows of the matches in a file. Returns their number, or names the file and returns `None` if it cannot be
-/// read.
+/// What is printed of a file, and the number of its matches.
+#[derive(Drop)]
+struct Rows {
+    text: Vec<u8>,
+    count: usize,
+}
+
+/// Returns the rows of the matches in a file, or names the file and returns `None` if it cannot be read.
 fn rows_of(
     rt: &HostRuntime,
     inputs: &Inputs<'_>,
     source: &Source,
     pattern: &Pattern,
-    rows: &mut Vec<u8>,
-) -> Result<Option<usize>, AllocError> {
+    is_json: bool,
+) -> Result<Option<Rows>, AllocError> {
+    let alloc = rt.alloc();
     let path = source.path.as_str();
-    match opened(rt.alloc(), inputs, source, pattern) {
-        Ok(None) => Ok(Some(0)),
+    let mut text = Vec::new(alloc);
+    match opened(alloc, inputs, source, pattern) {
+        Ok(None) => Ok(Some(Rows { text, count: 0 })),
         Ok(Some(document)) => {
-            let count = push_matches(rt.alloc(), path, &document, pattern, rows)?;
-            Ok(Some(count))
+            let count = if is_json {
+                push_match_object(alloc, path, &document, pattern, &mut text)?
+            } else {
+                push_matches(alloc, path, &document, pattern, &mut text)?
+            };
+            Ok(Some(Rows { text, count }))
         }
         Err(FileError::NoMemory) => Err(AllocError),
         Err(error) => {
@@ -181,12 +196,12 @@ pub fn search(rt: &HostRuntime, matches: &ArgMatches<'_>) -> Result<Outcome> {
                 if index == 0 && is_new && query.fragment.is_none() {
                     report_fragments(rt, query.text, source.dialect, pattern)?;
                 }
-                let mut rows = Vec::new(alloc);
-                match rows_of(rt, &inputs, source, pattern, &mut rows)? {
-                    Some(found) => count = count.saturating_add(found),
-                    None => has_faults = true,
-                }
-                if !write_rows(rt, rows.as_slice())? {
+                let Some(rows) = rows_of(rt, &inputs, source, pattern, query.is_json)? else {
+                    has_faults = true;
+                    continue;
+                };
+                count = count.saturating_add(rows.count);
+                if !write_rows(rt, rows.text.as_slice())? {
                     break;
                 }
             }

@@ -245,7 +245,7 @@ fn arguments(
 }
 
 /// Returns an editor with changes recorded.
-fn recorded(
+pub(crate) fn recorded(
     alloc: Global,
     changes: Changes,
     document: &Document,

@@ -10,6 +10,7 @@
 mod differences;
 mod documents;
 mod grammars;
+mod renames;
 mod requests;
 mod sources;
 mod tools;
@@ -21,6 +22,7 @@ fn main(rt: HostRuntime) -> anyhow::Result<()> {
     let mut tally = Tally::new(alloc);
     try_all(alloc, documents::ROWS, &mut tally)?;
     try_all(alloc, grammars::ROWS, &mut tally)?;
+    try_all(alloc, renames::ROWS, &mut tally)?;
     try_all(alloc, requests::ROWS, &mut tally)?;
     try_all(alloc, sources::ROWS, &mut tally)?;
     try_all(alloc, tools::ROWS, &mut tally)?;

@@ -1,1 +1,5 @@
+mod Answering
+mod Following
 mod Found
+mod Names
+mod Whole

@@ -1,5 +1,5 @@
 -- What a server knows of its client: the texts that are open, as the client's messages give them.
-use Rattle.std.specs.Prelude.{ℕ, ℤ, Bool, true, false, not, List, [], ◌∷◌, ◌++◌, map, Option, Some, None, option_map, if◌then◌else◌, String, string_bytes}
+use Rattle.std.specs.Prelude.{ℕ, ℤ, Bool, true, false, List, [], ◌∷◌, map, Option, Some, None, option_map, if◌then◌else◌, string_bytes}
 use Rattle.std.specs.Str.{bytes_eq}
 use Rattle.session_words.specs.declared.facts.Facts.{Facts}
 use Rattle.line_index.specs.declared.encoding.Encoding.TheVariants.{Utf16}

@@ -3,6 +3,7 @@
 
 mod documents;
 mod language;
+pub mod laws;
 mod losses;
 mod messages;
 mod notices;

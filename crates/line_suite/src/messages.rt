@@ -1,5 +1,5 @@
 //! Headers of messages.
-use message_frames::{HeaderRead, header_in, push_message};
+use message_frames::{Frame, HeaderRead, frame_in, header_in, push_message};
 use std::test::Fail;
 
 #[test]
@@ -37,6 +37,53 @@ fn broken_and_unfinished_headers_are_told_apart(rt: HostRuntime) {
     for text in broken {
         assert!(rt; header_in(text.as_bytes()) == HeaderRead::Broken);
     }
+}
+
+#[test]
+fn messages_are_found(rt: HostRuntime) {
+    let rows = [
+        (
+            "Content-Length: 2\r\n\r\n{}x",
+            Frame::Message { start: 21, end: 23 },
+        ),
+        (
+            "Content-Length: 0\n\n",
+            Frame::Message { start: 19, end: 19 },
+        ),
+        ("Content-Length: 2\r\n\r\n{", Frame::Unfinished),
+        ("Content-Length: 67108864\r\n\r\n", Frame::Unfinished),
+        ("Content-Length: 67108865\r\n\r\n", Frame::Broken),
+        ("", Frame::Unfinished),
+        ("x\r\n", Frame::Broken),
+    ];
+    for (text, frame) in rows {
+        assert!(rt; frame_in(text.as_bytes()) == frame);
+    }
+}
+
+#[test]
+fn long_headers_are_broken(rt: HostRuntime) -> Result<(), Fail> {
+    let mut header = String::from_str(rt.alloc(), "Content-Length: 0\n")?;
+    while header.len() < 4_093 {
+        header.push_str("a:\n")?;
+    }
+    assert!(rt; frame_in(header.as_str().as_bytes()) == Frame::Unfinished);
+    header.push_str("\n")?;
+    let len = header.len();
+    assert!(rt;
+        frame_in(header.as_str().as_bytes())
+            == Frame::Message {
+                start: len,
+                end: len
+            }
+    );
+    let mut long = String::from_str(rt.alloc(), "Content-Length: 0\nxyz:\n")?;
+    while long.len() < 4_096 {
+        long.push_str("a:\n")?;
+    }
+    long.push_str("\n")?;
+    assert!(rt; frame_in(long.as_str().as_bytes()) == Frame::Broken);
+    Ok(())
 }
 
 #[test]

@@ -33,6 +33,7 @@ pub(crate) enum EditorCall {
     FindElement,
     Rewritten,
     RewrittenNested,
+    HasCollision,
     AnnotatedIn,
 }
 
@@ -43,6 +44,7 @@ fn asked(alloc: Global, call: EditorCall, editor: &SyntaxEditor) -> anyhow::Resu
             "{}",
             editor.rewritten(alloc)?.green
         )?),
+        EditorCall::HasCollision => Ok(format!(in alloc; "{}", editor.has_collision(alloc)?)?),
         _ => {
             let root = editor.root();
             let origins = vec![in alloc; SyntaxElement::Node(root.clone()?)]?;
@@ -111,9 +113,10 @@ fn recorded(alloc: Global, call: EditorCall, refused: &mut u32) -> anyhow::Resul
     let mut editor = SyntaxEditor::of_root(alloc, root);
     record(alloc, call, &mut editor, &mut ids, refused)?;
     match call {
-        EditorCall::Rewritten | EditorCall::RewrittenNested | EditorCall::AnnotatedIn => asked(
-            alloc, call, &editor,
-        ),
+        EditorCall::Rewritten
+        | EditorCall::RewrittenNested
+        | EditorCall::HasCollision
+        | EditorCall::AnnotatedIn => asked(alloc, call, &editor),
         _ => finished(alloc, call, editor, &mut ids),
     }
 }
@@ -276,6 +279,11 @@ pub(crate) const ROWS: &[Row<EditorCall>] = &[
         "syntax_editor::SyntaxEditor::rewritten",
         EditorCall::RewrittenNested,
         "(1, (1, x2))",
+    ),
+    (
+        "syntax_editor::SyntaxEditor::has_collision",
+        EditorCall::HasCollision,
+        "false",
     ),
     (
         "syntax_editor::SyntaxEditor::annotated_in",

@@ -3,3 +3,4 @@ pub mod Taken
 pub mod Plain
 pub mod Verdict
 pub mod Undone
+pub mod Errors

@@ -14,25 +14,40 @@ pub mod laws;
 use crate::element::{Names, takes};
 use rust_document::{CommitError, Document, PayloadEntry, PayloadError, RecordError, payload};
 use std::alloc::{AllocError, Global};
+use std::error::Error;
+use std::fmt;
 use syntax_tree::TreeIds;
-use thiserror::Error;
 
 /// The error of a renaming.
-#[derive(Clone, Copy, Debug, PartialEq, Eq, Error)]
+#[derive(Clone, Copy, Debug, PartialEq, Eq)]
 pub enum RenameError {
     /// The new name is no token.
-    #[error(transparent)]
     NoToken(PayloadError),
     /// A change is not recorded.
-    #[error(transparent)]
     NotRecorded(RecordError),
     /// The new text would not read as the renamed tree, or another error of a commit.
-    #[error(transparent)]
     Refused(CommitError),
     /// An allocation failed.
-    #[error("out of memory")]
     NoMemory,
 }
+
+impl fmt::Display for RenameError {
+    ghost use Rattle.std.specs.Prelude.{Some};
+    ghost use Rattle.renamer.specs.Errors.{rename_message};
+
+    ghost output = { λ e. Some (rename_message e) };
+
+    fn fmt<W: fmt::Write>(&self, f: &mut fmt::Formatter<W>) -> fmt::Result {
+        match self {
+            RenameError::NoToken(error) => write!(f, "{error}"),
+            RenameError::NotRecorded(error) => write!(f, "{error}"),
+            RenameError::Refused(error) => write!(f, "{error}"),
+            RenameError::NoMemory => write!(f, "out of memory"),
+        }
+    }
+}
+
+impl Error for RenameError {}
 
 impl From<AllocError> for RenameError {
     ghost use Rattle.renamer.specs.declared.RenameError.TheVariants.{NoMemory};

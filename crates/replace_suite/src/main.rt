@@ -93,6 +93,8 @@ fn answer(alloc: Global, case: &Value) -> anyhow::Result<String> {
     let options = Options {
         comments: if is_set(case, "drop") {
             Comments::Drop
+        } else if is_set(case, "before") {
+            Comments::Before
         } else {
             Comments::Refuse
         },

@@ -42,5 +42,6 @@ pub mod NameTexts
 pub mod FirstNames
 pub mod FoundElements
 pub mod NameEdits
+pub mod RenameTests
 pub mod Differences
 pub mod DifferenceVerdicts

@@ -45,7 +45,7 @@ use Rattle.rust_document.proofs.PutTokens.{put-token}
 
 -- ---- the leaf of a token
 
-leaf-at :
+pub leaf-at :
     (ts : List LexedToken) (ls : List Lexed) (place i : ℕ) (t : LexedToken) → map span_of ts ≡ spans_from place (map in_bytes (leaves_of ls))
     → slice_get ts i ≡ Some t
     → (l : Lexed) × (drop i ls ≡ l ∷ drop (suc i) ls) × (t.range.start.0 ≡ place + offset ls i) × (t.range.end.0 ≡ t.range.start.0 + length (encodes l.leaf.text))
@@ -73,10 +73,10 @@ none-is : {A : Type 0} (o : Option A) → is_none o ≡ true → o ≡ None
 none-is None h = refl
 none-is (Some a) h = absurd (let z : false ≡ true = h in cc)
 
-name-ident : (edition : Edition) (name : List ℕ) → is_plain_name edition name ≡ true → is_ident name ≡ true
+pub name-ident : (edition : Edition) (name : List ℕ) → is_plain_name edition name ≡ true → is_ident name ≡ true
 name-ident edition name h = (and_parts (is_ident name) _ h).0
 
-name-plain : (edition : Edition) (name : List ℕ) → is_plain_name edition name ≡ true → names.IsPlain edition name
+pub name-plain : (edition : Edition) (name : List ℕ) → is_plain_name edition name ≡ true → names.IsPlain edition name
 name-plain edition name h =
     let both = and_parts _ _ (and_parts (is_ident name) _ h).1 in
     record { word = eqb-true _ _ both.0; contextual = none-is _ both.1 }

@@ -25,6 +25,7 @@ pub mod TreeBuilt
 pub mod Seen
 pub mod Core
 pub mod Renames
+pub mod RenameTests
 pub mod NextReading
 pub mod KeptTokens
 pub mod ContentEdit

@@ -1,6 +1,7 @@
 //! A text that is read.
 mod commit;
 mod payload;
+mod renames;
 
 ghost use Rattle.std.specs.Prelude.{◌≡◌, ◌≤◌, ◌+◌, [], true, chars, length, map, option_map, string_bytes, IfOk, IfErr, IfSome, MatchOption, OnOk};
 ghost use Rattle.lexed_text.specs.Kept.{IsKept};

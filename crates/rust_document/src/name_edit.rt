@@ -1,6 +1,6 @@
 //! Edits that turn one plain identifier into another. The tree of the new text is the old one with
 //! that token replaced, so none is built.
-ghost use Rattle.std.specs.Prelude.{◌≡◌, ◌≤◌, ◌++◌, [], true, chars, List, ℕ, IfOk, IfSome};
+ghost use Rattle.std.specs.Prelude.{◌≡◌, ◌≤◌, ◌++◌, [], chars, Decides, List, ℕ, IfOk, IfSome};
 ghost use Rattle.rustc_lexer.specs.Tokens.{first_lexeme};
 ghost use Rattle.plain_names.specs.TokenNames.{name_lexeme};
 ghost use Rattle.rust_document.specs.ContentEdit.{IsTextEdit};
@@ -85,9 +85,9 @@ fn part(text: &str, start: usize, end: usize) -> Option<&str>
 
 /// Returns `true` if the first token of `text`, which starts with `name`, is the identifier `name`.
 /// It is none if a literal's prefix or a raw identifier starts there.
-fn is_identifier(text: &str, name: &str) -> bool
+pub(crate) fn is_identifier(text: &str, name: &str) -> bool
     requires { (rest : List ℕ) × (name.now ++ rest ≡ text.now) }
-    ensures { result ≡ true → first_lexeme (chars text.now) ≡ name_lexeme (chars name.now) }
+    ensures { Decides result (first_lexeme (chars text.now) ≡ name_lexeme (chars name.now)) }
 {
     let token = Cursor::new(text).advance_token();
     match token.kind {

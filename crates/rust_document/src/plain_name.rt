@@ -12,7 +12,8 @@ use rustc_lexer::is_ident;
 ///
 /// Replacing such identifiers with such names is always accepted by
 /// [`Document::commit`](crate::Document::commit), unless one of them is the prefix of a literal: `foo`
-/// in `foo"x"` cannot become `r`. A raw identifier, as `r#fn`, is no plain name.
+/// in `foo"x"` cannot become `r`. [`Document::is_plain_rename`](crate::Document::is_plain_rename) tells
+/// of an editor whether it only makes such renames. A raw identifier, as `r#fn`, is no plain name.
 pub fn is_plain_name(edition: Edition, name: &str) -> bool
     ensures { result ≡ is_plain_name edition (chars name.now) }
 {

@@ -8,8 +8,7 @@ use Rattle.rust_document.specs.CommitWithoutMessages.{without_messages_words}
 use Rattle.rust_document.specs.Edit.{edit_message_of}
 use Rattle.rust_document.specs.Open.{message_of as open_message}
 use Rattle.rust_document.specs.Payload.{payload_message_of}
-use Rattle.renamer.specs.declared.RenameError.{RenameError}
-use Rattle.renamer.specs.declared.RenameError.TheVariants as renames
+use Rattle.renamer.specs.Errors.{rename_message}
 use Rattle.rust_source.specs.declared.error.NodeError.{NodeError}
 use Rattle.rust_source.specs.declared.error.NodeError.TheVariants as nodes
 use Rattle.rust_source.specs.declared.error.SourceError.{SourceError}
@@ -18,12 +17,6 @@ use Rattle.rust_source.specs.declared.error.SourceError.TheVariants as sources
 abbrev pub node_message : NodeError → List ℕ
 node_message (nodes.Payload error) = payload_message_of error
 node_message nodes.NotOneNode = codes "not one node"
-
-abbrev pub rename_message : RenameError → List ℕ
-rename_message (renames.NoToken error) = payload_message_of error
-rename_message (renames.NotRecorded error) = record_message error
-rename_message (renames.Refused error) = commit_message_of error
-rename_message renames.NoMemory = codes "out of memory"
 
 abbrev pub source_message : SourceError → List ℕ
 source_message (sources.Open error) = open_message error

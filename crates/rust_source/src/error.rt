@@ -84,10 +84,7 @@ impl fmt::Display for SourceError {
             SourceError::Merge(error) => write!(f, "{error}"),
             SourceError::Commit(error) => write!(f, "{error}"),
             SourceError::WithoutMessages(error) => write!(f, "{error}"),
-            SourceError::Rename(RenameError::NoToken(error)) => write!(f, "{error}"),
-            SourceError::Rename(RenameError::NotRecorded(error)) => write!(f, "{error}"),
-            SourceError::Rename(RenameError::Refused(error)) => write!(f, "{error}"),
-            SourceError::Rename(RenameError::NoMemory) => write!(f, "out of memory"),
+            SourceError::Rename(error) => write!(f, "{error}"),
             SourceError::Memory(_) => write!(f, "out of memory"),
         }
     }

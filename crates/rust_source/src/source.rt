@@ -1,5 +1,5 @@
 //! A text with all that its calls need.
-ghost use Rattle.std.specs.Prelude.{◌≡◌, ◌≤◌, ◌+◌, ℕ, true, chars, length, map, option_map, string_bytes, IfOk, IfErr, MatchOption, OnOk};
+ghost use Rattle.std.specs.Prelude.{◌≡◌, ◌≤◌, ◌+◌, ℕ, true, chars, length, map, option_map, string_bytes, Decides, IfOk, IfErr, MatchOption, OnOk};
 ghost use Rattle.lexed_text.specs.Kept.{IsKept};
 ghost use Rattle.parser_input.specs.Kind.{raw_of};
 ghost use Rattle.rowan_green.specs.Forest.{tree_text};
@@ -310,6 +310,19 @@ impl Source {
             → RefusesCommit (verdict self.now.document editor.now) number error) }
     {
         self.document.try_commit(self.alloc, editor)
+    }
+
+    /// Returns `true` if the changes of `editor` are a plain renaming, which [`Source::commit`] accepts
+    /// whatever messages the text has. [`Document::is_plain_rename`] says more.
+    ///
+    /// # Errors
+    ///
+    /// [`AllocError`] if an allocation fails.
+    pub fn is_plain_rename(&self, editor: &SyntaxEditor) -> Result<bool, AllocError>
+        ensures { IfOk result (λ answer. Decides answer
+            (IsPlainRenaming self.now.document editor.now)) }
+    {
+        self.document.is_plain_rename(self.alloc, editor)
     }
 
     /// Applies all changes of `editor` if the new text reads as the rewritten tree, whatever messages

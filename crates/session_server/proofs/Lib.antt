@@ -1,1 +1,6 @@
+mod Answered
+mod Places
+mod Runs
+mod Serving
+mod Turning
 mod Writes

@@ -1,9 +1,8 @@
 -- Lemmas on bytes that are written.
-use Rattle.std.proofs.Common.{◌≡◌, ℕ, ◌-◌, List, [], ◌++◌, length, take, drop, ap, ◌∙◌, sym, append_assoc, arith, refl}
+use Rattle.std.proofs.Common.{◌≡◌, ℕ, ◌-◌, List, ◌++◌, length, take, drop, ap, ◌∙◌, sym, append_assoc, arith}
 use Rattle.std.specs.Prelude.{Option, Some, None}
 use Rattle.std.specs.Io.KnownBytes.{Appends}
-use Rattle.line_reader.specs.Clients.{AppendsFront}
-use Rattle.std.proofs.lemmas.List.{take-append-drop, append-nil, take_all, length-drop}
+use Rattle.std.proofs.lemmas.List.{take-append-drop, take_all, length-drop}
 
 -- one after the other
 pub both-appended : (old mid new : Option (List ℕ)) (first second : List ℕ) → Appends old mid first → Appends mid new second → Appends old new (first ++ second)

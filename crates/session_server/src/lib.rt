@@ -1,7 +1,7 @@
 //! A server of the Language Server Protocol over a reader and a writer.
 #![tactic(auto)]
 
-mod frames;
+pub mod laws;
 mod server;
 mod write;
 

@@ -1,9 +1,15 @@
 //! Messages are read and answered.
 
-use crate::frames::{Frame, frame_in};
+ghost use Rattle.std.specs.Prelude.{◌≡◌, ◌≤◌, IfOk, IfSome, OnErr, OnOk, List, ℕ, drop, length};
+ghost use Rattle.std.specs.Io.KnownBytes.{Appends};
+ghost use Rattle.language_session.specs.Sessions.{session_of};
+ghost use Rattle.session_server.specs.Answers.{IsAnswered, IsPartlyAnswered};
+ghost use Rattle.session_server.specs.Turns.{IsTurn};
+
 use crate::write::write_all;
 use language_session::{Language, Session, step, tell};
 use line_reader::Stop;
+use message_frames::{Frame, frame_in};
 use session_words::{Refusal, Reply};
 use std::alloc::{AllocError, Global};
 use std::io::{Read, Write};
@@ -11,40 +17,77 @@ use std::io::{Read, Write};
 /// How many bytes a read asks for.
 const CHUNK: usize = 65_536;
 
-/// What became of a buffer.
+/// How a server goes on behind a read.
 #[derive(Clone, Copy, Drop)]
-enum Progress<'a> {
-    /// Each whole message is answered, and these bytes are behind them.
-    Left(&'a [u8]),
+enum Next {
+    /// This many bytes are messages that are answered, and no whole one is behind them.
+    GoesOn(usize),
     /// The server ends with this status.
     Ends(u8),
 }
 
-/// Answers the whole messages at the start of `buffer`.
-fn answer_all<'a, L: Language>(
+/// What is sent to a client behind a read.
+#[derive(Drop)]
+struct Turn {
+    told: Vec<u8>,
+    next: Next,
+}
+
+/// Answers the whole messages at the start of `bytes`.
+fn answer_all<L: Language>(
     alloc: Global,
     language: &L,
     session: &mut Session,
-    buffer: &'a [u8],
-    out: &mut Vec<u8>,
-) -> Result<Progress<'a>, AllocError> {
-    let mut rest = buffer;
-    for _message in 0..buffer.len() {
-        match frame_in(rest) {
-            Frame::Unfinished => return Ok(Progress::Left(rest)),
-            Frame::Broken => {
-                tell(alloc, Reply::Refused(None, Refusal::Header), out)?;
-                return Ok(Progress::Ends(1));
+    bytes: &[u8],
+) -> Result<Turn, AllocError>
+    ensures { IfOk result (λ turn. IsTurn (L.messages language.now) (session_of session.old)
+        (session_of session.new) bytes.now turn.told.items turn.next) }
+{
+    let mut told = Vec::new(alloc);
+    let mut at = 0;
+    while at < bytes.len() {
+        match frame_in(&bytes[at..]) {
+            Frame::Unfinished => {
+                return Ok(Turn {
+                    told,
+                    next: Next::GoesOn(at),
+                });
             }
-            Frame::Body(body, behind) => {
-                if let Some(status) = step(alloc, language, session, body, out)? {
-                    return Ok(Progress::Ends(status));
+            Frame::Broken => {
+                tell(alloc, Reply::Refused(None, Refusal::Header), &mut told)?;
+                return Ok(Turn {
+                    told,
+                    next: Next::Ends(1),
+                });
+            }
+            Frame::Message { start, end } => {
+                let body = &bytes[at + start..at + end];
+                if let Some(status) = step(alloc, language, session, body, &mut told)? {
+                    return Ok(Turn {
+                        told,
+                        next: Next::Ends(status),
+                    });
                 }
-                rest = behind;
+                at += end;
             }
         }
     }
-    Ok(Progress::Left(rest))
+    Ok(Turn {
+        told,
+        next: Next::GoesOn(at),
+    })
+}
+
+/// Takes the first `len` bytes out of `buffer`. Makes no copy if there are none, so a long message that comes in many
+/// pieces is copied once.
+fn drop_front(alloc: Global, buffer: &mut Vec<u8>, len: usize) -> Result<(), AllocError>
+    requires { len ≤ length buffer.old.items }
+    ensures { OnOk result (buffer.new.items ≡ drop len buffer.old.items) }
+{
+    if len > 0 {
+        *buffer = Vec::from_slice(alloc, &buffer[len..])?;
+    }
+    Ok(())
 }
 
 /// Answers the messages of a client, in order, up to its `exit`, its end, or bytes that are no message. Returns the exit
@@ -57,12 +100,21 @@ fn answer_all<'a, L: Language>(
 /// - [`Stop::Reading`] if a read fails, or after 18,446,744,073,709,551,615 reads.
 /// - [`Stop::Writing`] if a write fails, or takes no byte.
 /// - [`Stop::Memory`] if an allocation fails.
+///
+/// Then a front of the answers is written.
 pub fn serve<L: Language, R: Read, W: Write>(
     alloc: Global,
     language: &L,
     reader: &mut R,
     writer: &mut W,
-) -> Result<u8, Stop> {
+) -> Result<u8, Stop>
+    ensures answered { IfOk result (λ status. IfSome (R.remaining reader.old) (λ input.
+        (out : List ℕ) × IsAnswered (L.messages language.now) input out status
+        × Appends (W.contents writer.old) (W.contents writer.new) out)) }
+    ensures front { OnErr result (IfSome (R.remaining reader.old) (λ input.
+        (out : List ℕ) × IsPartlyAnswered (L.messages language.now) input out
+        × Appends (W.contents writer.old) (W.contents writer.new) out)) }
+{
     let mut session = Session::new(alloc);
     let mut buffer = Vec::new(alloc);
     let mut chunk = [0; CHUNK];
@@ -78,13 +130,12 @@ pub fn serve<L: Language, R: Read, W: Write>(
             });
         }
         buffer.extend_from_slice(&chunk[..count])?;
-        let mut out = Vec::new(alloc);
-        let progress = answer_all(alloc, language, &mut session, buffer.as_slice(), &mut out)?;
-        write_all(writer, out.as_slice())?;
-        buffer = match progress {
-            Progress::Ends(status) => return Ok(status),
-            Progress::Left(rest) => Vec::from_slice(alloc, rest)?,
-        };
+        let turn = answer_all(alloc, language, &mut session, buffer.as_slice())?;
+        write_all(writer, turn.told.as_slice())?;
+        match turn.next {
+            Next::Ends(status) => return Ok(status),
+            Next::GoesOn(len) => drop_front(alloc, &mut buffer, len)?,
+        }
     }
     Err(Stop::Reading)
 }

@@ -8,6 +8,7 @@ pub mod again;
 pub mod annotation;
 pub mod attrs;
 mod by_way;
+pub mod changes;
 pub mod edit;
 pub mod editor;
 pub mod error;

@@ -4,15 +4,17 @@ use crate::rewrite::rewrite;
 use crate::serve::serve;
 use crate::version::version_of;
 use crate::view::view;
-use anyhow::{Context, Result};
+use anyhow::{Result, anyhow};
 use clap::ArgMatches;
 use command_inputs::is_closed;
 use command_options::command;
 use command_patterns::{replace_files, search};
 use command_renames::rename;
 use command_report::Outcome;
+use lsp_command::serve_editor;
 use source_tools::{Format, View};
 use std::env;
+use std::io::ErrorKind;
 
 /// Returns the format that the flags ask for.
 fn format_of(matches: &ArgMatches<'_>) -> Format {
@@ -23,11 +25,23 @@ fn format_of(matches: &ArgMatches<'_>) -> Format {
     }
 }
 
+/// Returns the words of the command line.
+fn arguments(rt: &HostRuntime) -> Result<Vec<String>> {
+    let words = match env::args(rt) {
+        Ok(words) => words,
+        Err(error) if error.kind() == ErrorKind::OutOfMemory => {
+            return Err(anyhow::Error::from(error));
+        }
+        Err(error) => return Err(anyhow!("an argument is not UTF-8: {error}")),
+    };
+    let words: Vec<String> = words.collect(rt.alloc())?;
+    Ok(words)
+}
+
 /// Runs the command of the command line.
 pub(crate) fn run(rt: &HostRuntime) -> Result<Outcome> {
     let alloc = rt.alloc();
-    let words = env::args(rt).context("the arguments cannot be read; each has to be UTF-8")?;
-    let words: Vec<String> = words.collect(alloc)?;
+    let words = arguments(rt)?;
     let version = version_of(rt, words.as_slice())?;
     let matches = match command(alloc, version.as_str())?.try_get_matches_from(words.as_slice()) {
         Ok(matches) => matches,
@@ -53,6 +67,7 @@ pub(crate) fn run(rt: &HostRuntime) -> Result<Outcome> {
         Some(("replace", matches)) => replace_files(rt, matches),
         Some(("rewrite", matches)) => rewrite(rt, matches),
         Some(("serve", _)) => serve(rt),
+        Some(("lsp", matches)) => Ok(serve_editor(rt, matches)),
         _ => Ok(Outcome::Fault),
     }
 }

@@ -1,8 +1,8 @@
 //! Comments of matches.
 
 use crate::rule::Rule;
-use crate::texts::{Span, inside};
-use parser_input::SyntaxKind;
+use crate::texts::{Span, inside, part};
+use parser_input::{Edition, LexedStr, SyntaxKind};
 use std::alloc::{AllocError, Global};
 use syntax_tree::{SyntaxElement, SyntaxNode};
 use tree_search::{Binding, Match};
@@ -73,4 +73,37 @@ pub fn lost_comments(alloc: Global, rule: &Rule, found: &Match) -> Result<Vec<Sp
         kept = Some(spans);
     }
     Ok(lost)
+}
+
+/// Returns comments of a text as they come before what replaces a match: behind each of them is a space, or
+/// behind one that ends its line a line feed and `indent`.
+pub fn comments_before(
+    alloc: Global,
+    text: &str,
+    comments: &[Span],
+    indent: &str,
+) -> Result<String, AllocError> {
+    let mut before = String::new(alloc);
+    for span in comments {
+        let comment = part(text, span.start, span.end);
+        before.push_str(comment)?;
+        if comment.starts_with("//") {
+            before.push_str("\n")?;
+            before.push_str(indent)?;
+        } else {
+            before.push_str(" ")?;
+        }
+    }
+    Ok(before)
+}
+
+/// Returns a text without the whitespace and comments that it begins with.
+pub fn without_front(alloc: Global, edition: Edition, text: &str) -> Result<&str, AllocError> {
+    let tokens = LexedStr::new(alloc, edition, text)?;
+    for index in 0..tokens.len() {
+        if !tokens.kind(index).is_trivia() {
+            return Ok(part(text, tokens.text_start(index), text.len()));
+        }
+    }
+    Ok("")
 }

@@ -2,7 +2,7 @@
 
 use crate::asked::{is_asked, is_glued};
 use crate::candidate::Candidate;
-use crate::comments::extent;
+use crate::comments::{extent, without_front};
 use crate::error::ReplaceError;
 use crate::indents::reindented;
 use crate::rule::Rule;
@@ -53,7 +53,7 @@ pub fn rewritten(
     alloc: Global,
     text: &str,
     span: Span,
-    candidates: &[Candidate],
+    candidates: &[Candidate<'_>],
     from: usize,
 ) -> Result<String, AllocError> {
     let mut out = String::new(alloc);
@@ -118,7 +118,7 @@ fn line_of(
 /// Returns what a binding puts into a hole, without parentheses. `indent` is that of the hole's line.
 fn bound_text(
     making: &Making<'_>,
-    candidates: &[Candidate],
+    candidates: &[Candidate<'_>],
     number: usize,
     hole: usize,
     indent: &str,
@@ -223,7 +223,8 @@ fn wants_parentheses(
     if hole >= bindings.len() {
         return Ok(true);
     }
-    let Some(place) = node_with_text(&bindings[hole], filling)? else {
+    let bare = without_front(alloc, making.dialect.edition, filling)?;
+    let Some(place) = node_with_text(&bindings[hole], bare)? else {
         return Ok(true);
     };
     let new = place.cursor().green().as_ref();
@@ -344,7 +345,7 @@ fn hole_indent(
 /// Returns what fills the holes for a match.
 pub fn fillings(
     making: &Making<'_>,
-    candidates: &[Candidate],
+    candidates: &[Candidate<'_>],
     number: usize,
 ) -> Result<Vec<Filling>, ReplaceError> {
     let alloc = making.alloc;

@@ -1,6 +1,7 @@
 //! Instances: a template with what a match binds in its holes.
 
 use crate::candidate::Candidate;
+use crate::comments::without_front;
 use crate::error::ReplaceError;
 use crate::fillings::{Filling, Making, fillings, node_with_text};
 use crate::template_text::filled;
@@ -11,14 +12,20 @@ use tree_patterns::{Pattern, Place};
 use tree_search::{Binding, match_at};
 
 /// Returns `true` if what a template's hole has in a reading is what fills it.
-fn is_filled(binding: &Binding, is_sequence: bool, filling: &Filling) -> Result<bool, AllocError> {
+fn is_filled(
+    making: &Making<'_>,
+    binding: &Binding,
+    is_sequence: bool,
+    filling: &Filling,
+) -> Result<bool, AllocError> {
     if is_sequence {
         return Ok(binding.elements().len() == filling.count);
     }
+    let bare = without_front(making.alloc, making.dialect.edition, filling.text.as_str())?;
     if let [SyntaxElement::Token(token)] = binding.elements() {
-        return Ok(token.text() == filling.text.as_str());
+        return Ok(token.text() == bare);
     }
-    let Some(node) = node_with_text(binding, filling.text.as_str())? else {
+    let Some(node) = node_with_text(binding, bare)? else {
         return Ok(false);
     };
     Ok(match filling.closed {
@@ -49,7 +56,7 @@ fn is_instance(
     };
     let holes = making.rule.template.holes.iter();
     for ((binding, hole), filling) in bindings.iter().zip(holes).zip(fillings.iter()) {
-        if !is_filled(binding, hole.is_sequence, filling)? {
+        if !is_filled(making, binding, hole.is_sequence, filling)? {
             return Ok(false);
         }
     }
@@ -59,7 +66,7 @@ fn is_instance(
 /// Returns the text of the instance of a match, and the node that it is; `None` if it reads otherwise.
 pub fn instance(
     making: &Making<'_>,
-    candidates: &[Candidate],
+    candidates: &[Candidate<'_>],
     number: usize,
 ) -> Result<Option<(String, SyntaxNode)>, ReplaceError> {
     let alloc = making.alloc;

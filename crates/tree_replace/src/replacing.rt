@@ -1,10 +1,11 @@
 //! Replaces the matches of a source.
 
-ghost use Rattle.std.specs.Prelude.{◌≡◌, IfErr, IfOk, OnOk};
+ghost use Rattle.std.specs.Prelude.{◌≡◌, ◌<◌, length, IfErr, IfOk, OnOk};
 ghost use Rattle.tree_replace.specs.Replacements.{AreReplaced, OnlyReplaces};
 
 use crate::asked::{is_asked, is_glued};
 use crate::candidate::{Candidate, candidates_of};
+use crate::comments::comments_before;
 use crate::error::{Reason, Refusal, ReplaceError};
 use crate::fillings::{Making, parentheses};
 use crate::frames::{frame_of, reads_as_changed};
@@ -17,13 +18,16 @@ use rust_source::{Source, SourceError, SyntaxEditor, TopEntryPoint};
 use std::alloc::{AllocError, Global};
 use syntax_tree::{SyntaxElement, SyntaxNode};
 use tree_patterns::Fragment;
+use tree_search::{Match, search};
 
 /// How a comment is treated that no part of the template keeps.
 #[derive(Clone, Copy, Debug, PartialEq, Eq)]
 pub enum Comments {
     /// The match is refused.
     Refuse,
-    /// They go.
+    /// It comes before the text that replaces the match.
+    Before,
+    /// It goes.
     Drop,
 }
 
@@ -46,10 +50,11 @@ pub struct Replaced {
     pub skipped: Vec<Refusal>,
 }
 
-/// Returns `true` if the match alone, replaced by a text, reads as it should.
+/// Returns `true` if the match alone, replaced by a text behind comments, reads as it should.
 fn reads(
     making: &Making<'_>,
     place: &SyntaxNode,
+    comments: &str,
     text: &str,
     node: &SyntaxNode,
 ) -> Result<bool, ReplaceError> {
@@ -60,7 +65,9 @@ fn reads(
     let whole = making.source.text();
     let front = part(whole, around.start, span.start);
     let back = part(whole, span.end, around.end);
-    let changed = format!(in alloc; "{front}{text}{back}")?;
+    // (comments at the front are beside the frame's node)
+    let comments = if front.is_empty() { "" } else { comments };
+    let changed = format!(in alloc; "{front}{comments}{text}{back}")?;
     let change = Change {
         span,
         kind: place.cursor().green().kind().0,
@@ -86,36 +93,68 @@ fn is_asked_around(
     is_asked(making.alloc, place, &node.cursor().green().as_ref())
 }
 
-/// Returns the text that takes the place of a match, in parentheses if it has to be; `None` if it reads
-/// otherwise in both forms.
+/// Returns a text behind the comments of a match.
+fn behind_comments(candidate: &Candidate<'_>, text: String) -> Result<String, AllocError> {
+    if candidate.comments.is_empty() {
+        return Ok(text);
+    }
+    let mut whole = candidate.comments.clone()?;
+    whole.push_str(text.as_str())?;
+    Ok(whole)
+}
+
+/// Returns `true` if the comments before a text are in the node that it is. Those before an expression, a
+/// type or a pattern are; those before a statement only if the grammar gives them to it.
+fn has_comments(
+    making: &Making<'_>,
+    candidate: &Candidate<'_>,
+    text: &str,
+) -> Result<bool, ReplaceError> {
+    match making.rule.pattern.fragment() {
+        Fragment::Expression | Fragment::Type | Fragment::Pattern => Ok(true),
+        fragment => Ok(
+            candidate.comments.is_empty()
+                || read_node(making.alloc, making.dialect, fragment, text)?.is_some(),
+        ),
+    }
+}
+
+/// Returns the text that takes the place of a match, behind its comments, in parentheses if it has to be; or
+/// why there is none.
 fn placed(
     making: &Making<'_>,
     place: &SyntaxNode,
+    candidate: &Candidate<'_>,
     text: String,
     node: SyntaxNode,
-) -> Result<Option<String>, ReplaceError> {
-    let asked = is_asked_around(making, place, text.as_str(), &node)?;
-    if !asked && reads(making, place, text.as_str(), &node)? {
-        return Ok(Some(text));
+) -> Result<Result<String, Reason>, ReplaceError> {
+    let comments = candidate.comments.as_str();
+    let whole = behind_comments(candidate, text.clone()?)?;
+    if !has_comments(making, candidate, whole.as_str())? {
+        return Ok(Err(Reason::CommentLost));
+    }
+    let asked = is_asked_around(making, place, whole.as_str(), &node)?;
+    if !asked && reads(making, place, comments, text.as_str(), &node)? {
+        return Ok(Ok(whole));
     }
     let fragment = making.rule.pattern.fragment();
     let Some(kind) = parentheses(fragment) else {
-        return Ok(None);
+        return Ok(Err(Reason::Unfaithful));
     };
     let inner = text.as_str();
     let closed = format!(in making.alloc; "({inner})")?;
     let Some(node) = read_node(making.alloc, making.dialect, fragment, closed.as_str())? else {
-        return Ok(None);
+        return Ok(Err(Reason::Unfaithful));
     };
-    if node.kind() == kind && reads(making, place, closed.as_str(), &node)? {
-        Ok(Some(closed))
+    if node.kind() == kind && reads(making, place, comments, closed.as_str(), &node)? {
+        Ok(Ok(behind_comments(candidate, closed)?))
     } else {
-        Ok(None)
+        Ok(Err(Reason::Unfaithful))
     }
 }
 
 /// Returns `true` if a match is a whole binding of one that is replaced.
-fn is_bound(candidates: &[Candidate], number: usize) -> bool {
+fn is_bound(candidates: &[Candidate<'_>], number: usize) -> bool {
     if number >= candidates.len() {
         return false;
     }
@@ -125,26 +164,33 @@ fn is_bound(candidates: &[Candidate], number: usize) -> bool {
     }
 }
 
-/// Returns the text that takes the place of a match; `None` if there is none that reads as it should.
+/// Returns the text that takes the place of a match, or why there is none.
 fn decided(
     making: &Making<'_>,
-    candidates: &[Candidate],
+    candidates: &[Candidate<'_>],
     number: usize,
-) -> Result<Option<String>, ReplaceError> {
+) -> Result<Result<String, Reason>, ReplaceError> {
     let Some((text, node)) = instance(making, candidates, number)? else {
-        return Ok(None);
+        return Ok(Err(Reason::Unfaithful));
     };
-    if is_bound(candidates, number) || number >= candidates.len() {
-        return Ok(Some(text));
+    if number >= candidates.len() {
+        return Ok(Err(Reason::Unfaithful));
     }
-    match candidates[number].found.element() {
-        SyntaxElement::Node(place) => placed(making, place, text, node),
-        SyntaxElement::Token(_) => Ok(None),
+    let candidate = &candidates[number];
+    if is_bound(candidates, number) {
+        return Ok(Ok(behind_comments(candidate, text)?));
+    }
+    match candidate.found.element() {
+        SyntaxElement::Node(place) => placed(making, place, candidate, text, node),
+        SyntaxElement::Token(_) => Ok(Err(Reason::Unfaithful)),
     }
 }
 
 /// Decides what takes the place of each match, inner ones first. Returns `true` if one more was refused.
-fn decide_all(making: &Making<'_>, candidates: &mut Vec<Candidate>) -> Result<bool, ReplaceError> {
+fn decide_all(
+    making: &Making<'_>,
+    candidates: &mut Vec<Candidate<'_>>,
+) -> Result<bool, ReplaceError> {
     let mut has_refused = false;
     let count = candidates.len();
     for behind in 0..count {
@@ -155,9 +201,9 @@ fn decide_all(making: &Making<'_>, candidates: &mut Vec<Candidate>) -> Result<bo
         let new = decided(making, candidates.as_slice(), number)?;
         if number < candidates.len() {
             match new {
-                Some(new) => candidates[number].new = new,
-                None => {
-                    candidates[number].refused = Some(Reason::Unfaithful);
+                Ok(new) => candidates[number].new = new,
+                Err(reason) => {
+                    candidates[number].refused = Some(reason);
                     has_refused = true;
                 }
             }
@@ -167,7 +213,7 @@ fn decide_all(making: &Making<'_>, candidates: &mut Vec<Candidate>) -> Result<bo
 }
 
 /// Returns the matches that are refused, in order.
-fn refusals(alloc: Global, candidates: &[Candidate]) -> Result<Vec<Refusal>, AllocError> {
+fn refusals(alloc: Global, candidates: &[Candidate<'_>]) -> Result<Vec<Refusal>, AllocError> {
     let mut refusals = Vec::new(alloc);
     for candidate in candidates {
         if let Some(reason) = candidate.refused {
@@ -182,7 +228,12 @@ fn refusals(alloc: Global, candidates: &[Candidate]) -> Result<Vec<Refusal>, All
 }
 
 /// Returns the matches of a source with what takes their place.
-fn planned(source: &Source, rule: &Rule, options: Options) -> Result<Vec<Candidate>, ReplaceError> {
+fn planned<'a>(
+    source: &Source,
+    rule: &Rule,
+    options: Options,
+    matches: &'a [Match],
+) -> Result<Vec<Candidate<'a>>, ReplaceError> {
     let alloc = source.alloc();
     let making = Making {
         alloc,
@@ -193,12 +244,19 @@ fn planned(source: &Source, rule: &Rule, options: Options) -> Result<Vec<Candida
         source,
         rule,
     };
-    let mut candidates = candidates_of(alloc, source, rule)?;
-    if options.comments == Comments::Refuse {
-        for candidate in candidates.iter_mut() {
-            if candidate.loses_comments {
-                candidate.refused = Some(Reason::CommentLost);
+    let mut candidates = candidates_of(alloc, source, rule, matches)?;
+    for candidate in candidates.iter_mut() {
+        if candidate.lost.is_empty() {
+            continue;
+        }
+        match options.comments {
+            Comments::Refuse => candidate.refused = Some(Reason::CommentLost),
+            Comments::Before => {
+                let (text, lost) = (source.text(), candidate.lost.as_slice());
+                let before = comments_before(alloc, text, lost, candidate.indent.as_str())?;
+                candidate.comments = before;
             }
+            Comments::Drop => {}
         }
     }
     for _ in 0..candidates.len() {
@@ -209,11 +267,12 @@ fn planned(source: &Source, rule: &Rule, options: Options) -> Result<Vec<Candida
     Ok(candidates)
 }
 
-/// Returns the element that a text is.
+/// Returns the element that a text is, of which so many bytes are comments before it.
 fn payload(
     source: &mut Source,
     fragment: Fragment,
     text: &str,
+    comments: usize,
 ) -> Result<Option<SyntaxNode>, ReplaceError>
     ensures { source.new.document ≡ source.old.document }
 {
@@ -235,26 +294,29 @@ fn payload(
             return Ok(Some(made.map_err(SourceError::Node)?));
         }
     };
-    let Some(node) = read_node(alloc, dialect, fragment, text)? else {
+    let bare = part(text, comments, text.len());
+    let Some(node) = read_node(alloc, dialect, fragment, bare)? else {
         return Ok(None);
     };
     let made = source.payload_node(entry, node.kind(), text);
     Ok(Some(made.map_err(SourceError::Node)?))
 }
 
-/// Records that an element is replaced by another.
+/// Records that the element of a match is replaced by another.
 #[tactic(auto, using(crate::proofs::Singles::one_more))]
 fn put(
     alloc: Global,
     editor: &mut SyntaxEditor,
-    old: &SyntaxElement,
+    matches: &[Match],
+    index: usize,
     new: &SyntaxElement,
 ) -> Result<(), ReplaceError>
-    requires { OnlyReplaces editor.old }
-    ensures { OnOk result (OnlyReplaces editor.new) }
+    requires index { index < length matches.now }
+    requires only { OnlyReplaces matches.now editor.old }
+    ensures { OnOk result (OnlyReplaces matches.now editor.new) }
 {
     editor
-        .replace(alloc, old, new)
+        .replace(alloc, matches[index].element(), new)
         .map_err(SourceError::Record)?;
     Ok(())
 }
@@ -264,34 +326,36 @@ fn put(
 fn record(
     source: &mut Source,
     fragment: Fragment,
-    candidates: &[Candidate],
+    matches: &[Match],
+    candidates: &[Candidate<'_>],
     editor: &mut SyntaxEditor,
 ) -> Result<bool, ReplaceError>
-    requires { OnlyReplaces editor.old }
-    ensures only { OnOk result (OnlyReplaces editor.new) }
+    requires { OnlyReplaces matches.now editor.old }
+    ensures only { OnOk result (OnlyReplaces matches.now editor.new) }
     ensures document { source.new.document ≡ source.old.document }
 {
     let mut at = 0usize;
-    for candidate in candidates {
+    for index in 0..matches.len() {
+        if index >= candidates.len() {
+            break;
+        }
+        let candidate = &candidates[index];
         if candidate.refused.is_some() || candidate.span.start < at {
             continue;
         }
-        let Some(new) = payload(source, fragment, candidate.new.as_str())? else {
+        let text = candidate.new.as_str();
+        let Some(new) = payload(source, fragment, text, candidate.comments.len())? else {
             return Ok(false);
         };
-        put(
-            source.alloc(),
-            editor,
-            candidate.found.element(),
-            &SyntaxElement::Node(new),
-        )?;
+        let new = SyntaxElement::Node(new);
+        put(source.alloc(), editor, matches, index, &new)?;
         at = candidate.span.end;
     }
     Ok(true)
 }
 
 /// Returns the number of matches that are not refused.
-fn count_replaced(candidates: &[Candidate]) -> usize {
+fn count_replaced(candidates: &[Candidate<'_>]) -> usize {
     let mut count = 0usize;
     for candidate in candidates {
         if candidate.refused.is_none() {
@@ -301,7 +365,7 @@ fn count_replaced(candidates: &[Candidate]) -> usize {
     count
 }
 
-/// Replaces the matches of a rule in a source, those in what others bind too. What takes the place of a
+/// Replaces the matches of a rule in a source, those in what others bind too, and nothing else. What takes the place of a
 /// match is in parentheses exactly where the text would read otherwise, or where rustc asks for them. The
 /// new text is accepted only if it reads as the tree with these replacements.
 ///
@@ -316,7 +380,7 @@ fn count_replaced(candidates: &[Candidate]) -> usize {
 /// On error, the document is unchanged.
 pub fn replace(source: &mut Source, rule: &Rule, options: Options) -> Result<Replaced, ReplaceError>
     ensures replaced { IfOk result (λ r. (r.count ≡ 0 → ⊥)
-        → AreReplaced source.old.document source.new.document) }
+        → AreReplaced rule.pattern source.old.document source.new.document) }
     ensures unchanged { IfOk result (λ r. r.count ≡ 0
         → source.new.document ≡ source.old.document) }
     ensures kept { IfErr result (λ _. source.new.document ≡ source.old.document) }
@@ -325,7 +389,8 @@ pub fn replace(source: &mut Source, rule: &Rule, options: Options) -> Result<Rep
     if !options.allows_messages && !source.errors().is_empty() {
         return Err(ReplaceError::Messages);
     }
-    let candidates = planned(source, rule, options)?;
+    let matches = search(alloc, &rule.pattern, source.root())?;
+    let candidates = planned(source, rule, options, matches.as_slice())?;
     let skipped = refusals(alloc, candidates.as_slice())?;
     if !skipped.is_empty() && !options.skips {
         return Err(ReplaceError::Matches(skipped));
@@ -336,7 +401,14 @@ pub fn replace(source: &mut Source, rule: &Rule, options: Options) -> Result<Rep
     }
     let mut editor = source.editor()?;
     let fragment = rule.pattern.fragment();
-    if !record(source, fragment, candidates.as_slice(), &mut editor)? {
+    let matches = matches.as_slice();
+    if !record(
+        source,
+        fragment,
+        matches,
+        candidates.as_slice(),
+        &mut editor,
+    )? {
         return Err(ReplaceError::TooLong);
     }
     source.commit(editor).map_err(SourceError::Commit)?;

@@ -20,12 +20,16 @@ struct Rename {
     errors: &'static [(usize, &'static str)],
 }
 
-/// Returns `true` if a rename is answered as its row says, in an edition.
-fn is_renamed(alloc: Global, edition: Edition, row: &Rename) -> Result<bool, Fail> {
+/// Returns `true` if a rename is answered as its row says, in an edition, and the document tells
+/// beforehand that it is plain, or that it is not.
+fn is_renamed(alloc: Global, edition: Edition, row: &Rename, is_plain: bool) -> Result<bool, Fail> {
     let mut ids = TreeIds::new();
     let mut document = Document::open(alloc, edition, row.text, &mut ids)?;
     let name: Place = (SyntaxKind::IDENT, row.name.0, row.name.1);
     let editor = put(alloc, &document, name, (edition, row.new), &mut ids)?;
+    if document.is_plain_rename(alloc, &editor)? != is_plain {
+        return Ok(false);
+    }
     let answer = commit(alloc, &mut document, editor, &mut ids);
     let answered = is_answer(answer, row.answer);
     Ok(answered & has_text(&document, row.then) & has_errors(alloc, &document, row.errors)?)
@@ -67,7 +71,11 @@ const PLAIN: &[Rename] = &[
 fn plain_renames_are_accepted(rt: HostRuntime) -> Result<(), Fail> {
     for edition in EDITIONS {
         for row in PLAIN {
-            assert!(rt; is_renamed(rt.alloc(), *edition, row)?, "{}", row.then);
+            assert!(rt;
+                is_renamed(rt.alloc(), *edition, row, true)?,
+                "{}",
+                row.then
+            );
         }
     }
     Ok(())
@@ -113,7 +121,7 @@ const OTHERS: &[Rename] = &[
 fn other_renames_are_compared(rt: HostRuntime) -> Result<(), Fail> {
     for row in OTHERS {
         assert!(rt;
-            is_renamed(rt.alloc(), Edition::Edition2021, row)?,
+            is_renamed(rt.alloc(), Edition::Edition2021, row, false)?,
             "{}",
             row.text
         );

@@ -37,8 +37,8 @@ fn has_messages(errors: &[SyntaxError]) -> bool
 }
 
 impl Document {
-    /// Whether an editor is one of the present tree.
-    fn is_of(&self, editor: &SyntaxEditor) -> bool
+    /// Returns `true` if `editor` is one of the present tree.
+    pub(super) fn is_of(&self, editor: &SyntaxEditor) -> bool
         ensures { result ≡ not (is_foreign self.now editor.now) }
     {
         editor.root().tree() == self.root.tree()
@@ -52,6 +52,7 @@ impl Document {
     /// exactly the rewritten one: identifiers are replaced with identifiers, old and new names are
     /// plain ([`is_plain_name`](crate::is_plain_name)), and no replaced one is the prefix of a literal,
     /// as `foo` in `foo"x"`. Only length, memory and tree numbers can refuse it.
+    /// [`Document::is_plain_rename`] tells beforehand.
     ///
     /// The parser's output is kept if the parser's input is the same.
     ///

@@ -23,5 +23,5 @@ returns c =
       old_plain = sym c.is_plain_name.ensures ∙ c.if-not-is_plain_name.false;
       new_plain = sym c.is_plain_name-else-not-is_plain_name.ensures ∙ c.if-not-is_plain_name-2.false;
       rest_text = subst IsUtf8 rest (c.in_ok-rest.ensures).utf8;
-      is_token = ap (λ (z : List ℕ). first_lexeme (chars z)) (sym rest) ∙ c.is_identifier.ensures c.if-not-is_identifier.false;
+      is_token = ap (λ (z : List ℕ). first_lexeme (chars z)) (sym rest) ∙ c.is_identifier.ensures.0 c.if-not-is_identifier.false;
     }
