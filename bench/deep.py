@@ -1,12 +1,13 @@
 #!/usr/bin/env python3
-"""Runs a built document_tool on deeply nested texts with a stack of 8 MiB.
+"""Runs a built document_tool, or the command, on deeply nested texts with a stack of 8 MiB.
 
-    bench/deep.py [--measure] PROGRAM
+    bench/deep.py [--measure] [--command] PROGRAM
 
 Each text is opened, edited before its first level, and the innermost element is replaced in a commit, which compares the rewritten
 tree with its reading; the old trees are dropped. Without a flag the texts have 100,000 levels, or what DEPTHS asks for, and the last
 line says how many kinds are answered; ./test runs this at its end. With --measure the greatest depth below LIMIT is found for each
-kind by halving, with the bytes of stack a level.
+kind by halving, with the bytes of stack a level. With --command PROGRAM is `tevondimby`, started as it is, without ./run: each request
+is a line of `serve`, which reads the whole language.
 """
 import json
 import subprocess
@@ -73,34 +74,45 @@ def request(kind, depth):
     return json.dumps(asked), before + " " + opening * depth + new + back
 
 
-def is_answered(program, kind, depth):
+def reply_of(words, asked, count):
+    """Returns the replies of a program to a request of so many commands, and the text that it ends with; nothing if it fails."""
+    given = f"{asked}\n".encode() if words[1:] else asked.encode()
+    ran = subprocess.run(words, input=given, stdout=subprocess.PIPE, stderr=subprocess.DEVNULL, preexec_fn=nesting.limit_stack)
+    if ran.returncode != 0:
+        return None
+    if words[1:]:
+        reply = json.loads(ran.stdout)
+        return reply["replies"], reply.get("text")
+    # (a line for each command, and the text)
+    *replies, text = ran.stdout.decode().split("\n", count)
+    return [json.loads(reply) for reply in replies], text
+
+
+def is_answered(words, kind, depth):
     """Returns whether the program answers the request, with the text that it has to end with and nothing refused."""
     asked, wanted = request(kind, depth)
-    ran = subprocess.run([program], input=asked.encode(), stdout=subprocess.PIPE, stderr=subprocess.DEVNULL, preexec_fn=nesting.limit_stack)
-    if ran.returncode != 0:
-        return False
-    # (a line for each command, and the text)
-    *replies, text = ran.stdout.decode().split("\n", 2 if KINDS[kind][-1] else 1)
-    return all("ok" in json.loads(reply) for reply in replies) and text == wanted
+    answer = reply_of(words, asked, 2 if KINDS[kind][-1] else 1)
+    return bool(answer) and all("ok" in reply for reply in answer[0]) and answer[1] == wanted
 
 
-def measure(program):
+def measure(words):
     """Prints the greatest depth of each kind, or up to 100 levels less."""
     for kind in KINDS:
-        nesting.print_depth(kind, nesting.deepest(lambda depth: is_answered(program, kind, depth), 100))
+        nesting.print_depth(kind, nesting.deepest(lambda depth: is_answered(words, kind, depth), 100))
 
 
-def unanswered(program):
+def unanswered(words):
     """Returns the kinds that are not answered at the depth that is asked for."""
-    return [kind for kind in KINDS if not is_answered(program, kind, DEPTHS.get(kind, 100_000))]
+    return [kind for kind in KINDS if not is_answered(words, kind, DEPTHS.get(kind, 100_000))]
 
 
 if __name__ == "__main__":
     *flags, tool = sys.argv[1:]
-    if flags == ["--measure"]:
-        measure(tool)
+    called = [tool, "serve"] if "--command" in flags else [tool]
+    if "--measure" in flags:
+        measure(called)
         sys.exit(0)
-    left = unanswered(tool)
+    left = unanswered(called)
     for name in left:
         print(f"{name}: {DEPTHS.get(name, 100_000)} levels are not answered")
     print(f"{len(KINDS) - len(left)} of {len(KINDS)} kinds answered")

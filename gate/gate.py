@@ -5,8 +5,8 @@
                       refused over the same sources and the same definitions and contracts below, but for a sample of one crate. Of the
                       others it tries at most 100, of one crate at most 50; the commit picks them.
                       Beside that it runs the tests and the programs of the crates that crates.txt lists as run and not proved
-                      (unproved.py), some of the programs with each request for memory refused in turn (refusals.py), and document_tool
-                      on deeply nested texts (deep_texts.py)
+                      (unproved.py), some of the programs with each request for memory refused in turn (refusals.py), document_tool and
+                      the command on deeply nested texts (deep_texts.py), and the command as a person calls it (command_calls.py)
     ./test --all      proves the crates of tests and measuring, too
     ./test --edits    tries all must-fail edits
     ./test --quick    proves nothing: runs the tests and each program on its stored input
@@ -21,6 +21,7 @@ import sys
 import tempfile
 from concurrent.futures import ThreadPoolExecutor
 
+import command_calls
 import deep_texts
 import lanes
 import ledger
@@ -162,6 +163,7 @@ def run_unproved(room, proves_all):
 
     if not failed:
         failed = refusals.failures(repository.TOP, path_of, write) + deep_texts.failures(repository.TOP, write)
+        failed += command_calls.failures(path_of, write)
     return passed, failed
 
 

@@ -82,18 +82,23 @@ const RENAME_USAGE: &str = "tevondimby rename [OPTIONS] <OLD> <NEW> <FILE>...
        tevondimby rename [OPTIONS] --pairs <PAIRS> <FILE>...";
 
 const RENAME: &str = "\
-Renames each identifier OLD to NEW, in macro calls too. These are tokens: scopes, names in format \
+Renames each identifier OLD to NEW, in macro calls too; or each lifetime and label if both begin with \
+a quote:
+
+    tevondimby rename \"'a\" \"'text\" src
+
+These are tokens: scopes, names in format \
 strings and names that macros make are not followed. As for the compiler, `r#OLD` is OLD, and so is \
-OLD in its other Unicode spelling (Normalization Form C): both become NEW as it is given. So do `$OLD` in a \
-macro definition, and a fragment specifier OLD, which standard error names. Lifetimes and labels are not \
-renamed.
+OLD in its other Unicode spelling (Normalization Form C): all become NEW as it is given. In a macro \
+definition `$OLD` stays, and so does OLD in the place of `expr` in `$x:expr` if OLD or NEW is a fragment \
+specifier.
 
 With OLD=NEW, or with `--pairs`, several names are renamed, one after another, and the files are written \
 once. No OLD may be given twice, and no NEW may be an OLD.
 
 After that, standard error names the places that still spell OLD, as `src/a.rs:4:17: OLD in a string`: \
-in strings and characters, comments and lifetimes, where OLD is a word of its own; at \
-most 20, then how many more there are. A last line counts the names and files that change and the \
+in strings and characters, comments and lifetimes, where OLD is a word of its own, and what stays in \
+macro definitions; at most 20, then how many more there are. A last line counts the names and files that change and the \
 places that are left. Without `--write` the places are those of the files as they are, else those of \
 the files as they are written.
 
@@ -101,7 +106,7 @@ Without `--write` nothing is written, and a diff is printed that `patch -p1` and
 current folder; if a file is outside of it, in the folder that is named on standard error. Of standard \
 input, `-`, the new text is printed; no other FILE and no `--write` goes with it.
 
-No file is written unless all of them can be renamed in. A file in which NEW is an identifier \
+No file is written unless all of them can be renamed in. A file in which NEW is \
 already is refused unless `--merge` is given, and so is one whose new text would read as another \
 tree.";
 

@@ -1,17 +1,16 @@
 //! What leads on after a fault.
 
-use command_inputs::Inputs;
-use file_target::Target;
 use line_index::{Encoding, LineCol, LineIndex};
-use parser_input::LexedStr;
+use parser_input::keywords::keyword;
+use parser_input::{Edition, LexedStr};
 use rename_pairs::NamePair;
 use renamer::RenameError;
 use rust_document::{CommitError, is_plain_name};
 use source_tools::{RenameFault, Source, text_of};
 use std::alloc::{AllocError, Global};
-use token_names::has_name;
+use token_names::{has_name, is_lifetime, word_of};
 
-/// Returns the line and column of the first identifier of a text that is `name`, however it is spelled;
+/// Returns the line and column of the first identifier or lifetime of a text that is `name`, however it is spelled;
 /// with `is_other` the first that is spelled otherwise.
 fn place_in(
     alloc: Global,
@@ -31,18 +30,16 @@ fn place_in(
     Ok(None)
 }
 
-/// Returns such a place of a file that can be read.
+/// Returns such a place of the bytes of a file, if they are text.
 fn place_of(
-    rt: &HostRuntime,
+    alloc: Global,
     source: &Source,
+    bytes: &[u8],
     name: &str,
     is_other: bool,
 ) -> Result<Option<LineCol>, AllocError> {
-    let Ok(contents) = Inputs::new(rt).read(rt.alloc(), source.path.as_str()) else {
-        return Ok(None);
-    };
-    match text_of(contents.bytes.as_slice()) {
-        Some(text) => place_in(rt.alloc(), source, text, name, is_other),
+    match text_of(bytes) {
+        Some(text) => place_in(alloc, source, text, name, is_other),
         None => Ok(None),
     }
 }
@@ -55,37 +52,56 @@ fn report_place(rt: &HostRuntime, source: &Source, place: LineCol, new: &str) {
     let _ = eprintln!(rt; "{path}:{line}:{column}: `{new}` is here; --merge makes both names one");
 }
 
-/// Returns `true` if a new name is in one of the files in another spelling, and says where.
+/// Returns `true` if a new name is in the bytes of a file in another spelling, and says where.
 pub(crate) fn is_spelled_otherwise(
     rt: &HostRuntime,
-    sources: &[Source],
+    source: &Source,
+    bytes: &[u8],
     new: &str,
 ) -> Result<bool, AllocError> {
-    for source in sources {
-        if let Some(place) = place_of(rt, source, new, true)? {
-            let path = source.path.as_str();
-            let _ = eprintln!(rt;
-                "tevondimby: {path}: the new name is an identifier here already, in another spelling; no file is written"
-            );
-            report_place(rt, source, place, new);
-            return Ok(true);
-        }
-    }
-    Ok(false)
+    let Some(place) = place_of(rt.alloc(), source, bytes, new, true)? else {
+        return Ok(false);
+    };
+    let path = source.path.as_str();
+    let _ = eprintln!(rt;
+        "tevondimby: {path}: the new name is here already, in another spelling; no file is written"
+    );
+    report_place(rt, source, place, new);
+    Ok(true)
 }
 
-/// Says what leads on after a file was refused by a renaming.
+/// Returns `true` if `name` is a lifetime whose word is a keyword of the edition and that is not raw.
+fn is_keyword_lifetime(edition: Edition, name: &str) -> bool {
+    is_lifetime(name) && !name.starts_with("'r#") && keyword(edition, word_of(name)).is_some()
+}
+
+/// Returns `true` if a new name is a lifetime that the edition of a file does not allow, and says so.
+pub(crate) fn is_keyword_name(rt: &HostRuntime, pairs: &[NamePair<'_>], source: &Source) -> bool {
+    for pair in pairs {
+        let (path, new) = (source.path.as_str(), pair.new);
+        if is_keyword_lifetime(source.dialect.edition, new) {
+            let _ = eprintln!(rt;
+                "tevondimby: {path}: `{new}`: no lifetime and no label has the name of a keyword; no file is written"
+            );
+            return true;
+        }
+    }
+    false
+}
+
+/// Says what leads on after a file with these bytes was refused by a renaming.
 pub(crate) fn advise(
     rt: &HostRuntime,
     pairs: &[NamePair<'_>],
     source: &Source,
+    bytes: &[u8],
     fault: &RenameFault,
 ) -> Result<(), AllocError> {
     for pair in pairs {
         let new = pair.new;
         match fault {
             RenameFault::NameTaken => {
-                if let Some(place) = place_of(rt, source, new, false)? {
+                if let Some(place) = place_of(rt.alloc(), source, bytes, new, false)? {
                     report_place(rt, source, place, new);
                 }
             }

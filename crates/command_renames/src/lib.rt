@@ -1,7 +1,8 @@
-//! The command that renames identifiers in files.
+//! The command that renames identifiers, lifetimes and labels in files.
 #![tactic(auto)]
 
 mod advice;
+mod left_names;
 mod names;
 mod rename;
 mod survey;

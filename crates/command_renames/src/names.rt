@@ -8,7 +8,7 @@ use file_target::Target;
 use rename_pairs::{NamePair, is_wrong, leading_pairs, pair_of};
 use source_tools::text_of;
 use std::alloc::{AllocError, Global};
-use token_names::is_lifetime;
+use token_names::{is_given, is_lifetime};
 
 /// The pairs of names that are renamed, and the paths of the files.
 #[derive(Drop)]
@@ -86,11 +86,17 @@ fn add_words<'a>(
 fn fault_of(alloc: Global, pairs: &[NamePair<'_>]) -> Result<Option<String>, AllocError> {
     for (index, pair) in pairs.iter().enumerate() {
         let (old, new) = (pair.old, pair.new);
-        if is_lifetime(old) || is_lifetime(new) {
+        if is_lifetime(old) != is_lifetime(new) {
             let words = format!(in alloc;
-                "`{old}` to `{new}`: lifetimes and labels are not renamed"
+                "`{old}` to `{new}`: both names are identifiers, or both begin with a quote, as lifetimes and labels do"
             )?;
             return Ok(Some(words));
+        }
+        for name in [old, new] {
+            if !is_given(name) {
+                let words = format!(in alloc; "`{name}` is no name that a program can give")?;
+                return Ok(Some(words));
+            }
         }
         if is_wrong(pairs, index) {
             let words = format!(in alloc;

@@ -1,6 +1,6 @@
-//! Identifiers are renamed in files.
+//! Identifiers, lifetimes and labels are renamed in files.
 
-use crate::advice::{advise, is_spelled_otherwise};
+use crate::advice::{advise, is_keyword_name, is_spelled_otherwise};
 use crate::names::{Names, names_of, pairs_text};
 use crate::survey::{Survey, survey_bytes, survey_files};
 use anyhow::{Result, anyhow};
@@ -18,7 +18,7 @@ use source_tools::{
 };
 use std::alloc::{AllocError, Global};
 use std::io::Write;
-use token_names::has_name;
+use token_names::{has_name, is_lifetime};
 
 /// Names the file that stopped a renaming, and says what leads on.
 fn report_stop(
@@ -32,7 +32,9 @@ fn report_stop(
             let path = path_of(sources, *index);
             let _ = eprintln!(rt; "tevondimby: {path}: {fault}; no file is written");
             if let Some(source) = sources.get(*index) {
-                let _ = advise(rt, pairs, source, fault);
+                if let Ok(contents) = Inputs::new(rt).read(rt.alloc(), source.path.as_str()) {
+                    let _ = advise(rt, pairs, source, contents.bytes.as_slice(), fault);
+                }
             }
         }
         RenameStop::Unwritten(path, error) => report_unwritten(rt, path.as_str(), error),
@@ -51,15 +53,6 @@ struct Manner {
     is_merge: bool,
     /// The number of files that are read.
     files: usize,
-}
-
-/// Returns the old names of pairs.
-fn old_names<'a>(alloc: Global, pairs: &[NamePair<'a>]) -> Result<Vec<&'a str>, AllocError> {
-    let mut names = Vec::new(alloc);
-    for pair in pairs {
-        names.push(pair.old)?;
-    }
-    Ok(names)
 }
 
 /// Returns a renaming for each spelling of each old name. Past the first one of a name the new name is
@@ -90,25 +83,77 @@ fn renamings_of<'a>(
 
 /// Returns `true` if both names of a pair are one in two spellings.
 fn is_one_name(alloc: Global, pair: &NamePair<'_>) -> Result<bool, AllocError> {
-    has_name(alloc, pair.old, SyntaxKind::IDENT, pair.new)
+    let kind = if is_lifetime(pair.old) {
+        SyntaxKind::LIFETIME_IDENT
+    } else {
+        SyntaxKind::IDENT
+    };
+    has_name(alloc, pair.old, kind, pair.new)
 }
 
-/// Returns `true` if a new name is in the files in another spelling, and may not be, and says where.
-fn is_taken(
+/// Returns `true` if a new name may not be in a file with these bytes, or is there in another spelling
+/// and may not be, and says so.
+fn is_ruled_out(
+    rt: &HostRuntime,
+    manner: Manner,
+    pairs: &[NamePair<'_>],
+    source: &Source,
+    bytes: &[u8],
+) -> Result<bool, AllocError> {
+    if is_keyword_name(rt, pairs, source) {
+        return Ok(true);
+    }
+    if manner.is_merge {
+        return Ok(false);
+    }
+    for pair in pairs {
+        let is_one = is_one_name(rt.alloc(), pair)?;
+        if !is_one && is_spelled_otherwise(rt, source, bytes, pair.new)? {
+            return Ok(true);
+        }
+    }
+    Ok(false)
+}
+
+/// Returns `true` if a new name is ruled out in one of the files that can be read, and says so.
+fn is_ruled_out_in_any(
     rt: &HostRuntime,
     manner: Manner,
     pairs: &[NamePair<'_>],
     sources: &[Source],
 ) -> Result<bool, AllocError> {
-    if manner.is_merge {
-        return Ok(false);
-    }
-    for pair in pairs {
-        if !is_one_name(rt.alloc(), pair)? && is_spelled_otherwise(rt, sources, pair.new)? {
+    for source in sources {
+        let Ok(contents) = Inputs::new(rt).read(rt.alloc(), source.path.as_str()) else {
+            continue;
+        };
+        if is_ruled_out(rt, manner, pairs, source, contents.bytes.as_slice())? {
             return Ok(true);
         }
     }
     Ok(false)
+}
+
+/// Names the spellings of an old name, if there are several: the new one does not tell them apart.
+fn report_spellings(
+    rt: &HostRuntime,
+    pair: &NamePair<'_>,
+    survey: &Survey,
+) -> Result<(), AllocError> {
+    let spellings = survey.spellings.as_slice();
+    if spellings.len() < 2 {
+        return Ok(());
+    }
+    let mut list = String::new(rt.alloc());
+    for spelling in spellings {
+        let separator = if list.is_empty() { "" } else { ", " };
+        list.push_str(separator)?;
+        list.push_str("`")?;
+        list.push_str(spelling.as_str())?;
+        list.push_str("`")?;
+    }
+    let (old, new, list) = (pair.old, pair.new, list.as_str());
+    let _ = eprintln!(rt; "tevondimby: `{old}` is spelled {list}: each becomes `{new}`");
+    Ok(())
 }
 
 /// Says where the old names are left, and how many names and files change. Returns what the renaming
@@ -130,7 +175,7 @@ fn report(
     for (pair, survey) in pairs.iter().zip(before) {
         counts.names = counts.names.saturating_add(survey.names);
         if !manner.is_quiet {
-            survey.report_specifiers(rt);
+            report_spellings(rt, pair, survey)?;
         }
         if survey.names == 0 {
             outcome = Outcome::Found;
@@ -171,12 +216,18 @@ fn rename_input(
         dialect,
     };
     let old = contents.bytes.as_slice();
-    let names = old_names(alloc, pairs)?;
-    let before = survey_bytes(rt, &source, old, names.as_slice())?;
+    if is_ruled_out(rt, manner, pairs, &source, old)? {
+        return Ok(Outcome::Fault);
+    }
+    let before = survey_bytes(rt, &source, old, pairs)?;
     let renamings = renamings_of(alloc, pairs, before.as_slice(), manner.is_merge)?;
     let new = match rename_bytes(alloc, renamings.as_slice(), dialect, old) {
         Ok(new) => new,
-        Err(fault) => return Err(anyhow!("-: {fault}")),
+        Err(fault) => {
+            let _ = eprintln!(rt; "tevondimby: -: {fault}");
+            advise(rt, pairs, &source, old, &fault)?;
+            return Ok(Outcome::Fault);
+        }
     };
     let new = new.as_slice();
     let mut output = rt.stdout();
@@ -185,7 +236,7 @@ fn rename_input(
         Err(error) if is_closed(&error) => return Ok(Outcome::Done),
         Err(error) => return Err(anyhow!("the output could not be written: {error}")),
     }
-    let after = survey_bytes(rt, &source, new, names.as_slice())?;
+    let after = survey_bytes(rt, &source, new, pairs)?;
     let files = if old == new { 0 } else { 1 };
     let outcome = report(
         rt,
@@ -210,8 +261,7 @@ fn rename_written(
     let renamings = renamings_of(alloc, pairs, before, manner.is_merge)?;
     match rename_files(alloc, renamings.as_slice(), &mut Inputs::new(rt), sources) {
         Ok(files) => {
-            let names = old_names(alloc, pairs)?;
-            let after = survey_files(rt, sources, names.as_slice())?;
+            let after = survey_files(rt, sources, pairs)?;
             Ok(report(rt, manner, pairs, before, after.as_slice(), files)?)
         }
         Err(stop) => Ok(report_stop(rt, pairs, sources, &stop)),
@@ -287,11 +337,10 @@ fn rename_listed(
         ..manner
     };
     let pairs = names.pairs.as_slice();
-    if is_taken(rt, manner, pairs, sources)? {
+    if is_ruled_out_in_any(rt, manner, pairs, sources)? {
         return Ok(Outcome::Fault);
     }
-    let old = old_names(rt.alloc(), pairs)?;
-    let before = survey_files(rt, sources, old.as_slice())?;
+    let before = survey_files(rt, sources, pairs)?;
     if manner.is_written {
         rename_written(rt, pairs, manner, sources, before.as_slice())
     } else {

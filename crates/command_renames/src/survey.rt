@@ -1,45 +1,62 @@
-//! What files say of a name: which identifiers are it, and where they spell it otherwise.
+//! What files say of a name: which tokens are it, and where they spell it otherwise.
 
+use crate::left_names::{LeftName, named_tokens};
 use command_inputs::Inputs;
 use command_report::{MAX_ROWS, place_row, push_row, rest_row};
 use file_target::Target;
-use line_index::{Encoding, LineCol, LineIndex};
+use line_index::{Encoding, LineIndex};
 use name_mentions::{Mention, MentionPlace, mentions_of};
-use parser_input::{LexedStr, SyntaxKind};
+use parser_input::LexedStr;
+use rename_pairs::NamePair;
 use source_tools::{Source, text_of};
 use std::alloc::{AllocError, Global};
-use token_names::{has_name, is_macro_name, word_of};
+use token_names::{is_lifetime, word_of};
 
-/// What files say of a name.
+/// What files say of the old name of a pair.
 #[derive(Drop)]
 pub(crate) struct Survey {
-    /// The identifiers that are the name.
+    /// The tokens that have the name and are renamed.
     pub(crate) names: usize,
     /// How these are spelled, each spelling once.
     pub(crate) spellings: Vec<String>,
-    /// The places that spell it otherwise.
+    /// The places that spell it otherwise, and the tokens that are left.
     pub(crate) left: usize,
     /// A row for each of the first of these places.
     rows: String,
-    /// The fragment specifiers that are the name.
-    specifiers: usize,
-    /// A row for each of the first of these.
-    specifier_rows: String,
 }
 
-/// Returns the row of a place that spells `word`.
+/// Returns the row of a place.
 fn row_of(
     alloc: Global,
     path: &str,
     lines: &LineIndex<'_>,
-    mention: Mention,
-    word: &str,
+    offset: usize,
+    words: &str,
 ) -> Result<String, AllocError> {
-    let place = lines.line_col(Encoding::Utf32, mention.offset);
+    let place = lines.line_col(Encoding::Utf32, offset);
     let line = place.line.saturating_add(1);
     let column = place.col.saturating_add(1);
-    let words = mention.words(alloc, word)?;
-    place_row(alloc, path, line, column, words.as_str())
+    place_row(alloc, path, line, column, words)
+}
+
+/// Returns how other tokens spell a name: without the mark of a raw one, a lifetime with its quote.
+fn spelled(alloc: Global, name: &str) -> Result<String, AllocError> {
+    let word = word_of(name);
+    if is_lifetime(name) {
+        format!(in alloc; "'{word}")
+    } else {
+        String::from_str(alloc, word)
+    }
+}
+
+/// Returns `true` if a place spells the name but is not the token that has it. A character is no
+/// lifetime.
+fn is_other(name: &str, mention: Mention) -> bool {
+    match mention.place {
+        MentionPlace::RawIdentifier => false,
+        MentionPlace::Lifetime | MentionPlace::CharLiteral => !is_lifetime(name),
+        MentionPlace::StringLiteral | MentionPlace::Comment | MentionPlace::Other => true,
+    }
 }
 
 impl Survey {
@@ -50,12 +67,10 @@ impl Survey {
             spellings: Vec::new(alloc),
             left: 0,
             rows: String::new(alloc),
-            specifiers: 0,
-            specifier_rows: String::new(alloc),
         }
     }
 
-    /// Adds an identifier that is the name.
+    /// Adds a token that is renamed.
     fn add_spelling(&mut self, alloc: Global, text: &str) -> Result<(), AllocError> {
         self.names = self.names.saturating_add(1);
         for spelling in self.spellings.as_slice() {
@@ -67,86 +82,87 @@ impl Survey {
         Ok(())
     }
 
-    /// Adds a row for a fragment specifier that is the name, as `expr` in `$x:expr`.
-    fn add_specifier(
+    /// Adds a place where the name is left. Past the last row places are only counted.
+    fn add_place(
         &mut self,
         alloc: Global,
         path: &str,
-        place: LineCol,
-        name: &str,
-    ) -> Result<(), AllocError> {
-        let line = place.line.saturating_add(1);
-        let column = place.col.saturating_add(1);
-        let words = format!(in alloc; "{name} is a fragment specifier, which changes, too")?;
-        let row = place_row(alloc, path, line, column, words.as_str())?;
-        push_row(row.as_str(), self.specifiers, &mut self.specifier_rows)?;
-        self.specifiers = self.specifiers.saturating_add(1);
-        Ok(())
-    }
-
-    /// Adds the identifiers of a text that are a name.
-    fn add_identifiers(
-        &mut self,
-        alloc: Global,
-        path: &str,
-        tokens: &LexedStr<'_>,
         lines: &LineIndex<'_>,
-        name: &str,
+        offset: usize,
+        words: &str,
     ) -> Result<(), AllocError> {
-        // The kinds of the tokens before, without trivia, the nearest first.
-        let mut before = [SyntaxKind::EOF, SyntaxKind::EOF, SyntaxKind::EOF];
-        for i in 0..tokens.len() {
-            let (kind, text) = (tokens.kind(i), tokens.text(i));
-            if kind.is_trivia() {
-                continue;
-            }
-            let [nearest, second, _] = before;
-            if has_name(alloc, name, kind, text)? {
-                self.add_spelling(alloc, text)?;
-                if nearest != SyntaxKind::DOLLAR && is_macro_name(text, before.as_slice()) {
-                    let place = lines.line_col(Encoding::Utf32, tokens.text_start(i));
-                    self.add_specifier(alloc, path, place, text)?;
-                }
-            }
-            before = [kind, nearest, second];
+        if self.left < MAX_ROWS {
+            let row = row_of(alloc, path, lines, offset, words)?;
+            push_row(row.as_str(), self.left, &mut self.rows)?;
         }
+        self.left = self.left.saturating_add(1);
         Ok(())
     }
 
-    /// Adds what a text says of a name.
-    fn add(
+    /// Adds the first of these tokens, as far as they are before an offset, and returns how many these
+    /// are.
+    fn add_left(
+        &mut self,
+        alloc: Global,
+        path: &str,
+        lines: &LineIndex<'_>,
+        names: &[LeftName],
+        end: usize,
+    ) -> Result<usize, AllocError> {
+        let mut count = 0usize;
+        for name in names {
+            if name.offset >= end {
+                break;
+            }
+            self.add_place(alloc, path, lines, name.offset, name.words.as_str())?;
+            count = count.saturating_add(1);
+        }
+        Ok(count)
+    }
+
+    /// Adds the places of a text that are left, in order: tokens, and other places that spell the name.
+    fn add_places(
         &mut self,
         alloc: Global,
         source: &Source,
         text: &str,
         name: &str,
+        left: &[LeftName],
     ) -> Result<(), AllocError> {
-        let edition = source.dialect.edition;
         let path = source.path.as_str();
         let lines = LineIndex::try_new(alloc, text)?;
-        let tokens = LexedStr::new(alloc, edition, text)?;
-        self.add_identifiers(alloc, path, &tokens, &lines, name)?;
-        let word = word_of(name);
-        let mentions = mentions_of(alloc, edition, text, word)?;
+        let word = spelled(alloc, name)?;
+        let mentions = mentions_of(alloc, source.dialect.edition, text, word.as_str())?;
+        let mut added = 0usize;
         for mention in mentions.others.as_slice() {
-            if mention.place == MentionPlace::RawIdentifier {
-                // It is the name.
+            if !is_other(name, *mention) {
                 continue;
             }
-            // The places past the last row are only counted.
-            if self.left < MAX_ROWS {
-                let row = row_of(alloc, path, &lines, *mention, word)?;
-                push_row(row.as_str(), self.left, &mut self.rows)?;
-            }
-            self.left = self.left.saturating_add(1);
+            let rest = &left[added.min(left.len())..];
+            let more = self.add_left(alloc, path, &lines, rest, mention.offset)?;
+            added = added.saturating_add(more);
+            let words = mention.words(alloc, word.as_str())?;
+            self.add_place(alloc, path, &lines, mention.offset, words.as_str())?;
         }
+        let rest = &left[added.min(left.len())..];
+        self.add_left(alloc, path, &lines, rest, usize::MAX)?;
         Ok(())
     }
 
-    /// Says which fragment specifiers are the name, on standard error.
-    pub(crate) fn report_specifiers(&self, rt: &HostRuntime) {
-        let rows = self.specifier_rows.as_str();
-        let _ = eprint!(rt; "{rows}");
+    /// Adds what a text says of the old name of a pair.
+    fn add(
+        &mut self,
+        alloc: Global,
+        source: &Source,
+        text: &str,
+        pair: &NamePair<'_>,
+    ) -> Result<(), AllocError> {
+        let tokens = LexedStr::new(alloc, source.dialect.edition, text)?;
+        let found = named_tokens(alloc, &tokens, pair)?;
+        for name in found.renamed.as_slice() {
+            self.add_spelling(alloc, name)?;
+        }
+        self.add_places(alloc, source, text, pair.old, found.left.as_slice())
     }
 
     /// Says where the name is left, on standard error.
@@ -158,34 +174,34 @@ impl Survey {
     }
 }
 
-/// Returns what the bytes of a file say of each name; if they are no text, nothing.
+/// Returns what the bytes of a file say of the old name of each pair; if they are no text, nothing.
 pub(crate) fn survey_bytes(
     rt: &HostRuntime,
     source: &Source,
     bytes: &[u8],
-    names: &[&str],
+    pairs: &[NamePair<'_>],
 ) -> Result<Vec<Survey>, AllocError> {
     let alloc: Global = rt.alloc();
     let mut surveys = Vec::new(alloc);
-    for name in names {
+    for pair in pairs {
         let mut survey = Survey::new(alloc);
         if let Some(text) = text_of(bytes) {
-            survey.add(alloc, source, text, name)?;
+            survey.add(alloc, source, text, pair)?;
         }
         surveys.push(survey)?;
     }
     Ok(surveys)
 }
 
-/// Returns what the files say of each name as they are now. A file that cannot be read says nothing.
+/// Returns what the files say of the old name of each pair as they are now. A file that cannot be read says nothing.
 pub(crate) fn survey_files(
     rt: &HostRuntime,
     sources: &[Source],
-    names: &[&str],
+    pairs: &[NamePair<'_>],
 ) -> Result<Vec<Survey>, AllocError> {
     let alloc: Global = rt.alloc();
     let mut surveys = Vec::new(alloc);
-    for _name in names {
+    for _pair in pairs {
         surveys.push(Survey::new(alloc))?;
     }
     for source in sources {
@@ -195,8 +211,8 @@ pub(crate) fn survey_files(
         let Some(text) = text_of(contents.bytes.as_slice()) else {
             continue;
         };
-        for (survey, name) in surveys.iter_mut().zip(names) {
-            survey.add(alloc, source, text, name)?;
+        for (survey, pair) in surveys.iter_mut().zip(pairs) {
+            survey.add(alloc, source, text, pair)?;
         }
     }
     Ok(surveys)

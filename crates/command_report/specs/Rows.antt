@@ -1,6 +1,7 @@
 -- Rows for standard error.
 use Rattle.std.specs.Prelude.{ℕ, ◌-◌, ◌==◌, nat_le, nat_lt, List, [], ◌++◌, codes, if◌then◌else◌}
 use Rattle.std.specs.Fmt.{decimal}
+use Rattle.std.specs.List.{starts_with}
 
 -- the most places that are named
 abbrev pub most_rows : ℕ
@@ -31,5 +32,10 @@ abbrev pub tally_row : (names files left : ℕ) → List ℕ
 tally_row names files left =
     counted names (codes "name") ++ (codes " in " ++ (counted files (codes "file") ++ (codes ", " ++ (counted left (codes "place") ++ codes " left\n"))))
 
+-- what a name is one of
+abbrev pub token_words : List ℕ → List ℕ
+token_words name =
+    if starts_with (λ a b. a == b) name (codes "'") then codes "no lifetime or label `" else codes "no identifier `"
+
 abbrev pub unchanged_row : List ℕ → ℕ → List ℕ
-unchanged_row name files = codes "no identifier `" ++ (name ++ (codes "` in " ++ (counted files (codes "file") ++ codes "\n")))
+unchanged_row name files = token_words name ++ (name ++ (codes "` in " ++ (counted files (codes "file") ++ codes "\n")))

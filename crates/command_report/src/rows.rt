@@ -89,7 +89,8 @@ pub fn tally_row(
     format!(in alloc; "{names} in {files}, {left} left\n")
 }
 
-/// Returns the row that says that no identifier of the files is the name; `files` is their number.
+/// Returns the row that says that no identifier of the files is the name, or no lifetime if it begins with
+/// a quote; `files` is their number.
 ///
 /// # Errors
 ///
@@ -98,5 +99,8 @@ pub fn unchanged_row(alloc: Global, name: &str, files: usize) -> Result<String, 
     ensures { IfOk result (λ row. string_bytes row ≡ unchanged_row name.now files) }
 {
     let files = counted(alloc, files, "file")?;
+    if name.starts_with("'") {
+        return format!(in alloc; "no lifetime or label `{name}` in {files}\n");
+    }
     format!(in alloc; "no identifier `{name}` in {files}\n")
 }

@@ -2,7 +2,7 @@
 use crate::differences::range;
 use anyhow::bail;
 use memory_table::row::{Ask, Row};
-use renamer::rename;
+use renamer::{RenameError, rename, rename_but_macro_names};
 use rust_document::Document;
 use rust_source::{Edition, Source, SyntaxElement, SyntaxKind};
 use std::alloc::Global;
@@ -19,6 +19,8 @@ pub(crate) enum SourceCall {
     RangedErrors(&'static str),
     /// Renames a struct in a document.
     Rename,
+    /// Renames a name of a macro call, and leaves a metavariable.
+    RenameButMacroNames,
 }
 
 fn line_indent(alloc: Global) -> anyhow::Result<String> {
@@ -60,18 +62,36 @@ fn ranged_errors(alloc: Global, text: &str) -> anyhow::Result<String> {
     Ok(told)
 }
 
-/// Returns the text in which a struct is renamed. A call that fails is made again on the document that
-/// it left.
-fn renamed(alloc: Global, refused: &mut u32) -> anyhow::Result<String> {
+/// Renames a struct, or a name that a metavariable has, too.
+fn rename_in(
+    alloc: Global,
+    document: &mut Document,
+    call: SourceCall,
+    ids: &mut TreeIds,
+) -> Result<(), RenameError> {
+    match call {
+        SourceCall::RenameButMacroNames => {
+            rename_but_macro_names(alloc, document, "x", "yy", ids)
+        }
+        _ => rename(alloc, document, "S", "Tee", ids),
+    }
+}
+
+/// Returns a text after a renaming. A call that fails is made again on the document that it left.
+fn renamed(
+    alloc: Global,
+    text: &str,
+    call: SourceCall,
+    refused: &mut u32,
+) -> anyhow::Result<String> {
     let mut ids = TreeIds::new();
-    let text = "struct S; fn f(x: S) {}";
     let mut document = Document::open(alloc, Edition::Edition2021, text, &mut ids)?;
-    if rename(alloc, &mut document, "S", "Tee", &mut ids).is_err() {
+    if rename_in(alloc, &mut document, call, &mut ids).is_err() {
         *refused = refused.saturating_add(1);
         if document.text() != text {
             bail!("the text has changed");
         }
-        rename(alloc, &mut document, "S", "Tee", &mut ids)?;
+        rename_in(alloc, &mut document, call, &mut ids)?;
     }
     Ok(String::from_str(alloc, document.text())?)
 }
@@ -82,7 +102,10 @@ impl Ask for SourceCall {
             SourceCall::LineIndent => line_indent(alloc),
             SourceCall::Preview => preview(alloc),
             SourceCall::RangedErrors(text) => ranged_errors(alloc, text),
-            SourceCall::Rename => renamed(alloc, refused),
+            SourceCall::Rename => renamed(alloc, "struct S; fn f(x: S) {}", self, refused),
+            SourceCall::RenameButMacroNames => {
+                renamed(alloc, "m! { x $ /**/ x }", self, refused)
+            }
         }
     }
 }
@@ -107,5 +130,10 @@ pub(crate) const ROWS: &[Row<SourceCall>] = &[
         "renamer::rename",
         SourceCall::Rename,
         "struct Tee; fn f(x: Tee) {}",
+    ),
+    (
+        "renamer::rename_but_macro_names",
+        SourceCall::RenameButMacroNames,
+        "m! { yy $ /**/ x }",
     ),
 ];

@@ -1,4 +1,4 @@
--- What is recorded for the elements with a name: one change each, at up-paths that are all different.
+-- What is recorded for the elements that are renamed: one change each, at up-paths that are all different.
 use Rattle.std.proofs.Common.{◌≡◌, ℕ, ◌+◌, List, [], ◌∷◌, map, Bool, true, false, ◌&&◌, ◌||◌, not, nat_le, refl, ap, sym, ◌∙◌, arith, subst, Some, inl, inr, if◌then◌else◌}
 use Rattle.std.specs.List.{list_any}
 use Rattle.std.specs.Cmp.Lexicographic.{bytes_decides}
@@ -6,7 +6,7 @@ use Rattle.std.proofs.lemmas.Bool.{cases_Bool, false≢true}
 use Rattle.rowan_green.specs.Leaf.{Leaf}
 use Rattle.rowan_green.specs.Forest.{Tree}
 use Rattle.rowan_green.specs.declared.utility_types.NodeOrToken.TheVariants as terms
-use Rattle.rowan.specs.Place.{term_by}
+use Rattle.rowan.specs.Place.{Place, term_by}
 use Rattle.syntax_tree.specs.Element.{Way, same_way, Element, term_of}
 use Rattle.syntax_tree.specs.Handle.{element_of}
 use Rattle.syntax_tree.specs.declared.element.SyntaxElement.{SyntaxElement}
@@ -16,7 +16,7 @@ use Rattle.syntax_editor.specs.Recording.{with_single, is_target, is_root, is_on
 use Rattle.plain_names.specs.Replacements.{leaf_after}
 use Rattle.plain_changes.specs.LeafChanges.{LeafChange, change_of, replacement_of, AreLeafChanges}
 use Rattle.plain_changes.proofs.Rewritten.{bool-same, covers-is}
-use Rattle.renamer.specs.Renamed.{identifier, is_named}
+use Rattle.renamer.specs.Taken.{named_leaf, Naming, is_left, kinds_before, takes}
 
 -- ---- the changes, by their up-paths
 
@@ -25,18 +25,18 @@ abbrev pub change : Element → Way → Change
 change e w = replace w 0 (e ∷ []) true
 
 -- the changes after these elements
-abbrev pub changes_after : List ℕ → Element → List Change → List SyntaxElement → List Change
-changes_after old e cs [] = cs
-changes_after old e cs (x ∷ xs) = changes_after old e (if is_named old x then with_single cs (element_of x).place.up (e ∷ []) else cs) xs
+abbrev pub changes_after : Naming → Element → List Change → List SyntaxElement → List Change
+changes_after by e cs [] = cs
+changes_after by e cs (x ∷ xs) = changes_after by e (if takes by x then with_single cs (element_of x).place.up (e ∷ []) else cs) xs
 
 -- the up-paths with one more, if it is not among them
 abbrev pub with_way : List Way → Way → List Way
 with_way [] w = w ∷ []
 with_way (v ∷ vs) w = if same_way v w then v ∷ vs else v ∷ with_way vs w
 
-abbrev pub ways_after : List ℕ → List Way → List SyntaxElement → List Way
-ways_after old ws [] = ws
-ways_after old ws (x ∷ xs) = ways_after old (if is_named old x then with_way ws (element_of x).place.up else ws) xs
+abbrev pub ways_after : Naming → List Way → List SyntaxElement → List Way
+ways_after by ws [] = ws
+ways_after by ws (x ∷ xs) = ways_after by (if takes by x then with_way ws (element_of x).place.up else ws) xs
 
 abbrev pub has_way : List Way → Way → Bool
 has_way [] w = false
@@ -59,12 +59,12 @@ one-step : (e : Element) (ws : List Way) (w : Way) (b : Bool) → (if b then wit
 one-step e ws w true = single-way e ws w
 one-step e ws w false = refl
 
-pub changes-are : (old : List ℕ) (e : Element) (ws : List Way) (xs : List SyntaxElement) → changes_after old e (map (change e) ws) xs ≡ map (change e) (ways_after old ws xs)
-changes-are old e ws [] = refl
-changes-are old e ws (x ∷ xs) =
+pub changes-are : (by : Naming) (e : Element) (ws : List Way) (xs : List SyntaxElement) → changes_after by e (map (change e) ws) xs ≡ map (change e) (ways_after by ws xs)
+changes-are by e ws [] = refl
+changes-are by e ws (x ∷ xs) =
     let w = (element_of x).place.up in
-    ap (λ (cs : List Change). changes_after old e cs xs) (one-step e ws w (is_named old x))
-    ∙ changes-are old e (if is_named old x then with_way ws w else ws) xs
+    ap (λ (cs : List Change). changes_after by e cs xs) (one-step e ws w (takes by x))
+    ∙ changes-are by e (if takes by x then with_way ws w else ws) xs
 
 -- ---- one element more
 
@@ -73,24 +73,24 @@ recorded-is true b xs cs h = absurd (let z : Foreign ≡ Recorded cs = h in cc)
 recorded-is false true xs cs h = absurd (let z : BadTarget ≡ Recorded cs = h in cc)
 recorded-is false false xs cs h = let z : Recorded xs ≡ Recorded cs = h in cc
 
--- an element with the name is taken
+-- an element that is renamed is taken
 pub named-next :
-    (old : List ℕ) (e : Element) (before after : Editing) (x : SyntaxElement) (left rest : List SyntaxElement) (all : List Change) → left ≡ x ∷ rest → is_named old x ≡ true
-    → replacing before (element_of x) (e ∷ []) ≡ Recorded after.changes → changes_after old e before.changes left ≡ all → changes_after old e after.changes rest ≡ all
-named-next old e before after x left rest all is named put h =
+    (by : Naming) (e : Element) (before after : Editing) (x : SyntaxElement) (left rest : List SyntaxElement) (all : List Change) → left ≡ x ∷ rest → takes by x ≡ true
+    → replacing before (element_of x) (e ∷ []) ≡ Recorded after.changes → changes_after by e before.changes left ≡ all → changes_after by e after.changes rest ≡ all
+named-next by e before after x left rest all is named put h =
     let w = (element_of x).place.up in
-    ap (λ (cs : List Change). changes_after old e cs rest) (sym (recorded-is (not (is_target before.top (element_of x))) (is_root w && not (is_one_node (e ∷ []))) (with_single before.changes w (e ∷ [])) after.changes put))
-    ∙ sym (ap (λ (b : Bool). changes_after old e (if b then with_single before.changes w (e ∷ []) else before.changes) rest) named)
-    ∙ sym (ap (λ (xs : List SyntaxElement). changes_after old e before.changes xs) is)
+    ap (λ (cs : List Change). changes_after by e cs rest) (sym (recorded-is (not (is_target before.top (element_of x))) (is_root w && not (is_one_node (e ∷ []))) (with_single before.changes w (e ∷ [])) after.changes put))
+    ∙ sym (ap (λ (b : Bool). changes_after by e (if b then with_single before.changes w (e ∷ []) else before.changes) rest) named)
+    ∙ sym (ap (λ (xs : List SyntaxElement). changes_after by e before.changes xs) is)
     ∙ h
 
 -- another one is passed
 pub other-next :
-    (old : List ℕ) (e : Element) (cs : List Change) (x : SyntaxElement) (left rest : List SyntaxElement) (all : List Change) → left ≡ x ∷ rest → is_named old x ≡ false
-    → changes_after old e cs left ≡ all → changes_after old e cs rest ≡ all
-other-next old e cs x left rest all is other h =
-    sym (ap (λ (b : Bool). changes_after old e (if b then with_single cs (element_of x).place.up (e ∷ []) else cs) rest) other)
-    ∙ sym (ap (λ (xs : List SyntaxElement). changes_after old e cs xs) is)
+    (by : Naming) (e : Element) (cs : List Change) (x : SyntaxElement) (left rest : List SyntaxElement) (all : List Change) → left ≡ x ∷ rest → takes by x ≡ false
+    → changes_after by e cs left ≡ all → changes_after by e cs rest ≡ all
+other-next by e cs x left rest all is other h =
+    sym (ap (λ (b : Bool). changes_after by e (if b then with_single cs (element_of x).place.up (e ∷ []) else cs) rest) other)
+    ∙ sym (ap (λ (xs : List SyntaxElement). changes_after by e cs xs) is)
     ∙ h
 
 -- ---- all are different
@@ -153,18 +153,18 @@ once (v ∷ ws) w h =
     by_test true y p more = h
     by_test false y p more = or-false (has_way (with_way ws w) v) (has_twice (with_way ws w)) (lacks ws w v p (flipped w v ∙ y)) more
 
-once-each : (old : List ℕ) (ws : List Way) (xs : List SyntaxElement) → has_twice ws ≡ false → has_twice (ways_after old ws xs) ≡ false
-once-each old ws [] h = h
-once-each old ws (x ∷ xs) h = once-each old (if is_named old x then with_way ws (element_of x).place.up else ws) xs (by_test (is_named old x))
+once-each : (by : Naming) (ws : List Way) (xs : List SyntaxElement) → has_twice ws ≡ false → has_twice (ways_after by ws xs) ≡ false
+once-each by ws [] h = h
+once-each by ws (x ∷ xs) h = once-each by (if takes by x then with_way ws (element_of x).place.up else ws) xs (by_test (takes by x))
   where
     by_test : (b : Bool) → has_twice (if b then with_way ws (element_of x).place.up else ws) ≡ false
     by_test true = once ws (element_of x).place.up h
     by_test false = h
 
-pub no-collision : (old : List ℕ) (e : Element) (xs : List SyntaxElement) → has_collision (map (change e) (ways_after old [] xs)) ≡ false
-no-collision old e xs = collides e (ways_after old [] xs) ∙ once-each old [] xs refl
+pub no-collision : (by : Naming) (e : Element) (xs : List SyntaxElement) → has_collision (map (change e) (ways_after by [] xs)) ≡ false
+no-collision by e xs = collides e (ways_after by [] xs) ∙ once-each by [] xs refl
 
--- ---- each named element has one
+-- ---- each renamed element has one
 
 has-own : (ws : List Way) (w : Way) → has_way (with_way ws w) w ≡ true
 has-own [] w = ap (λ (b : Bool). b || false) ((bytes_decides w w).1 refl)
@@ -182,67 +182,75 @@ has-more (v ∷ ws) w u h = by_test (same_way v w) (has-more ws w u)
     by_test true more = h
     by_test false more = or-more (same_way v u) (has_way ws u) (has_way (with_way ws w) u) more h
 
-grows : (old : List ℕ) (ws : List Way) (xs : List SyntaxElement) (u : Way) → has_way ws u ≡ true → has_way (ways_after old ws xs) u ≡ true
-grows old ws [] u h = h
-grows old ws (x ∷ xs) u h = grows old (if is_named old x then with_way ws (element_of x).place.up else ws) xs u (by_test (is_named old x))
+grows : (by : Naming) (ws : List Way) (xs : List SyntaxElement) (u : Way) → has_way ws u ≡ true → has_way (ways_after by ws xs) u ≡ true
+grows by ws [] u h = h
+grows by ws (x ∷ xs) u h = grows by (if takes by x then with_way ws (element_of x).place.up else ws) xs u (by_test (takes by x))
   where
     by_test : (b : Bool) → has_way (if b then with_way ws (element_of x).place.up else ws) u ≡ true
     by_test true = has-more ws (element_of x).place.up u h
     by_test false = h
 
-abbrev pub Covered : List ℕ → List Way → List SyntaxElement → Type 0
-Covered old ws [] = Unit {0}
-Covered old ws (x ∷ xs) = (is_named old x ≡ true → has_way ws (element_of x).place.up ≡ true) × Covered old ws xs
+abbrev pub Covered : Naming → List Way → List SyntaxElement → Type 0
+Covered by ws [] = Unit {0}
+Covered by ws (x ∷ xs) = (takes by x ≡ true → has_way ws (element_of x).place.up ≡ true) × Covered by ws xs
 
-pub covered : (old : List ℕ) (ws : List Way) (xs : List SyntaxElement) → Covered old (ways_after old ws xs) xs
-covered old ws [] = tt
-covered old ws (x ∷ xs) =
+pub covered : (by : Naming) (ws : List Way) (xs : List SyntaxElement) → Covered by (ways_after by ws xs) xs
+covered by ws [] = tt
+covered by ws (x ∷ xs) =
     let w = (element_of x).place.up in (
-      λ y. grows old (if is_named old x then with_way ws w else ws) xs w
+      λ y. grows by (if takes by x then with_way ws w else ws) xs w
           (subst (λ (b : Bool). has_way (if b then with_way ws w else ws) w ≡ true) (sym y) (has-own ws w)),
-      covered old (if is_named old x then with_way ws w else ws) xs,
+      covered by (if takes by x then with_way ws w else ws) xs,
     )
 
--- ---- each is at an identifier with the name
+-- ---- each is at a token that is renamed
 
-abbrev pub AreNamed : List ℕ → Tree → List Way → Type 0
-AreNamed old t [] = Unit {0}
-AreNamed old t (w ∷ ws) = (term_by t w ≡ Some (terms.Token (identifier old))) × AreNamed old t ws
+abbrev pub at : Tree → Way → Place
+at t w = record { root = t; up = w }
 
-pub named-with : (old : List ℕ) (t : Tree) (ws : List Way) (w : Way) → AreNamed old t ws → term_by t w ≡ Some (terms.Token (identifier old)) → AreNamed old t (with_way ws w)
-named-with old t [] w a h = (h, tt)
-named-with old t (v ∷ ws) w a h = by_test (same_way v w) (named-with old t ws w a.1 h)
+-- The leaf at an up-path is renamed.
+pub record IsNamed (by : Naming) (t : Tree) (w : Way) : Type 0 where
+  pub is : term_by t w ≡ Some (terms.Token (named_leaf by))
+  pub taken : is_left by (kinds_before (at t w)) ≡ false
+
+abbrev pub AreNamed : Naming → Tree → List Way → Type 0
+AreNamed by t [] = Unit {0}
+AreNamed by t (w ∷ ws) = IsNamed by t w × AreNamed by t ws
+
+pub named-with : (by : Naming) (t : Tree) (ws : List Way) (w : Way) → AreNamed by t ws → IsNamed by t w → AreNamed by t (with_way ws w)
+named-with by t [] w a h = (h, tt)
+named-with by t (v ∷ ws) w a h = by_test (same_way v w) (named-with by t ws w a.1 h)
   where
-    by_test : (b : Bool) → AreNamed old t (with_way ws w) → AreNamed old t (if b then v ∷ ws else v ∷ with_way ws w)
+    by_test : (b : Bool) → AreNamed by t (with_way ws w) → AreNamed by t (if b then v ∷ ws else v ∷ with_way ws w)
     by_test true more = a
     by_test false more = (a.0, more)
 
-pub named-at : (old : List ℕ) (t : Tree) (ws : List Way) (u : Way) → AreNamed old t ws → has_way ws u ≡ true → term_by t u ≡ Some (terms.Token (identifier old))
-named-at old t [] u a h = absurd (false≢true h)
-named-at old t (v ∷ ws) u a h = by_test (same_way v u) refl (named-at old t ws u a.1) h
+pub named-at : (by : Naming) (t : Tree) (ws : List Way) (u : Way) → AreNamed by t ws → has_way ws u ≡ true → IsNamed by t u
+named-at by t [] u a h = absurd (false≢true h)
+named-at by t (v ∷ ws) u a h = by_test (same_way v u) refl (named-at by t ws u a.1) h
   where
-    by_test : (b : Bool) → same_way v u ≡ b → (has_way ws u ≡ true → term_by t u ≡ Some (terms.Token (identifier old))) → (b || has_way ws u) ≡ true → term_by t u ≡ Some (terms.Token (identifier old))
-    by_test true y more z = subst (λ (w : Way). term_by t w ≡ Some (terms.Token (identifier old))) ((bytes_decides v u).0 y) a.0
+    by_test : (b : Bool) → same_way v u ≡ b → (has_way ws u ≡ true → IsNamed by t u) → (b || has_way ws u) ≡ true → IsNamed by t u
+    by_test true y more z = subst (λ (w : Way). IsNamed by t w) ((bytes_decides v u).0 y) a.0
     by_test false y more z = more z
 
 -- ---- as changes of leaves
 
-abbrev pub leaf_change : List ℕ → Leaf → Element → Way → LeafChange
-leaf_change old new e w = record { up = w; old = identifier old; element = e; new = new; single = true }
+abbrev pub leaf_change : Naming → Leaf → Element → Way → LeafChange
+leaf_change by new e w = record { up = w; old = named_leaf by; element = e; new = new; single = true }
 
-pub changes-of : (old : List ℕ) (new : Leaf) (e : Element) (ws : List Way) → map change_of (map (leaf_change old new e) ws) ≡ map (change e) ws
-changes-of old new e [] = refl
-changes-of old new e (w ∷ ws) = ap (λ (cs : List Change). change e w ∷ cs) (changes-of old new e ws)
+pub changes-of : (by : Naming) (new : Leaf) (e : Element) (ws : List Way) → map change_of (map (leaf_change by new e) ws) ≡ map (change e) ws
+changes-of by new e [] = refl
+changes-of by new e (w ∷ ws) = ap (λ (cs : List Change). change e w ∷ cs) (changes-of by new e ws)
 
-pub all-replace : (old : List ℕ) (new : Leaf) (e : Element) (t : Tree) (ws : List Way) → AreNamed old t ws → term_of e ≡ Some (terms.Token new) → AreLeafChanges t (map (leaf_change old new e) ws)
-all-replace old new e t [] a h = tt
-all-replace old new e t (w ∷ ws) a h = (record { is_old = a.0; is_new = h }, all-replace old new e t ws a.1 h)
+pub all-replace : (by : Naming) (new : Leaf) (e : Element) (t : Tree) (ws : List Way) → AreNamed by t ws → term_of e ≡ Some (terms.Token new) → AreLeafChanges t (map (leaf_change by new e) ws)
+all-replace by new e t [] a h = tt
+all-replace by new e t (w ∷ ws) a h = (record { is_old = a.0.is; is_new = h }, all-replace by new e t ws a.1 h)
 
-pub leaf-after : (old : List ℕ) (new : Leaf) (e : Element) (ws : List Way) (u : Way) (l : Leaf) → leaf_after (map replacement_of (map (leaf_change old new e) ws)) u l ≡ (if has_way ws u then new else l)
-leaf-after old new e [] u l = refl
-leaf-after old new e (v ∷ ws) u l = by_test (same_way v u) (leaf-after old new e ws u l)
+pub leaf-after : (by : Naming) (new : Leaf) (e : Element) (ws : List Way) (u : Way) (l : Leaf) → leaf_after (map replacement_of (map (leaf_change by new e) ws)) u l ≡ (if has_way ws u then new else l)
+leaf-after by new e [] u l = refl
+leaf-after by new e (v ∷ ws) u l = by_test (same_way v u) (leaf-after by new e ws u l)
   where
-    by_test : (b : Bool) → leaf_after (map replacement_of (map (leaf_change old new e) ws)) u l ≡ (if has_way ws u then new else l)
-        → (if b then new else leaf_after (map replacement_of (map (leaf_change old new e) ws)) u l) ≡ (if b || has_way ws u then new else l)
+    by_test : (b : Bool) → leaf_after (map replacement_of (map (leaf_change by new e) ws)) u l ≡ (if has_way ws u then new else l)
+        → (if b then new else leaf_after (map replacement_of (map (leaf_change by new e) ws)) u l) ≡ (if b || has_way ws u then new else l)
     by_test true more = refl
     by_test false more = more

@@ -6,3 +6,5 @@ pub mod SingleNames
 pub mod PlainRenames
 pub mod Verdicts
 pub mod Undone
+pub mod EachToken
+pub mod Siblings

@@ -1,14 +1,18 @@
 -- A renaming of plain names is a plain renaming, and its token is made and recorded.
-use Rattle.std.proofs.Common.{◌≡◌, ℕ, ◌+◌, ◌≤◌, List, [], ◌∷◌, map, length, chars, Bool, true, false, nat_lt, Option, Some, None, is_none, Result, Ok, Err, IsErrAnd, IfErr, refl, ap, sym, ◌∙◌, subst}
+use Rattle.std.proofs.Common.{◌≡◌, ℕ, ◌+◌, ◌≤◌, List, [], ◌∷◌, ◌++◌, map, length, chars, Bool, true, false, ◌&&◌, nat_eq, nat_lt, inl, inr, if◌then◌else◌, Option, Some, None, is_none, Result, Ok, Err, IsErrAnd, IfErr, refl, ap, sym, ◌∙◌, subst}
 use Rattle.std.specs.Str.{IsUtf8}
 use Rattle.std.proofs.Math.Utf8.{encodes}
-use Rattle.std.proofs.lemmas.Bool.{and_parts, eqb-true, ltb-true}
-use Rattle.std.proofs.lemmas.Str.{encodes-chars, scalars-chars}
-use Rattle.rustc_lexer.specs.Characters.{is_ident}
+use Rattle.std.proofs.lemmas.Bool.{and_parts, cases_Bool, eqb-true, false≢true, ltb-true}
+use Rattle.std.specs.List.{list_all}
+use Rattle.std.proofs.lemmas.Str.{chars-append, chars-encodes, encodes-chars, scalars-chars}
+use Rattle.rustc_lexer.specs.Characters.{is_id_continue, is_ident}
+use Rattle.plain_names.proofs.Names.{start-tick}
+use Rattle.rowan_green.specs.Forest.{Tree}
+use Rattle.rowan_green.specs.Leaf.{Leaf}
 use Rattle.rustc_lexer.specs.Rows.{row, first_fit}
 use Rattle.rowan_green.specs.declared.utility_types.NodeOrToken.TheVariants as terms
 use Rattle.rowan.specs.Place.{term_by}
-use Rattle.parser_input.specs.Kinds.{IDENT}
+use Rattle.parser_input.specs.Kinds.{IDENT, LIFETIME_IDENT}
 use Rattle.parser_input.specs.Lexed.{quiet}
 use Rattle.parser_input.specs.declared.edition.Edition.{Edition}
 use Rattle.plain_names.specs.Forests.{leaf_of}
@@ -26,8 +30,10 @@ use Rattle.rust_document.specs.Step.{State, MAX_TEXT, present, root_element}
 use Rattle.rust_document.specs.declared.error.PayloadError.{PayloadError}
 use Rattle.rust_document.specs.declared.error.PayloadError.TheVariants as payloads
 use Rattle.renamer.specs.Plain.{IsPlain, LacksRoom}
-use Rattle.renamer.specs.Renamed.{identifier, renamed_text}
-use Rattle.renamer.specs.Verdict.{RefusesRename}
+use Rattle.renamer.specs.Renamed.{identifier}
+use Rattle.renamer.specs.Taken.{Naming, named_kind, named_leaf, taken_text}
+use Rattle.renamer.specs.Verdict.{RefusesTree}
+use Rattle.token_names.specs.Names.{is_lifetime}
 use Rattle.rust_document.specs.Commit.{RefusesCommit}
 use Rattle.rust_document.specs.Step as step
 use Rattle.rust_document.specs.declared.error.CommitError.{CommitError}
@@ -57,6 +63,36 @@ name-parts edition name h =
     let both = and_parts (is_ident name) _ h in
     let word = and_parts _ _ both.1 in
     record { ident = both.0; plain = record { word = eqb-true _ _ word.0; contextual = none-is _ word.1 } }
+
+-- ---- the leaf of a plain name
+
+quote-text : IsUtf8 (39 ∷ [])
+unfolding lib.Utf8.encode
+quote-text = (39 ∷ [], (refl, refl))
+
+no-quote : (bs : List ℕ) → is_ident (chars (39 ∷ bs)) ≡ false
+unfolding is_ident lib.Utf8.encode
+no-quote bs =
+    ap is_ident (chars-append (39 ∷ []) bs quote-text ∙ ap (λ (cs : List ℕ). cs ++ chars bs) (chars-encodes (39 ∷ []) refl))
+    ∙ ap (λ (x : Bool). x && list_all is_id_continue (chars bs)) start-tick
+
+no-lifetime : (name : List ℕ) → is_ident (chars name) ≡ true → is_lifetime name ≡ false
+no-lifetime [] h = refl
+no-lifetime (b ∷ bs) h = elim (cases_Bool (nat_eq 39 b)) [
+  | inl y ↦ absurd (false≢true (sym (no-quote bs) ∙ ap (λ (c : ℕ). is_ident (chars (c ∷ bs))) (eqb-true 39 b y) ∙ h))
+  | inr n ↦ ap (λ (x : Bool). x && true) n
+]
+
+pub plain-leaf : (edition : Edition) (by : Naming) → is_plain_name edition (chars by.old) ≡ true → named_leaf by ≡ identifier by.old
+plain-leaf edition by h =
+    let parts = name-parts edition (chars by.old) h in
+    let kind : named_kind by ≡ IDENT =
+    ap (λ (b : Bool). if by.leaves_macro_names then (if b then LIFETIME_IDENT else IDENT) else IDENT) (no-lifetime by.old parts.ident) ∙ either by.leaves_macro_names in
+    ap (λ (k : ℕ). let l : Leaf = record { kind = k; text = by.old } in l) kind
+  where
+    either : (b : Bool) → (if b then IDENT else IDENT) ≡ IDENT
+    either true = refl
+    either false = refl
 
 abbrev name_payload : List ℕ → Payload
 name_payload text = first_fit (row (nat_lt MAX_TEXT (length text)) TooLong ∷ row false Message ∷ []) (One (in_bytes (quiet IDENT (chars text)).leaf))
@@ -102,9 +138,12 @@ token-refused edition text number e h is =
 
 -- ---- the changes
 
-rename-at : (d : State) (old new : List ℕ) (e : Element) (w : Way) → IsUtf8 old → IsUtf8 new → IsPlain d old new
-    → term_of e ≡ Some (terms.Token (leaf_of IDENT (encodes (chars new)))) → term_by (present d) w ≡ Some (terms.Token (identifier old)) → IsRename d (change e w)
-rename-at d old new e w u v plain is here =
+rename-at : (d : State) (by : Naming) (e : Element) (w : Way) → IsUtf8 by.old → IsUtf8 by.new → IsPlain d by.old by.new
+    → term_of e ≡ Some (terms.Token (leaf_of IDENT (encodes (chars by.new)))) → term_by (present d) w ≡ Some (terms.Token (named_leaf by)) → IsRename d (change e w)
+rename-at d by e w u v plain is named =
+    let old = by.old in
+    let new = by.new in
+    let here = named ∙ ap (λ (l : Leaf). Some (terms.Token l)) (plain-leaf d.edition by plain.old_plain) in
     let token = plain.tokens w here in
     let o = name-parts d.edition (chars old) plain.old_plain in
     let n = name-parts d.edition (chars new) plain.new_plain in
@@ -123,23 +162,23 @@ rename-at d old new e w u v plain is here =
       is_text = scalars-chars new v;
     }
 
-all-renames : (d : State) (old new : List ℕ) (e : Element) (ws : List Way) → IsUtf8 old → IsUtf8 new → IsPlain d old new
-    → term_of e ≡ Some (terms.Token (leaf_of IDENT (encodes (chars new)))) → AreNamed old (present d) ws → AreRenames d (map (change e) ws)
-all-renames d old new e [] u v plain is a = tt
-all-renames d old new e (w ∷ ws) u v plain is a = (rename-at d old new e w u v plain is a.0, all-renames d old new e ws u v plain is a.1)
+all-renames : (d : State) (by : Naming) (e : Element) (ws : List Way) → IsUtf8 by.old → IsUtf8 by.new → IsPlain d by.old by.new
+    → term_of e ≡ Some (terms.Token (leaf_of IDENT (encodes (chars by.new)))) → AreNamed by (present d) ws → AreRenames d (map (change e) ws)
+all-renames d by e [] u v plain is a = tt
+all-renames d by e (w ∷ ws) u v plain is a = (rename-at d by e w u v plain is a.0.is, all-renames d by e ws u v plain is a.1)
 
 -- all elements of the tree were taken in turn
 pub plain-renaming :
-    (d : State) (old new : List ℕ) (e : Element) (editor : Editing) (xs left : List SyntaxElement) → IsUtf8 old → IsUtf8 new → IsPlain d old new
-    → term_of e ≡ Some (terms.Token (leaf_of IDENT (encodes (chars new)))) → AreNamed old (present d) (ways_after old [] xs) → left ≡ []
-    → editor ≡ with_changes (untouched (root_element d)) editor.changes → changes_after old e editor.changes left ≡ changes_after old e [] xs → IsPlainRenaming d editor
-plain-renaming d old new e editor xs left u v plain is named none own rest =
-    let ws = ways_after old [] xs in
-    let cs : editor.changes ≡ map (change e) ws = sym (ap (λ (ls : List SyntaxElement). changes_after old e editor.changes ls) none) ∙ rest ∙ changes-are old e [] xs in
+    (d : State) (by : Naming) (e : Element) (editor : Editing) (xs left : List SyntaxElement) → IsUtf8 by.old → IsUtf8 by.new → IsPlain d by.old by.new
+    → term_of e ≡ Some (terms.Token (leaf_of IDENT (encodes (chars by.new)))) → AreNamed by (present d) (ways_after by [] xs) → left ≡ []
+    → editor ≡ with_changes (untouched (root_element d)) editor.changes → changes_after by e editor.changes left ≡ changes_after by e [] xs → IsPlainRenaming d editor
+plain-renaming d by e editor xs left u v plain is named none own rest =
+    let ws = ways_after by [] xs in
+    let cs : editor.changes ≡ map (change e) ws = sym (ap (λ (ls : List SyntaxElement). changes_after by e editor.changes ls) none) ∙ rest ∙ changes-are by e [] xs in
     record {
       own = ap (λ (x : Editing). x.top) own;
-      each = subst (λ (c : List Change). AreRenames d c) (sym cs) (all-renames d old new e ws u v plain is named);
-      apart = ap has_collision cs ∙ no-collision old e xs;
+      each = subst (λ (c : List Change). AreRenames d c) (sym cs) (all-renames d by e ws u v plain is named);
+      apart = ap has_collision cs ∙ no-collision by e xs;
     }
 
 -- ---- what may refuse it
@@ -150,8 +189,8 @@ err-by (Ok a) Q why is q = absurd is
 err-by (Err e) Q why is q = subst Q (sym is) q
 
 -- a plain renaming within the limit lacks room
-abbrev pub IfPlain : State → (old new : List ℕ) → ℕ → RenameError → Type 0
-IfPlain d old new number e = IsPlain d old new → length (renamed_text old new (present d)) ≤ MAX_TEXT → LacksRoom number new e
+abbrev pub IfPlain : State → Naming → ℕ → RenameError → Type 0
+IfPlain d by number e = IsPlain d by.old by.new → length (taken_text by (present d)) ≤ MAX_TEXT → LacksRoom number by.new e
 
 -- a change that can be recorded is refused only if out of memory
 pub record-refused : (r : Recording) (cs : List Change) (number : ℕ) (new : List ℕ) (e : RecordError) → r ≡ Recorded cs → RefusesRecord r e → LacksRoom number new (NotRecorded e)
@@ -160,11 +199,11 @@ record-refused r cs number new records.BadRange is h = absurd (let z : Recorded 
 record-refused r cs number new records.BadTarget is h = absurd (let z : Recorded cs ≡ recording.BadTarget = sym is ∙ h in cc)
 record-refused r cs number new records.NoMemory is h = tt
 
-pub record-memory : (d : State) (old new : List ℕ) (r : Recording) (cs : List Change) (number : ℕ) (e : RecordError) → r ≡ Recorded cs → RefusesRecord r e → RefusesRename d old new number (NotRecorded e)
-record-memory d old new r cs number records.Foreign is h = absurd (let z : Recorded cs ≡ recording.Foreign = sym is ∙ h in cc)
-record-memory d old new r cs number records.BadRange is h = absurd (let z : Recorded cs ≡ recording.BadRange = sym is ∙ h in cc)
-record-memory d old new r cs number records.BadTarget is h = absurd (let z : Recorded cs ≡ recording.BadTarget = sym is ∙ h in cc)
-record-memory d old new r cs number records.NoMemory is h = tt
+pub record-memory : (d : State) (new : List ℕ) (with : Leaf → Tree) (r : Recording) (cs : List Change) (number : ℕ) (e : RecordError) → r ≡ Recorded cs → RefusesRecord r e → RefusesTree d new with number (NotRecorded e)
+record-memory d new with r cs number records.Foreign is h = absurd (let z : Recorded cs ≡ recording.Foreign = sym is ∙ h in cc)
+record-memory d new with r cs number records.BadRange is h = absurd (let z : Recorded cs ≡ recording.BadRange = sym is ∙ h in cc)
+record-memory d new with r cs number records.BadTarget is h = absurd (let z : Recorded cs ≡ recording.BadTarget = sym is ∙ h in cc)
+record-memory d new with r cs number records.NoMemory is h = tt
 
 -- an accepted commit is refused only if out of memory, or if no number is left after the new name's
 pub commit-refused : (number next : ℕ) (new : List ℕ) (e : CommitError) → next ≡ number + 1 → RefusesCommit step.Accepted next e → LacksRoom number new (Refused e)

@@ -1,4 +1,4 @@
--- The verdict on an editor in which all identifiers of a name were replaced.
+-- The verdict on an editor in which all tokens that are renamed were replaced.
 use Rattle.std.proofs.Common.{◌≡◌, ◌≤◌, ◌<◌, ◌+◌, ◌*◌, ◌^◌, ℕ, Bool, true, false, not, ◌||◌, nat_lt, List, [], ◌∷◌, length, chars, refl, ap, sym, ◌∙◌, subst, append-nil, arith, Some, inl, inr}
 use Rattle.std.specs.Prelude.{encode_utf8}
 use Rattle.std.specs.Str.{IsUtf8}
@@ -36,8 +36,8 @@ use Rattle.rust_document.proofs.PlainRenamings.{own-tree}
 use Rattle.rust_document.proofs.RenamedReadings.{old_forest, present-one}
 use Rattle.rust_document.proofs.Sizes.{count-all}
 use Rattle.rust_document.proofs.Verdicts.{misses, placed, verdict-is}
-use Rattle.renamer.specs.Renamed.{renamed_tree}
-use Rattle.renamer.specs.Verdict.{rename_verdict}
+use Rattle.renamer.specs.Taken.{Naming, taken_tree}
+use Rattle.renamer.specs.Verdict.{tree_verdict}
 use Rattle.renamer.proofs.Changes.{changes_after}
 use Rattle.renamer.proofs.Walked.{Rewritten, changes-all, changes-apart, editor-is, rewritten-tree}
 
@@ -55,44 +55,44 @@ present-few d u o =
     omega (arith, own, steps, short, leaves, few, o)
 
 -- the editor whose changes are those of all elements
-abbrev all_taken : State → List ℕ → Element → Editing
-all_taken d old e = with_changes (untouched (root_element d)) (changes_after old e [] (elements (root_element d)))
+abbrev all_taken : State → Naming → Element → Editing
+all_taken d by e = with_changes (untouched (root_element d)) (changes_after by e [] (elements (root_element d)))
 
-module _ (d : State) (old : List ℕ) (new : Leaf) (e : Element) (u : IsUtf8 d.text) (o : IsOpened d.text) (is : term_of e ≡ Some (Token new)) where
+module _ (d : State) (by : Naming) (new : Leaf) (e : Element) (u : IsUtf8 d.text) (o : IsOpened d.text) (is : term_of e ≡ Some (Token new)) where
   abbrev tree_after : Tree
-  tree_after = renamed_tree old new (present d)
+  tree_after = taken_tree by new (present d)
 
-  made : Rewritten old new (changes_after old e [] (elements (root_element d))) (root_element d) []
-  made = rewritten-tree old d.number (present d) new e [] is
+  made : Rewritten by new (changes_after by e [] (elements (root_element d))) (root_element d) []
+  made = rewritten-tree by d.number (present d) new e [] is
 
-  tree-is : rewritten (all_taken d old e) ≡ tree_after
+  tree-is : rewritten (all_taken d by e) ≡ tree_after
   tree-is = ap root_of made.is
 
-  fits : length (tree_text tree_after) ≤ MAX_TEXT → new_fits (rewriting (all_taken d old e)) ≡ true
+  fits : length (tree_text tree_after) ≤ MAX_TEXT → new_fits (rewriting (all_taken d by e)) ≡ true
   fits short =
       let few = present-few d u o in
       let count = ap forest_count made.is in
-      let text : length (forest_text (forest_in (rewriting (all_taken d old e)))) ≡ length (tree_text tree_after) =
+      let text : length (forest_text (forest_in (rewriting (all_taken d by e)))) ≡ length (tree_text tree_after) =
       ap (λ (f : Forest). length (forest_text f)) made.is ∙ ap (λ (bs : List ℕ). length bs) (append-nil (forest_text tree_after.forest)) in
-      small-fit (rewriting (all_taken d old e)) (omega (arith, few, count, made.count)) (omega (arith, text, short))
+      small-fit (rewriting (all_taken d by e)) (omega (arith, few, count, made.count)) (omega (arith, text, short))
 
-  long-is : is_too_long (all_taken d old e) ≡ nat_lt MAX_TEXT (length (tree_text tree_after))
+  long-is : is_too_long (all_taken d by e) ≡ nat_lt MAX_TEXT (length (tree_text tree_after))
   long-is =
-      ap (λ (t : Tree). nat_lt MAX_TEXT (length (tree_text t)) || not (new_fits (rewriting (all_taken d old e)))) tree-is
+      ap (λ (t : Tree). nat_lt MAX_TEXT (length (tree_text t)) || not (new_fits (rewriting (all_taken d by e)))) tree-is
       ∙ elim (cases_Bool (nat_lt MAX_TEXT (length (tree_text tree_after)))) [
-        | inl y ↦ ap (λ (b : Bool). b || not (new_fits (rewriting (all_taken d old e)))) y ∙ sym y
+        | inl y ↦ ap (λ (b : Bool). b || not (new_fits (rewriting (all_taken d by e)))) y ∙ sym y
         | inr n ↦ ap (λ (b : Bool). nat_lt MAX_TEXT (length (tree_text tree_after)) || not b) (fits (ltb-false MAX_TEXT (length (tree_text tree_after)) n)) ∙ ap (λ (b : Bool). b || false) n ∙ sym n
       ]
 
-  pub verdict-all : verdict d (all_taken d old e) ≡ rename_verdict d old new
+  pub verdict-all : verdict d (all_taken d by e) ≡ tree_verdict d (taken_tree by new (present d))
   unfolding first_fit
   verdict-all =
-      let apart : has_collision (changes_after old e [] (elements (root_element d))) ≡ false = ap has_collision (changes-all old new e (root_element d)) ∙ changes-apart old new e (root_element d) in
-      verdict-is d (all_taken d old e) false false false (nat_lt MAX_TEXT (length (tree_text tree_after))) (not (is_faithful d.grammar d.edition tree_after)) (own-tree d (all_taken d old e) refl) apart
-      (placed false (jobs (root_element d) (changes_after old e [] (elements (root_element d))) []) made.placed).1 long-is
+      let apart : has_collision (changes_after by e [] (elements (root_element d))) ≡ false = ap has_collision (changes-all by new e (root_element d)) ∙ changes-apart by new e (root_element d) in
+      verdict-is d (all_taken d by e) false false false (nat_lt MAX_TEXT (length (tree_text tree_after))) (not (is_faithful d.grammar d.edition tree_after)) (own-tree d (all_taken d by e) refl) apart
+      (placed false (jobs (root_element d) (changes_after by e [] (elements (root_element d))) []) made.placed).1 long-is
       (ap (λ (t : Tree). not (is_faithful d.grammar d.edition t)) tree-is)
 
   -- an editor that took all elements
   pub verdict-renamed : (editor : Editing) (left : List SyntaxElement) → left ≡ [] → editor ≡ with_changes (untouched (root_element d)) editor.changes
-      → changes_after old e editor.changes left ≡ changes_after old e [] (elements (root_element d)) → verdict d editor ≡ rename_verdict d old new
-  verdict-renamed editor left none own rest = ap (verdict d) (editor-is old d.number (present d) new e editor left is none own rest) ∙ verdict-all
+      → changes_after by e editor.changes left ≡ changes_after by e [] (elements (root_element d)) → verdict d editor ≡ tree_verdict d (taken_tree by new (present d))
+  verdict-renamed editor left none own rest = ap (verdict d) (editor-is by d.number (present d) new e editor left is none own rest) ∙ verdict-all

@@ -1,4 +1,5 @@
 pub mod Renamed
+pub mod Taken
 pub mod Plain
 pub mod Verdict
 pub mod Undone

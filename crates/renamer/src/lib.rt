@@ -1,20 +1,22 @@
-//! Renames the identifiers of a document. The contract rests on the document's.
+//! Renames the identifiers, lifetimes and labels of a document. The contract rests on the document's.
 #![tactic(auto)]
 
 ghost use Rattle.std.specs.Prelude.{◌≡◌, ◌≤◌, ◌+◌, length, IfErr, OnOk};
 ghost use Rattle.rust_document.specs.Step.{MAX_TEXT, present};
 ghost use Rattle.renamer.specs.Plain.{IsPlain, LacksRoom};
-ghost use Rattle.renamer.specs.Renamed.{is_named, renamed_text};
-ghost use Rattle.renamer.specs.Verdict.{IsRenamed, RefusesRename, number_after};
+ghost use Rattle.renamer.specs.Renamed.{renamed_text};
+ghost use Rattle.renamer.specs.Taken.{but_macro_names, naming, taken_text, taken_tree};
+ghost use Rattle.renamer.specs.Verdict.{IsAccepted, IsRenamed, IsRenamedBut, RefusesRename, RefusesRenameBut, RefusesTree, number_after};
 
+mod element;
 pub mod laws;
 
-use parser_input::syntax_kind::SyntaxKind;
+use crate::element::{Names, takes};
 use rust_document::{CommitError, Document, PayloadEntry, PayloadError, RecordError, payload};
 use std::alloc::{AllocError, Global};
 use std::error::Error;
 use std::fmt;
-use syntax_tree::{SyntaxElement, TreeIds};
+use syntax_tree::TreeIds;
 
 /// The error of a renaming.
 #[derive(Clone, Copy, Debug, PartialEq, Eq)]
@@ -91,14 +93,50 @@ impl From<CommitError> for RenameError {
     }
 }
 
-/// Returns `true` if `element` is the identifier `name`.
-fn is_named(element: &SyntaxElement, name: &str) -> bool
-    ensures { result ≡ is_named name.now element.now }
+/// Renames `old` to `new`, all at once: identifiers, or what [`Names`] says where macro names are left.
+fn rename_by(
+    alloc: Global,
+    document: &mut Document,
+    old: &str,
+    new: &str,
+    leaves_macro_names: bool,
+    ids: &mut TreeIds,
+) -> Result<(), RenameError>
+    ensures text { OnOk result (document.new.text
+        ≡ taken_text (naming old.now new.now leaves_macro_names) (present document.old)) }
+    ensures renamed { OnOk result (IsAccepted document.old new.now
+        (λ token. taken_tree (naming old.now new.now leaves_macro_names) token
+        (present document.old))) }
+    ensures edition { OnOk result (document.new.edition ≡ document.old.edition) }
+    ensures grammar { OnOk result (document.new.grammar ≡ document.old.grammar) }
+    ensures tree { OnOk result (document.new.number ≡ ids.old + 1) }
+    ensures number { OnOk result (ids.new ≡ ids.old + 2) }
+    ensures refused { IfErr result (RefusesTree document.old new.now
+        (λ token. taken_tree (naming old.now new.now leaves_macro_names) token
+        (present document.old)) ids.old) }
+    ensures numbers { IfErr result (λ _. (ids.old ≤ ids.new) × (ids.new ≤ ids.old + 1)) }
+    ensures spent { IfErr result (λ error. ids.new ≡ number_after error ids.old) }
+    ensures plain { IfErr result (λ error. IsPlain document.old old.now new.now
+        → length (taken_text (naming old.now new.now leaves_macro_names) (present document.old))
+        ≤ MAX_TEXT → LacksRoom ids.old new.now error) }
+    ensures kept { IfErr result (λ _. document.new ≡ document.old) }
 {
-    match element {
-        SyntaxElement::Token(token) => token.kind() == SyntaxKind::IDENT && token.text() == name,
-        SyntaxElement::Node(_) => false,
+    let _ = document.text();
+    let token = payload(alloc, PayloadEntry::Token, document.edition(), new, ids)?;
+    let names = Names {
+        old,
+        new,
+        leaves_macro_names,
+    };
+    let mut editor = document.editor(alloc)?;
+    for element in document.root().descendants_with_tokens(alloc)? {
+        let element = element?;
+        if takes(alloc, &element, &names)? {
+            editor.replace(alloc, &element, &token)?;
+        }
     }
+    document.commit(alloc, editor, ids)?;
+    Ok(())
 }
 
 /// Renames the identifiers `old` to `new`, all at once, in macro calls too. Nothing else in the text
@@ -137,15 +175,37 @@ pub fn rename(
         → LacksRoom ids.old new.now error) }
     ensures kept { IfErr result (λ _. document.new ≡ document.old) }
 {
-    let _ = document.text();
-    let token = payload(alloc, PayloadEntry::Token, document.edition(), new, ids)?;
-    let mut editor = document.editor(alloc)?;
-    for element in document.root().descendants_with_tokens(alloc)? {
-        let element = element?;
-        if is_named(&element, old) {
-            editor.replace(alloc, &element, &token)?;
-        }
-    }
-    document.commit(alloc, editor, ids)?;
-    Ok(())
+    rename_by(alloc, document, old, new, false, ids)
+}
+
+/// Renames as [`rename`] does, but lifetimes and labels if `old` begins with a quote, and no macro
+/// names: metavariables, as `x` in `$x`, and what is a fragment specifier, as `expr` in `$x:expr`, or
+/// would become one.
+///
+/// # Errors
+///
+/// As of [`rename`].
+pub fn rename_but_macro_names(
+    alloc: Global,
+    document: &mut Document,
+    old: &str,
+    new: &str,
+    ids: &mut TreeIds,
+) -> Result<(), RenameError>
+    ensures text { OnOk result (document.new.text
+        ≡ taken_text (but_macro_names old.now new.now) (present document.old)) }
+    ensures renamed { OnOk result (IsRenamedBut document.old old.now new.now) }
+    ensures edition { OnOk result (document.new.edition ≡ document.old.edition) }
+    ensures grammar { OnOk result (document.new.grammar ≡ document.old.grammar) }
+    ensures tree { OnOk result (document.new.number ≡ ids.old + 1) }
+    ensures number { OnOk result (ids.new ≡ ids.old + 2) }
+    ensures refused { IfErr result (RefusesRenameBut document.old old.now new.now ids.old) }
+    ensures numbers { IfErr result (λ _. (ids.old ≤ ids.new) × (ids.new ≤ ids.old + 1)) }
+    ensures spent { IfErr result (λ error. ids.new ≡ number_after error ids.old) }
+    ensures plain { IfErr result (λ error. IsPlain document.old old.now new.now
+        → length (taken_text (but_macro_names old.now new.now) (present document.old)) ≤ MAX_TEXT
+        → LacksRoom ids.old new.now error) }
+    ensures kept { IfErr result (λ _. document.new ≡ document.old) }
+{
+    rename_by(alloc, document, old, new, true, ids)
 }

@@ -1,21 +1,20 @@
--- Files in which identifiers are renamed.
+-- Files in which identifiers or lifetimes are renamed.
 use Rattle.std.specs.Prelude.{◌≡◌, ◌⊎◌, ◌≤◌, ◌<◌, ◌==◌, ◌&&◌, ◌||◌, ℕ, Bool, true, false, not, List, [], ◌∷◌, All, IfSome, map, take, chars, length, slice_range, slice_index_or, Option, Some, None, option_map, Result, Ok, Err, MatchResult, Vec, string_bytes, if◌then◌else◌}
 use Rattle.std.specs.List.{flat_map, list_any}
 use Rattle.std.specs.Global.{Global}
 use Rattle.std.specs.Str.{bytes_eq}
-use Rattle.parser_input.specs.Kinds.{IDENT}
 use Rattle.file_target.specs.Files.{Files, read_of}
 use Rattle.file_target.specs.declared.error.TargetError.{TargetError}
 use Rattle.file_target.specs.declared.error.TargetError.TheVariants as targets
 use Rattle.file_target.specs.declared.version.Version.{Version}
 use Rattle.renamer.specs.Plain.{IsPlain, LacksRoom}
-use Rattle.renamer.specs.Verdict as renamer
-use Rattle.renamer.specs.Verdict.{IsRenamed}
+use Rattle.renamer.specs.Verdict.{IsRenamedBut, RefusesRenameBut}
 use Rattle.renamer.specs.declared.RenameError.{RenameError}
-use Rattle.renamer.specs.Renamed.{renamed_text}
+use Rattle.renamer.specs.Taken.{but_macro_names, taken_text}
 use Rattle.rust_document.specs.Reading.{tree_in}
 use Rattle.rust_document.specs.Step.{MAX_TEXT, State}
 use Rattle.rust_document.specs.Tokens.{Span, tokens_of}
+use Rattle.token_names.specs.Names.{kind_of_name}
 use Rattle.source_tools.specs.Decoded.{decoded, encoded}
 use Rattle.source_tools.specs.FileErrors.{file_error_of}
 use Rattle.source_tools.specs.Writes.{Change, HasChanges, IsUnwritten, change_in}
@@ -30,21 +29,21 @@ use Rattle.source_tools.specs.declared.rename.RenameStop.{RenameStop}
 use Rattle.source_tools.specs.declared.rename.RenameStop.TheVariants.{RefusedFile, Unwritten}
 use Rattle.source_tools.specs.declared.writes.FileChange.{FileChange}
 
--- a token that is the identifier `name`
-abbrev pub is_identifier : List ℕ → List ℕ → Span → Bool
-is_identifier name text t = (t.kind == IDENT) && bytes_eq (slice_range text t.start t.end) name
+-- a token that is the lifetime `name` if that begins with a quote, else the identifier `name`
+abbrev pub is_token : List ℕ → List ℕ → Span → Bool
+is_token name text t = (t.kind == kind_of_name name) && bytes_eq (slice_range text t.start t.end) name
 
--- whether a text has the identifier `name`
-abbrev pub has_identifier : List ℕ → Dialect → List ℕ → Bool
-has_identifier name dialect text = list_any (is_identifier name text) (tokens_of dialect.edition (chars text))
+-- whether a text has such a token
+abbrev pub has_token : List ℕ → Dialect → List ℕ → Bool
+has_token name dialect text = list_any (is_token name text) (tokens_of dialect.edition (chars text))
 
--- The new name may be taken, or is no identifier of the text.
+-- The new name may be taken, or is no token of the text.
 abbrev pub is_free : Renaming → Dialect → List ℕ → Bool
-is_free n dialect text = n.merge || not (has_identifier n.new.now dialect text)
+is_free n dialect text = n.merge || not (has_token n.new.now dialect text)
 
--- the text in which the identifiers are renamed
+-- the text in which the identifiers or lifetimes are renamed, and macro names stay
 abbrev pub renamed : Renaming → Dialect → List ℕ → List ℕ
-renamed n dialect text = renamed_text n.old.now n.new.now (tree_in dialect.grammar dialect.edition (chars text))
+renamed n dialect text = taken_text (but_macro_names n.old.now n.new.now) (tree_in dialect.grammar dialect.edition (chars text))
 
 -- what the bytes of a file become by one renaming, if they are text
 abbrev pub renamed_once : Renaming → Dialect → List ℕ → Option (List ℕ)
@@ -60,11 +59,11 @@ pub record IsRenamableOnce (n : Renaming) (dialect : Dialect) (bytes : List ℕ)
   pub text : List ℕ
   pub decodes : decoded bytes ≡ Some text
   pub free : is_free n dialect text ≡ true
-  pub is_renamed : IsRenamed (opened dialect text) n.old.now n.new.now
+  pub is_renamed : IsRenamedBut (opened dialect text) n.old.now n.new.now
 
 -- The renamer's error tells which case fits. Where both names are plain and the new text is not too long, it is one of `LacksRoom`.
 pub record RefusesRenamed (n : Renaming) (dialect : Dialect) (text : List ℕ) (e : RenameError) : Type 0 where
-  pub exact : renamer.RefusesRename (opened dialect text) n.old.now n.new.now 2 e
+  pub exact : RefusesRenameBut (opened dialect text) n.old.now n.new.now 2 e
   pub plain : IsPlain (opened dialect text) n.old.now n.new.now → length (renamed n dialect text) ≤ MAX_TEXT → LacksRoom 2 n.new.now e
 
 -- Why a text is not renamed in: it is too long, the name is taken, or the renamer's error.

@@ -1,5 +1,5 @@
 -- Which tokens have a name. Texts are lists of bytes.
-use Rattle.std.specs.Prelude.{ℕ, ◌==◌, ◌&&◌, Bool, List, chars, codes, drop, length, encode_utf8_all, if◌then◌else◌}
+use Rattle.std.specs.Prelude.{ℕ, ◌==◌, ◌&&◌, ◌||◌, not, Bool, List, chars, codes, drop, length, encode_utf8_all, if◌then◌else◌}
 use Rattle.std.specs.List.{starts_with}
 use Rattle.std.specs.Str.{bytes_eq}
 use Rattle.unicode_normalization.specs.Forms.{nfc}
@@ -32,3 +32,15 @@ is_same_word a b = bytes_eq (composed (word_of a)) (composed (word_of b))
 -- A token with this kind and text has the name.
 abbrev pub has_name : (name : List ℕ) (kind : ℕ) (text : List ℕ) → Bool
 has_name name kind text = (kind == kind_of_name name) && is_same_word name text
+
+-- the words that no raw identifier and no raw lifetime has
+abbrev pub is_never_raw : List ℕ → Bool
+is_never_raw word =
+    bytes_eq word (codes "_") || (bytes_eq word (codes "crate") || (bytes_eq word (codes "self") || (bytes_eq word (codes "super") || bytes_eq word (codes "Self"))))
+
+-- Whether a program may give the name, as far as its own words tell. The language has `_`, `'_` and `'static`.
+abbrev pub is_given : List ℕ → Bool
+is_given name =
+    let text = without (codes "'") name in
+    if starts_with (λ a b. a == b) text (codes "r#") then not (is_never_raw (drop (length (codes "r#")) text))
+    else (not (bytes_eq text (codes "_")) && not (bytes_eq name (codes "'static")))

@@ -5,4 +5,4 @@ mod macro_names;
 mod names;
 
 pub use macro_names::is_macro_name;
-pub use names::{has_name, is_lifetime, word_of};
+pub use names::{has_name, is_given, is_lifetime, is_of_kind, word_of};

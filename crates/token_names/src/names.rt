@@ -2,7 +2,7 @@
 
 ghost use Rattle.std.specs.Prelude.{◌≡◌, ◌==◌, IfOk, codes};
 ghost use Rattle.parser_input.specs.Kind.{raw_of};
-ghost use Rattle.token_names.specs.Names.{has_name, is_lifetime, is_same_word, kind_of_name, without, word_of};
+ghost use Rattle.token_names.specs.Names.{has_name, is_given, is_lifetime, is_never_raw, is_same_word, kind_of_name, without, word_of};
 
 use parser_input::SyntaxKind;
 use std::alloc::{AllocError, Global};
@@ -43,14 +43,34 @@ pub fn is_lifetime(name: &str) -> bool
     name.starts_with("'")
 }
 
-/// Returns `true` if tokens of this kind may have the name.
-fn is_of_kind(name: &str, kind: SyntaxKind) -> bool
+/// Returns `true` if tokens of this kind may have the name: lifetimes if it begins with a quote, else
+/// identifiers.
+pub fn is_of_kind(name: &str, kind: SyntaxKind) -> bool
     ensures { result ≡ (raw_of kind == kind_of_name name.now) }
 {
     if is_lifetime(name) {
         matches!(kind, SyntaxKind::LIFETIME_IDENT)
     } else {
         matches!(kind, SyntaxKind::IDENT)
+    }
+}
+
+/// Returns `true` if no raw identifier and no raw lifetime has the word.
+fn is_never_raw(word: &str) -> bool
+    ensures { result ≡ is_never_raw word.now }
+{
+    matches!(word, "_" | "crate" | "self" | "super" | "Self")
+}
+
+/// Returns `true` if `name` may be the name that a program gives, as far as its own words tell: `_`,
+/// `'_`, `'static` and raw forms of `_`, `crate`, `self`, `super` and `Self` are none.
+pub fn is_given(name: &str) -> bool
+    ensures { result ≡ is_given name.now }
+{
+    let text = without_quote(name);
+    match text.strip_prefix("r#") {
+        Some(word) => !is_never_raw(word),
+        None => text != "_" && name != "'static",
     }
 }
 

@@ -12,13 +12,14 @@ use Rattle.rust_document.specs.Step.{present, root_element}
 use Rattle.renamer.proofs.Changes.{changes_after}
 use Rattle.renamer.proofs.NewLeaves.{HasText}
 use Rattle.renamer.proofs.Walked.{AreOfTree}
-use Rattle.renamer.proofs.rename.Given as goal
+use Rattle.renamer.specs.Taken.{naming}
+use Rattle.renamer.proofs.rename_by.Given as goal
 
 abbrev pub invariant-loop-element : goal.invariant-loop-element
 invariant-loop-element l = record {
   own : l.editor ≡ with_changes (untouched (root_element l.document)) l.editor.changes;
-  rest : changes_after l.old (element_of l.token) l.editor.changes (elements_left l.element-iterator)
-      ≡ changes_after l.old (element_of l.token) [] (elements (root_element l.document));
+  rest : changes_after (naming l.old l.new l.leaves_macro_names) (element_of l.token) l.editor.changes (elements_left l.element-iterator)
+      ≡ changes_after (naming l.old l.new l.leaves_macro_names) (element_of l.token) [] (elements (root_element l.document));
   text : HasText l.document.edition l.new (element_of l.token);
   leaf : is_plain_name l.document.edition (chars l.new) ≡ true → term_of (element_of l.token) ≡ Some (Token (leaf_of IDENT (encodes (chars l.new))));
   leaves : AreOfTree l.document.number (present l.document) (elements_left l.element-iterator);
