@@ -396,7 +396,7 @@ pub fn replace(source: &mut Source, rule: &Rule, options: Options) -> Result<Rep
         return Err(ReplaceError::Matches(skipped));
     }
     let count = count_replaced(candidates.as_slice());
-    if count != 0 {
+    if count == 0 {
         return Ok(Replaced { count, skipped });
     }
     let mut editor = source.editor()?;
