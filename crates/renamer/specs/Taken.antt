@@ -42,7 +42,7 @@ named_kind by = if by.leaves_macro_names then kind_of_name by.old else IDENT
 abbrev pub named_leaf : Naming → Leaf
 named_leaf by = record { kind = named_kind by; text = by.old }
 
--- kinds, the nearest first, with that of the next sibling: trivia is passed over
+-- kinds, the nearest first, with that of the next sibling, unless it is trivia
 abbrev pub behind : (kind : ℕ) (before : List ℕ) → List ℕ
 behind kind before = if is_trivia kind then before else kind ∷ before
 

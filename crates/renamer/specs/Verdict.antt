@@ -33,7 +33,7 @@ pub record IsAccepted (d : State) (new : List ℕ) (tree_with : Leaf → Tree) :
 abbrev pub IsRenamed : State → (old new : List ℕ) → Type 0
 IsRenamed d old new = IsAccepted d new (λ token. renamed_tree old token (present d))
 
--- The same of a renaming that leaves macro names.
+-- The new name is one token, and the text with it for each token `old` but macro names is short enough and reads as that tree.
 abbrev pub IsRenamedBut : State → (old new : List ℕ) → Type 0
 IsRenamedBut d old new = IsAccepted d new (λ token. taken_tree (but_macro_names old new) token (present d))
 
@@ -46,10 +46,11 @@ RefusesTree d new tree_with number (Refused e) =
     (token : Leaf) × (token_payload d.edition new ≡ One token) × RefusesCommit (tree_verdict d (tree_with token)) (number + 1) e
 RefusesTree d new tree_with number NoMemory = Unit {0}
 
+-- The case of each error of a renaming of each token.
 abbrev pub RefusesRename : State → (old new : List ℕ) → ℕ → RenameError → Type 0
 RefusesRename d old new number e = RefusesTree d new (λ token. renamed_tree old token (present d)) number e
 
--- The same of a renaming that leaves macro names.
+-- The case of each error of a renaming that leaves macro names.
 abbrev pub RefusesRenameBut : State → (old new : List ℕ) → ℕ → RenameError → Type 0
 RefusesRenameBut d old new number e = RefusesTree d new (λ token. taken_tree (but_macro_names old new) token (present d)) number e
 

@@ -267,7 +267,7 @@ fn planned<'a>(
     Ok(candidates)
 }
 
-/// Returns the element that a text is, of which so many bytes are comments before it.
+/// Returns the element that a text is behind comments, whose length in bytes is `comments`.
 fn payload(
     source: &mut Source,
     fragment: Fragment,
