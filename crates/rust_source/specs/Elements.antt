@@ -2,13 +2,21 @@
 use Rattle.std.specs.Prelude.{ℕ, List, [], ◌∷◌, Option, None, Some, if◌then◌else◌}
 use Rattle.rowan_green.specs.Forest.{Tree}
 use Rattle.rowan_green.specs.declared.utility_types.NodeOrToken.TheVariants.{Node}
-pub use Rattle.parser_input.specs.Kinds.{ARG_LIST, BIN_EXPR, PATH_EXPR, STMT_LIST}
+pub use Rattle.parser_input.specs.Kinds.{ARG_LIST, ATTR, BIN_EXPR, FN, PATH, PATH_EXPR, RET_TYPE, STMT_LIST, VISIBILITY}
 pub use Rattle.rowan.specs.Place.{index_of, text_at}
+use Rattle.rowan.specs.Place.{kind_at}
 use Rattle.rowan.specs.Walk.{walk}
+use Rattle.parser_input.specs.Kind.{raw_of}
+use Rattle.syntax_tree.specs.Language.{kind_of_raw}
 pub use Rattle.syntax_tree.specs.Element.{Element, Way, element_at}
 pub use Rattle.syntax_tree.specs.Handle.{element_of, parent_of}
-pub use Rattle.syntax_tree.specs.Nodes.{is_of_kind, nodes_left}
+pub use Rattle.syntax_tree.specs.Nodes.{child_nodes, is_of_kind, nodes_left, wanted_nodes}
+pub use Rattle.typed_nodes.specs.Parts.{first_child_of}
 pub use Rattle.rust_document.specs.Step.{State, root_element}
+
+-- the number of an element's kind; that of `ERROR` if the raw number is not that of a kind
+abbrev pub kind_of : Element → ℕ
+kind_of e = raw_of (kind_of_raw (kind_at e.place))
 
 -- a node and all nodes below it, in preorder
 abbrev pub nodes_at : Element → List Element

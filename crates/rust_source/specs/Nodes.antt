@@ -59,6 +59,10 @@ expression_payload grammar edition text = payload_in (Top entries.Expr) grammar 
 abbrev pub attribute_text : List ℕ → List ℕ
 attribute_text text = text ++ codes " struct S;"
 
+-- what a text is as the attribute of an item
+abbrev pub attribute_payload : Grammar → Edition → List ℕ → Payload
+attribute_payload grammar edition text = payload_in (Top entries.SourceFile) grammar edition (attribute_text text)
+
 -- ---- which text has the node
 
 -- the tree of a payload has the node
