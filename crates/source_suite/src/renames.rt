@@ -1,7 +1,7 @@
 //! A text is opened, and identifiers or lifetimes are renamed in it.
 use parser_input::edition::Edition;
 use renamer::{RenameError, rename, rename_but_macro_names};
-use rust_document::{CommitError, Document};
+use rust_document::{CommitError, Document, Grammar};
 use std::alloc::Global;
 use std::test::Fail;
 use syntax_tree::TreeIds;
@@ -39,10 +39,11 @@ fn a_macro_call_and_a_comment(rt: HostRuntime) -> Result<(), Fail> {
     Ok(())
 }
 
-/// Returns a text of the edition 2021 after a renaming that leaves macro names.
+/// Returns a text of the edition 2021, read by the whole language, after a renaming that leaves macro names.
 fn without_macro_names(alloc: Global, text: &str, old: &str, new: &str) -> Result<String, Fail> {
     let mut ids = TreeIds::new();
-    let mut document = Document::open(alloc, Edition::Edition2021, text, &mut ids)?;
+    let edition = Edition::Edition2021;
+    let mut document = Document::open_by(alloc, edition, Grammar::Whole, text, &mut ids)?;
     rename_but_macro_names(alloc, &mut document, old, new, &mut ids)?;
     Ok(String::from_str(alloc, document.text())?)
 }
