@@ -9,7 +9,7 @@ mod file_ids;
 mod inputs;
 mod output;
 mod report;
-mod source_list;
+mod sources;
 
 pub use dialects::Dialects;
 pub use diffs::{print_diffs, print_paths, print_ranges};
@@ -18,4 +18,4 @@ pub use file_ids::file_id;
 pub use inputs::{Inputs, STANDARD_INPUT};
 pub use output::{is_closed, unless_closed};
 pub use report::{report_unwritten, report_written, usage_error};
-pub use source_list::{SourceList, files_of, path_of, source_list};
+pub use sources::{SourceList, files_of, path_of, source_list};

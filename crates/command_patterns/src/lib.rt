@@ -1,8 +1,8 @@
 //! The commands that search files for a pattern, and replace its matches.
 #![tactic(auto)]
 
-mod replace;
-mod search;
+mod replacing;
+mod searching;
 
-pub use replace::replace_files;
-pub use search::search;
+pub use replacing::replace_files;
+pub use searching::search;

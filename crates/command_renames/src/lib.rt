@@ -4,7 +4,7 @@
 mod advice;
 mod left_names;
 mod names;
-mod rename;
+mod renaming;
 mod survey;
 
-pub use rename::rename;
+pub use renaming::rename;
